@@ -1,0 +1,1 @@
+// The parity automaton built from the forest.

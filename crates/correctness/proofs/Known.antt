@@ -1,0 +1,16 @@
+-- The eleven known entries hold, by computation. Assumes nothing.
+use mathlib.Core.Path.{_≡_, refl}
+use mathlib.Core.List.{List, [], _∷_, map}
+use Rattle.recurrence.specs.Recurs.{iter, rounds}
+use Rattle.recurrence.specs.Runs.{after, met, window}
+use Rattle.masks.specs.Masks.{has, insert, inside, properly, members, submasks}
+use Rattle.policy.specs.Policies.{edges, edgeOf, source, targetOf, colourOf, coloursBelow, coloursOf, inFamily, accepting}
+use Rattle.graph.specs.Cycles.{spread, closure, reach, isCycle, contains}
+use Rattle.decomposition.specs.Forest.{before, place, inOrder, largest, full, cyclesIn, roots, opposed, children, trees, tree, forest, priority, transientPriority, node, upFrom, chain, childOf, inRoot}
+use Rattle.builder.specs.Automaton.{next, holds, kids, isLeaf, leaves, firstLeaf, statesOver, builtStates, deepest, lead, entered, firstLeafBelow, leafAfter, priorityAfter, built, stateAt, number, start, rowTarget, rowPriority, rowTargets, rowPriorities}
+use Rattle.running.specs.Running.{rowStates, shaped, readingOf, rowStep, rowMeets}
+use Rattle.correctness.specs.Known.{Entry, table, answer}
+
+pub known : map (λ (e : Entry). answer (e .policy) (e .question)) table ≡ map (λ (e : Entry). e .answered) table
+unfolding iter rounds after met window has insert inside properly members submasks edges edgeOf source targetOf colourOf coloursBelow coloursOf inFamily accepting spread closure reach isCycle contains before place inOrder largest full cyclesIn roots opposed children trees tree forest priority transientPriority next node upFrom chain childOf inRoot holds kids isLeaf leaves firstLeaf statesOver builtStates deepest lead entered firstLeafBelow leafAfter priorityAfter built stateAt number start rowTarget rowPriority rowTargets rowPriorities rowStates shaped readingOf rowStep rowMeets
+known = refl

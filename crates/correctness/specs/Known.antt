@@ -1,0 +1,81 @@
+-- The known policies of document 01, and the eleven entries of one table about them.
+use Prim.Native.Nat.{ℕ, suc, _+_, _*_}
+use mathlib.Core.Bool.{Bool, true, false, cond}
+use mathlib.Core.List.{List, [], _∷_, _++_, map}
+use lib.Dec.{ltb}
+use lib.ListN.{length, getD, replicate}
+use Rattle.lists.specs.Lists.{flat, below}
+use Rattle.recurrence.specs.Runs.{window}
+use Rattle.policy.specs.declared.Policy.{Policy}
+use Rattle.decomposition.specs.Forest.{Node, forest, priority}
+use Rattle.builder.specs.Automaton.{Built, built, stateAt, start, rowTarget, rowPriority, rowTargets, rowPriorities}
+use Rattle.running.specs.declared.Run.{Run}
+use Rattle.running.specs.Running.{rowStep, rowMeets}
+
+-- ---- the policies
+abbrev pub padded : ℕ → List ℕ → List ℕ
+padded n l = l ++ replicate n 0
+
+abbrev pub A : Policy
+A = record { states = 1; letters = 3; colours = 3; initial = 0; target = padded 61 (0 ∷ 0 ∷ 0 ∷ []); colour = padded 61 (0 ∷ 1 ∷ 2 ∷ []); family = (false ∷ false ∷ true ∷ true ∷ false ∷ true ∷ []) ++ replicate 250 false }
+
+abbrev pub B : Policy
+B = record { states = 2; letters = 2; colours = 2; initial = 0; target = padded 60 (0 ∷ 1 ∷ 0 ∷ 1 ∷ []); colour = padded 60 (0 ∷ 1 ∷ 0 ∷ 1 ∷ []); family = (false ∷ true ∷ true ∷ []) ++ replicate 253 false }
+
+abbrev pub C : Policy
+C = record { states = 2; letters = 1; colours = 1; initial = 0; target = padded 62 (1 ∷ 1 ∷ []); colour = padded 62 (0 ∷ 0 ∷ []); family = (false ∷ true ∷ []) ++ replicate 254 false }
+
+-- ---- what can be asked of a policy
+pub data Question : Type 0 where
+  nodes : Question
+  state : ℕ → Question
+  loop : List ℕ → Question
+  listing : Question
+
+-- the least of some priorities; 255 of none
+abbrev pub leastOf : List ℕ → ℕ
+leastOf [] = 255
+leastOf (x ∷ xs) = let r = leastOf xs in cond (ltb x r) x r
+
+module _ (p : Policy) where
+  -- mask, parent, priority of each node
+  abbrev pub nodeLines : List (List ℕ)
+  nodeLines = map (λ x. x .mask ∷ x .parent ∷ priority p x ∷ []) (forest p)
+
+  -- policy state and leaf; the targets by letter; the priorities by letter
+  abbrev pub stateLines : ℕ → List (List ℕ)
+  stateLines s = (stateAt p s .state ∷ stateAt p s .leaf ∷ []) ∷ map (rowTarget p s) (below (p .letters)) ∷ map (rowPriority p s) (below (p .letters)) ∷ []
+
+  -- the least priority that recurs on a loop from the start, over the rows
+  abbrev pub leastRecurring : List ℕ → ℕ
+  leastRecurring w = leastOf (window (rowStep (p .letters) (rowTargets p) (rowPriorities p)) (rowMeets (p .letters) (rowTargets p) (rowPriorities p)) (length (built p)) [] w (record { state = start p }))
+
+  abbrev pub answer : Question → List (List ℕ)
+  answer nodes = nodeLines
+  answer (state s) = stateLines s
+  answer (loop w) = (leastRecurring w ∷ []) ∷ []
+  answer listing = nodeLines ++ flat (map stateLines (below (length (built p)))) ++ ((start p ∷ []) ∷ [])
+
+pub record Entry : Type 0 where
+  pub policy : Policy
+  pub question : Question
+  pub answered : List (List ℕ)
+
+abbrev pub entry : Policy → Question → List (List ℕ) → Entry
+entry p q a = record { policy = p; question = q; answered = a }
+
+-- ---- the table
+abbrev pub table : List Entry
+table =
+    entry A nodes ((7 ∷ 65535 ∷ 1 ∷ []) ∷ (3 ∷ 0 ∷ 2 ∷ []) ∷ (1 ∷ 1 ∷ 3 ∷ []) ∷ (5 ∷ 0 ∷ 2 ∷ []) ∷ (1 ∷ 3 ∷ 3 ∷ []) ∷ (4 ∷ 3 ∷ 3 ∷ []) ∷ [])
+    ∷ entry A (state 0) ((0 ∷ 2 ∷ []) ∷ (0 ∷ 0 ∷ 1 ∷ []) ∷ (3 ∷ 2 ∷ 1 ∷ []) ∷ [])
+    ∷ entry A (state 1) ((0 ∷ 4 ∷ []) ∷ (1 ∷ 0 ∷ 2 ∷ []) ∷ (3 ∷ 1 ∷ 2 ∷ []) ∷ [])
+    ∷ entry A (state 2) ((0 ∷ 5 ∷ []) ∷ (1 ∷ 0 ∷ 2 ∷ []) ∷ (2 ∷ 1 ∷ 3 ∷ []) ∷ [])
+    ∷ entry A (loop (0 ∷ 1 ∷ [])) ((2 ∷ []) ∷ [])
+    ∷ entry A (loop (1 ∷ 2 ∷ [])) ((1 ∷ []) ∷ [])
+    ∷ entry A (loop (1 ∷ [])) ((2 ∷ []) ∷ [])
+    ∷ entry A (loop (2 ∷ [])) ((3 ∷ []) ∷ [])
+    ∷ entry A (loop (0 ∷ 2 ∷ [])) ((2 ∷ []) ∷ [])
+    ∷ entry B listing ((15 ∷ 65535 ∷ 1 ∷ []) ∷ (1 ∷ 0 ∷ 2 ∷ []) ∷ (8 ∷ 0 ∷ 2 ∷ []) ∷ (0 ∷ 1 ∷ []) ∷ (0 ∷ 1 ∷ []) ∷ (2 ∷ 1 ∷ []) ∷ (1 ∷ 2 ∷ []) ∷ (0 ∷ 1 ∷ []) ∷ (1 ∷ 2 ∷ []) ∷ (0 ∷ []) ∷ [])
+    ∷ entry C listing ((2 ∷ 65535 ∷ 0 ∷ []) ∷ (0 ∷ 65535 ∷ []) ∷ (1 ∷ []) ∷ (0 ∷ []) ∷ (1 ∷ 0 ∷ []) ∷ (1 ∷ []) ∷ (0 ∷ []) ∷ (0 ∷ []) ∷ [])
+    ∷ []

@@ -1,0 +1,1 @@
+// The alternating cycle decomposition of a policy.

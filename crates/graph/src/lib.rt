@@ -1,0 +1,1 @@
+// Paths and cycles of a policy's graph.

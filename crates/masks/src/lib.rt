@@ -1,0 +1,1 @@
+// Sets as bit masks.

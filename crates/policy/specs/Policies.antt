@@ -1,0 +1,67 @@
+-- A policy (document 01, "A policy"): its edges, the colours and the verdict of an edge set, and which records are legal.
+use Prim.Native.Nat.{ℕ, zero, suc, _+_, _*_, _/_, _^_}
+use mathlib.Core.Bool.{Bool, true, false, not, _&&_, _||_, cond}
+use mathlib.Core.List.{List, [], _∷_}
+use lib.Dec.{eqb, ltb, leb}
+use lib.ListN.{getD}
+use Rattle.lists.specs.Lists.{all, below}
+use Rattle.masks.specs.Masks.{has, insert}
+use Rattle.policy.specs.declared.Policy.{Policy}
+
+module _ (p : Policy) where
+  -- ---- edges
+  unfoldable pub edges : ℕ
+  edges = p .states * p .letters
+
+  -- the edge of a state and a letter
+  unfoldable pub edgeOf : ℕ → ℕ → ℕ
+  edgeOf v a = v * p .letters + a
+
+  unfoldable pub source : ℕ → ℕ
+  source e = e / p .letters
+
+  unfoldable pub targetOf : ℕ → ℕ
+  targetOf e = getD (p .target) e 0
+
+  unfoldable pub colourOf : ℕ → ℕ
+  colourOf e = getD (p .colour) e 0
+
+  -- the colours that reading an edge meets
+  unfoldable pub edgeColours : ℕ → List ℕ
+  edgeColours e = colourOf e ∷ []
+
+  -- ---- edge sets
+  -- the colours of the edges of m below n
+  unfoldable pub coloursBelow : ℕ → ℕ → ℕ
+  coloursBelow zero m = 0
+  coloursBelow (suc n) m = let r = coloursBelow n m in cond (has m n) (insert r (colourOf n)) r
+
+  -- the set of the colours of an edge set
+  unfoldable pub coloursOf : ℕ → ℕ
+  coloursOf m = coloursBelow edges m
+
+  -- a colour set is in the family
+  unfoldable pub inFamily : ℕ → Bool
+  inFamily s = getD (p .family) s false
+
+  -- the verdict of an edge set
+  unfoldable pub accepting : ℕ → Bool
+  accepting m = inFamily (coloursOf m)
+
+  -- ---- limits
+  -- states 1 to 16, letters 1 to 8, colours 1 to 8, states times letters at most 64, one initial state
+  unfoldable pub legalCounts : Bool
+  legalCounts =
+      leb 1 (p .states) && leb (p .states) 16 && leb 1 (p .letters) && leb (p .letters) 8 && leb 1 (p .colours) && leb (p .colours) 8
+      && leb (p .states * p .letters) 64 && ltb (p .initial) (p .states)
+
+  -- an edge leads to a state and has a colour; past the last edge both are 0
+  unfoldable pub legalEdge : ℕ → Bool
+  legalEdge e = cond (ltb e edges) (ltb (targetOf e) (p .states) && ltb (colourOf e) (p .colours)) (eqb (targetOf e) 0 && eqb (colourOf e) 0)
+
+  -- no member of the family is empty or outside the colours
+  unfoldable pub legalSet : ℕ → Bool
+  legalSet s = not (inFamily s) || (ltb 0 s && ltb s (2 ^ p .colours))
+
+  unfoldable pub legal : Bool
+  legal = legalCounts && all legalEdge (below 64) && all legalSet (below 256)

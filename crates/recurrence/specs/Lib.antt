@@ -1,0 +1,2 @@
+pub mod Recurs
+pub mod Runs

@@ -1,0 +1,28 @@
+-- A run over a list of letters, and over a stem and then rounds without end. `step s a` is the state after letter a, `meets s a` what reading a meets.
+use Prim.Native.Nat.{ℕ, zero, suc}
+use mathlib.Core.List.{List, [], _∷_, _++_}
+use Rattle.recurrence.specs.Recurs.{Recurs, rounds}
+
+-- n readings of the loop, one after the other
+unfoldable pub times : ℕ → List ℕ → List ℕ
+times zero loop = []
+times (suc n) loop = loop ++ times n loop
+
+module _ {S B : Type 0} (step : S → ℕ → S) (meets : S → ℕ → List B) where
+  -- the state after the letters
+  unfoldable pub after : List ℕ → S → S
+  after [] s = s
+  after (a ∷ w) s = after w (step s a)
+
+  -- all that reading the letters meets
+  unfoldable pub met : List ℕ → S → List B
+  met [] s = []
+  met (a ∷ w) s = meets s a ++ met w (step s a)
+
+  -- y recurs in the run from s over the stem and then the loop without end; a round is one reading of the loop
+  abbrev pub Recurring : List ℕ → List ℕ → S → B → Type 0
+  Recurring stem loop s y = Recurs (after loop) (met loop) (after stem s) y
+
+  -- what the rounds n to 2 n - 1 meet. Among n states, this is what recurs
+  unfoldable pub window : ℕ → List ℕ → List ℕ → S → List B
+  window n stem loop s = rounds (after loop) (met loop) (after stem s) n n

@@ -1,0 +1,66 @@
+-- The two runs (document 01, "The two runs"): the policy's, and the run over the rows of the built automaton with running's questions.
+use Prim.Native.Nat.{ℕ, _+_, _*_, _/_, _%_}
+use mathlib.Core.Bool.{Bool, true, false, _&&_, cond}
+use mathlib.Core.List.{List, [], _∷_}
+use lib.Dec.{eqb, ltb, leb}
+use lib.ListN.{length, getD}
+use Rattle.policy.specs.declared.Policy.{Policy}
+use Rattle.policy.specs.Policies.{edgeOf, targetOf, edgeColours}
+use Rattle.running.specs.declared.Run.{Run}
+use Rattle.running.specs.declared.Reading.{Reading}
+use Rattle.running.specs.declared.Reading.the-variants.{Moved, Refused}
+
+-- ---- the policy's run
+module _ (p : Policy) where
+  -- a letter of the policy takes the edge to its target; any other letter is refused, and the state stays
+  unfoldable pub policyStep : ℕ → ℕ → ℕ
+  policyStep v a = cond (ltb a (p .letters)) (targetOf p (edgeOf p v a)) v
+
+  -- what reading a letter meets: the edge's colour; a refused letter meets nothing
+  unfoldable pub policyMeets : ℕ → ℕ → List ℕ
+  policyMeets v a = cond (ltb a (p .letters)) (edgeColours p (edgeOf p v a)) []
+
+-- ---- the run over rows
+-- the row of a state and a letter
+abbrev pub rowOf : ℕ → ℕ → ℕ → ℕ
+rowOf letters s a = s * letters + a
+
+-- the run after a letter
+abbrev pub runAfter : Reading → Run
+runAfter (Moved r k) = r
+runAfter (Refused n r) = r
+
+-- the priority met; a refused letter meets none
+abbrev pub prioritiesOf : Reading → List ℕ
+prioritiesOf (Moved r k) = k ∷ []
+prioritiesOf (Refused n r) = []
+
+module _ (letters : ℕ) (targets priorities : List ℕ) where
+  -- how many states the rows have
+  unfoldable pub rowStates : ℕ
+  rowStates = length targets / letters
+
+  -- question 8: letters 1 to 8, row tables of one length, that a multiple of letters, at most 65,535 states
+  unfoldable pub shaped : Bool
+  shaped =
+      leb 1 letters && leb letters 8 && eqb (length targets) (length priorities) && eqb (length targets % letters) 0 && leb rowStates 65535
+
+  -- running's questions 8, 11, 12, 13 in order; then the move
+  unfoldable pub readingOf : Run → ℕ → Reading
+  readingOf r a =
+      let s = r .state in
+      let t = getD targets (rowOf letters s a) 0 in
+      let moved = Moved (record { state = t }) (getD priorities (rowOf letters s a) 0) in
+      cond shaped
+      (cond (ltb s rowStates)
+      (cond (ltb a letters)
+      (cond (ltb t rowStates) moved (Refused 13 r))
+      (Refused 12 r))
+      (Refused 11 r))
+      (Refused 8 r)
+
+  unfoldable pub rowStep : Run → ℕ → Run
+  rowStep r a = runAfter (readingOf r a)
+
+  unfoldable pub rowMeets : Run → ℕ → List ℕ
+  rowMeets r a = prioritiesOf (readingOf r a)
