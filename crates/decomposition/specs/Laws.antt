@@ -3,13 +3,18 @@ use Prim.Native.Nat.{ℕ, _+_, _≤_, _<_}
 use mathlib.Core.Path.{_≡_}
 use mathlib.Core.Logic.{_⊎_}
 use mathlib.Core.Bool.{Bool, true, false, not}
-use mathlib.Core.List.{List, List·Memᴰ}
+use mathlib.Core.List.{List, [], _∷_, List·Memᴰ}
 use lib.ListN.{length}
 use Rattle.masks.specs.Masks.{inside, properly}
 use Rattle.policy.specs.declared.Policy.{Policy}
 use Rattle.policy.specs.Policies.{accepting}
 use Rattle.graph.specs.Cycles.{isCycle, contains}
 use Rattle.decomposition.specs.Forest.{Node, isRoot, before, even, priority, node, chain, childOf, roots, children}
+
+-- each mask stands before those after it
+abbrev pub Ordered : List ℕ → Type 0
+Ordered [] = Unit {0}
+Ordered (x ∷ xs) = ((y : ℕ) → List·Memᴰ y xs → before x y ≡ true) × Ordered xs
 
 module _ (ns : List Node) where
   abbrev pub maskAt : ℕ → ℕ
