@@ -1,4 +1,4 @@
--- The built automaton (document 01, "The built automaton"; document 004, section 5.2), over the numbered nodes ns of the forest.
+-- The built automaton (document 01, "The built automaton"; document 004, Definition 5.12), over the numbered nodes ns of the forest.
 use Prim.Native.Nat.{ℕ, zero, suc, _+_, _*_}
 use mathlib.Core.Bool.{Bool, not, _&&_, cond}
 use mathlib.Core.List.{List, [], _∷_, map}
@@ -16,7 +16,7 @@ abbrev pub orElse : ℕ → List ℕ → List ℕ
 orElse d [] = d ∷ []
 orElse d (x ∷ xs) = x ∷ xs
 
--- the next of ks after c in cyclic order: the first above c, else the first. (ks ascends, and holds a member)
+-- the next of ks after c in cyclic order: the first above c, else the first (document 004, section 2.3, Next). ks ascends
 unfoldable pub next : ℕ → List ℕ → ℕ
 next c ks = firstOr (firstOr c ks) (filter (ltb c) ks)
 
@@ -30,7 +30,7 @@ isBuilt v l b = eqb (b .state) v && eqb (b .leaf) l
 
 -- ---- where an edge e meets the branch of a leaf l
 module _ (ns : List Node) where
-  -- the deepest node among l and its ancestors whose mask has e
+  -- the deepest node among l and its ancestors whose mask has e (Supp)
   unfoldable pub deepest : ℕ → ℕ → ℕ
   deepest e l = firstOr l (filter (λ n. has (node ns n .mask) e) (chain ns l))
 
@@ -76,6 +76,7 @@ module _ (ns : List Node) (p : Policy) where
   unfoldable pub firstLeafBelow : ℕ → ℕ → ℕ
   firstLeafBelow w n = firstOr n (filter (λ l. any (eqb n) (chain ns l)) (leaves w))
 
+  -- the leaf that e leads to (Jump): with no root that has e, the first leaf of e's target
   unfoldable pub leafAfter : ℕ → ℕ → ℕ
   leafAfter e l =
       let w = targetOf p e in
@@ -85,6 +86,7 @@ module _ (ns : List Node) (p : Policy) where
       let first = firstLeaf w in
       cond (inRoot ns e) within first
 
+  -- the priority that e meets
   unfoldable pub priorityAfter : ℕ → ℕ → ℕ
   priorityAfter e l = let within = priority p (node ns (deepest ns e l)) in cond (inRoot ns e) within (transientPriority p)
 

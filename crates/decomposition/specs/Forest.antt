@@ -1,4 +1,4 @@
--- The forest of a policy (document 01, "Cycles and the forest"; document 004, section 5.1: the alternating cycle decomposition).
+-- The forest of a policy (document 01, "Cycles and the forest"): the alternating cycle decomposition of document 004, Definitions 5.1 and 5.3.
 use Prim.Native.Nat.{ℕ, zero, suc, _+_, _-_, _%_, _^_}
 use mathlib.Core.Bool.{Bool, true, false, not, _&&_, cond}
 use mathlib.Core.List.{List, [], _∷_, _++_}
@@ -41,7 +41,7 @@ module _ (p : Policy) where
   unfoldable pub cyclesIn : ℕ → List ℕ
   cyclesIn m = filter (isCycle p) (submasks (edges p) m)
 
-  -- the roots: the largest cycles
+  -- the roots: the largest cycles (Definition 5.3)
   unfoldable pub roots : List ℕ
   roots = inOrder (largest (cyclesIn full))
 
@@ -49,7 +49,7 @@ module _ (p : Policy) where
   unfoldable pub opposed : ℕ → List ℕ
   opposed n = let a = accepting p n in filter (λ m. differs a (accepting p m)) (cyclesIn n)
 
-  -- the children of n: the largest of them
+  -- the children of n: the largest of them (Definition 5.1)
   unfoldable pub children : ℕ → List ℕ
   children n = inOrder (largest (opposed n))
 

@@ -1,4 +1,4 @@
--- Paths and cycles of a policy's graph (document 01, "Cycles and the forest"; document 004, section 2).
+-- Paths and cycles of a policy's graph (document 01, "Cycles and the forest").
 use Prim.Native.Nat.{ℕ, zero, suc, _^_}
 use mathlib.Core.Path.{_≡_}
 use mathlib.Core.Logic.{_↔_}
