@@ -39,7 +39,7 @@ module _ (ns : List Node) where
   lead n l = firstOr n (filter (childOf ns n) (chain ns l))
 
 module _ (ns : List Node) (p : Policy) where
-  -- node ns n contains state v
+  -- node n contains state v
   unfoldable pub holds : ℕ → ℕ → Bool
   holds v n = contains p v (node ns n .mask)
 
