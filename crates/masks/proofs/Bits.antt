@@ -1,6 +1,6 @@
 -- The laws of `has`: of and, or, difference, one bit, inclusion; two masks with the same bits are equal; counts. Assumes nothing.
 use Prim.Native.Nat.{ℕ, zero, suc, _+_, _*_, _-_, _/_, _%_, _^_, _≤_, _<_, min, max}
-use native.Mathlib.Nat.{pow-suc, mod-lt, div-add-mod', div-one, add-comm, lt-irrefl, not-suc-le-zero, zero-min, zero-max, le-of-eq}
+use native.Mathlib.Nat.{one-mul, pow-suc, mod-lt, div-add-mod', div-one, add-comm, lt-irrefl, not-suc-le-zero, zero-min, zero-max, le-of-eq}
 use native.Mathlib.Omega.{arith}
 use native.Mathlib.Decide.{decLt}
 use native.Mathlib.Numerals.{add-one}
@@ -8,10 +8,10 @@ use mathlib.Core.Path.{_≡_, refl, sym, ap, ap₂, _∙_, subst}
 use mathlib.Core.Logic.{_≢_, _↔_, _⊎_, inl, inr}
 use mathlib.Core.Bool.{Bool, true, false, not, _&&_, _||_, true≢false, false≢true}
 use lib.Dec.{T, eqb, eqb→eq, eqb-refl, lit<, lit≤}
-use lib.Arith.{bin-ind, digits-div, digits-mod}
-use lib.Pow.{shr-shr, pow-pos, field, mod-mod-pow}
-use lib.Bits.{bitAnd, bitOr, and-step, or-step, and-shr, or-shr}
-use lib.Count.{ones, ones-step}
+use lib.Arith.{bin-ind, digits-div, digits-mod, lt-one}
+use lib.Pow.{shr-shr, shl-exact, pow-pos, pow-lt, field, mod-mod-pow}
+use lib.Bits.{bitAnd, bitOr, bitXor, and-step, or-step, and-shr, or-shr, or-lt, or-zero-r, xor-shr, xor-mod}
+use lib.Count.{ones, onesIn, ones-step}
 use Rattle.lists.proofs.Bools.{test, eqb≡, ≡eqb, and-l, and-r, not-true, bool-ext}
 use Rattle.masks.specs.Masks.{has, insert, minus, inside, properly}
 
@@ -127,6 +127,41 @@ has-pow zero (suc e) = has-suc 1 e ∙ has-none e ∙ sym (lib.Dec.eqb·zero-suc
 has-pow (suc t) zero = has-zero (2 ^ suc t) ∙ rw (pow-suc 2 t, native.Mathlib.Nat.mul-mod-left (2 ^ t) 2) (sym (lib.Dec.eqb·suc-zero t))
 has-pow (suc t) (suc e) = has-suc (2 ^ suc t) e ∙ rw (pow-suc 2 t, native.Mathlib.Nat.mul-div-cancel (2 ^ t) {n = 2} (lit< tt)) (has-pow t e ∙ sym (lib.Dec.eqb·suc-suc t e))
 
+-- m with bit e
+pub has-insert : (m e k : ℕ) → has (insert m e) k ≡ has m k || eqb e k
+unfolding insert
+has-insert m e k = has-or k m (2 ^ e) ∙ ap (λ (b : Bool). has m k || b) (has-pow e k)
+
+pub insert-lt : (m e n : ℕ) → m < 2 ^ n → e < n → insert m e < 2 ^ n
+unfolding insert
+insert-lt m e n l h = or-lt n m (2 ^ e) l (pow-lt h)
+
+-- what a has and b lacks
+abbrev differ : Bool → Bool → Bool
+differ true b = not b
+differ false b = b
+
+digit-xor : (x y : ℕ) → x < 2 → y < 2 → eqb (bitXor x y) 1 ≡ differ (eqb x 1) (eqb y 1)
+digit-xor zero y p q = refl
+digit-xor (suc zero) zero p q = refl
+digit-xor (suc zero) (suc zero) p q = refl
+digit-xor (suc zero) (suc (suc y)) p q = absurd (omega arith)
+digit-xor (suc (suc x)) y p q = absurd (omega arith)
+
+has-xor : (a b k : ℕ) → has (bitXor a b) k ≡ differ (has a k) (has b k)
+unfolding has
+has-xor a b k =
+    ap (λ (x : ℕ). eqb (x % 2) 1) (xor-shr a b k) ∙ ap (λ (x : ℕ). eqb x 1) (xor-mod (a / 2 ^ k) (b / 2 ^ k) 1)
+    ∙ digit-xor (a / 2 ^ k % 2) (b / 2 ^ k % 2) (mod-lt (a / 2 ^ k) (lit< tt)) (mod-lt (b / 2 ^ k) (lit< tt))
+
+pub has-minus : (a b k : ℕ) → has (minus a b) k ≡ has a k && not (has b k)
+unfolding minus
+has-minus a b k = has-xor a (bitAnd a b) k ∙ ap (differ (has a k)) (has-and k a b) ∙ go (has a k) (has b k)
+  where
+    go : (x y : Bool) → differ x (x && y) ≡ x && not y
+    go true y = refl
+    go false y = refl
+
 digit-le : (x y : ℕ) → x < 2 → y < 2 → (eqb x 1 ≡ true → eqb y 1 ≡ true) → x ≤ y
 digit-le zero y p q h = omega arith
 digit-le (suc zero) zero p q h = absurd (false≢true (h refl))
@@ -148,6 +183,31 @@ ones-inside-to (suc k) a b p q h =
 
 pub ones-inside : (a b : ℕ) → ((e : ℕ) → has a e ≡ true → has b e ≡ true) → (a ≡ b) ⊎ (ones a < ones b)
 ones-inside a b h = ones-inside-to (a + b) a b (lt-pow-add a b) (rw (add-comm a b) (lt-pow-add b a)) h
+
+digit-zero : (x : ℕ) → x < 2 → eqb x 1 ≡ false → x ≡ 0
+digit-zero zero p e = refl
+digit-zero (suc zero) p e = absurd (true≢false e)
+digit-zero (suc (suc x)) p e = absurd (omega arith)
+
+-- a bit that was missing is one member more
+pub ones-insert : (m e : ℕ) → has m e ≡ false → ones (insert m e) ≡ suc (ones m)
+unfolding insert
+ones-insert m zero f =
+    let low : m % 2 ≡ 0 = digit-zero (m % 2) (mod-lt m (lit< tt)) (sym (has-zero m) ∙ f) in
+    let half : bitOr m 1 / 2 ≡ m / 2 = or-shr m 1 1 ∙ or-zero-r (m / 2) in
+    omega (arith, ones-step m, ones-step (bitOr m 1), or-low m 1, ap ones half)
+ones-insert m (suc e) f =
+    let rest : ones (bitOr (m / 2) (2 ^ e)) ≡ suc (ones (m / 2)) = ones-insert (m / 2) e (sym (has-suc m e) ∙ f) in
+    let twice : 2 ^ suc e / 2 ≡ 2 ^ e = omega arith in
+    let low : 2 ^ suc e % 2 ≡ 0 = omega arith in
+    let half : bitOr m (2 ^ suc e) / 2 ≡ bitOr (m / 2) (2 ^ e) = or-shr m (2 ^ suc e) 1 ∙ ap (bitOr (m / 2)) twice in
+    omega (arith, ones-step m, ones-step (bitOr m (2 ^ suc e)), or-low m (2 ^ suc e), ap ones half)
+
+-- the count by k digits, which computes
+pub ones-in : (k n : ℕ) → n < 2 ^ k → ones n ≡ onesIn k n
+unfolding ones onesIn
+ones-in zero n h = ap ones (lt-one h)
+ones-in (suc k) n h = ones-step n ∙ ap (λ (x : ℕ). n % 2 + x) (ones-in k (n / 2) (omega arith))
 
 -- ---- bits and bounds
 -- the low k bits
@@ -174,8 +234,23 @@ lt-of-bits k x h = subst (λ (y : ℕ). y < 2 ^ k) (mask-ext (x % 2 ^ k) x (λ e
     go e (no n) = has-high k e (x % 2 ^ k) (mod-lt x (pow-pos k)) (omega arith) ∙ sym (off e n (test (has x e)))
 
 -- one more bit on top
+pub insert-top : (k m : ℕ) → m < 2 ^ k → insert m k ≡ m + 2 ^ k
+unfolding insert
+insert-top k m l = ap (bitOr m) (omega arith) ∙ lib.Bits.or-shifted-r 1 k m l ∙ omega arith
+
 pub has-top : (k e y : ℕ) → y < 2 ^ k → has (y + 2 ^ k) e ≡ has y e || eqb k e
-has-top k e y l = ap (λ (z : ℕ). has z e) (sym (or-top k y l)) ∙ has-or e y (2 ^ k) ∙ ap (λ (b : Bool). has y e || b) (has-pow k e)
+has-top k e y l = ap (λ (z : ℕ). has z e) (sym (insert-top k y l)) ∙ has-insert y k e
+
+-- ---- the set of the numbers below n
+pub has-full : (n e : ℕ) → e < n → has (2 ^ n - 1) e ≡ true
+has-full zero e h = absurd (omega arith)
+has-full (suc n) zero h = has-zero (2 ^ suc n - 1) ∙ ≡eqb ((2 ^ suc n - 1) % 2) 1 (omega (arith, pow-pos n))
+has-full (suc n) (suc e) h = has-suc (2 ^ suc n - 1) e ∙ ap (λ (x : ℕ). has x e) half ∙ has-full n e (omega arith)
   where
-    or-top : (k y : ℕ) → y < 2 ^ k → bitOr y (2 ^ k) ≡ y + 2 ^ k
-    or-top k y l = ap (bitOr y) (omega arith) ∙ lib.Bits.or-shifted-r 1 k y l ∙ omega arith
+    half : (2 ^ suc n - 1) / 2 ≡ 2 ^ n - 1
+    half = omega (arith, pow-pos n)
+
+-- ---- the operations of a word
+-- `1 << e` in a word of n bits
+pub shl-one : (n e : ℕ) → e < n → 1 * 2 ^ e % 2 ^ n ≡ 2 ^ e
+shl-one n e h = shl-exact 1 e n (lit< tt) (omega arith) ∙ one-mul (2 ^ e)

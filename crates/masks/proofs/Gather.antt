@@ -8,8 +8,8 @@ use lib.Dec.{eqb}
 use lib.Pow.{pow-pos}
 use native.Mathlib.Numerals.{add-one}
 use Rattle.lists.proofs.Bools.{test, ≡eqb, neqb}
-use Rattle.masks.specs.Masks.{has, gather}
-use Rattle.masks.proofs.Bits.{has-top, has-high}
+use Rattle.masks.specs.Masks.{has, insert, gather}
+use Rattle.masks.proofs.Bits.{insert-top, has-top, has-high}
 
 pub gather-lt : (t : ℕ → Bool) (n : ℕ) → gather t n < 2 ^ n
 unfolding gather
@@ -38,3 +38,16 @@ gather-turn t i a r b p q s = rw add-one (s ∙ ap (λ (b : Bool). cond b (a + 2
 
 pub gather-end : (t : ℕ → Bool) (i n a : ℕ) → a ≡ gather t i → i ≡ n → a ≡ gather t n
 gather-end t i n a p q = p ∙ ap (gather t) q
+
+-- with n, or without it, as a loop meets it
+pub gather-none : (t : ℕ → Bool) → gather t 0 ≡ 0
+unfolding gather
+gather-none t = refl
+
+pub gather-in : (t : ℕ → Bool) (n : ℕ) → t n ≡ true → gather t (n + 1) ≡ insert (gather t n) n
+unfolding gather
+gather-in t n h = rw add-one (ap (λ (b : Bool). cond b (gather t n + 2 ^ n) (gather t n)) h ∙ sym (insert-top n (gather t n) (gather-lt t n)))
+
+pub gather-out : (t : ℕ → Bool) (n : ℕ) → t n ≡ false → gather t (n + 1) ≡ gather t n
+unfolding gather
+gather-out t n h = rw add-one (ap (λ (b : Bool). cond b (gather t n + 2 ^ n) (gather t n)) h)
