@@ -1,1 +1,4 @@
 pub mod Chains
+pub mod Order
+pub mod Largest
+pub mod Priorities
