@@ -1,1 +1,2 @@
 pub mod EdgeRuns
+pub mod Next
