@@ -1,2 +1,3 @@
 pub mod Pigeon
 pub mod Periods
+pub mod Runs
