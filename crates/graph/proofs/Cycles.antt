@@ -31,11 +31,11 @@ ltb-true a b l = go (test (ltb a b))
     go (inr f) = absurd (omega (arith, lt-false a b f))
 
 -- a set with a member is not empty
-some-nonzero : (m e : ℕ) → has m e ≡ true → m ≢ 0
+pub some-nonzero : (m e : ℕ) → has m e ≡ true → m ≢ 0
 some-nonzero m e t z = false≢true (sym (ap (λ (x : ℕ). has x e) z ∙ has-none e) ∙ t)
 
 -- a bit of a number below 2 ^ n stands below n
-bit-lt : (n m e : ℕ) → m < 2 ^ n → has m e ≡ true → e < n
+pub bit-lt : (n m e : ℕ) → m < 2 ^ n → has m e ≡ true → e < n
 bit-lt n m e l t = go (decLt e n)
   where
     go : Dec (e < n) → e < n
