@@ -1,7 +1,7 @@
 -- The component of an edge in an edge set is the largest cycle with that edge inside the set, where there is one; and each cycle lies inside
 -- a component of the set's part in the cycle's own colours, with the same colours. Assumes nothing.
 use Prim.Native.Nat.{ℕ, _^_, _<_}
-use mathlib.Core.Path.{_≡_, refl, sym, ap, _∙_, subst}
+use mathlib.Core.Path.{_≡_, refl, sym, _∙_, subst}
 use mathlib.Core.Logic.{_⊎_, inl, inr}
 use mathlib.Core.Bool.{Bool, true, false, _&&_, true≢false}
 use mathlib.Core.List.{List, [], _∷_, _++_, List·Memᴰ}
