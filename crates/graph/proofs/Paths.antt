@@ -5,14 +5,14 @@ use mathlib.Core.Path.{_≡_, refl, sym, ap, _∙_, subst}
 use mathlib.Core.Logic.{_⊎_, inl, inr}
 use mathlib.Core.Bool.{Bool, true, false, cond, false≢true}
 use mathlib.Core.List.{List, [], _∷_, _++_, List·Memᴰ, List·Memᴰ·head, List·Memᴰ·tail, Memᴰ·cast}
-use lib.Bits.{or-lt}
+use lib.Dec.{eqb}
 use lib.Pow.{pow-lt, pow-pos}
 use lib.Count.{ones, ones-le}
 use Rattle.lists.specs.Lists.{below}
 use Rattle.lists.proofs.Bools.{test, or-cases, or-left, or-right, eqb≡, ≡eqb}
 use Rattle.lists.proofs.Lists.{filter-mem, mem-filter, mem-below, below-lt}
 use Rattle.masks.specs.Masks.{has, insert, members}
-use Rattle.masks.proofs.Bits.{has-or, has-pow, has-none, ones-inside}
+use Rattle.masks.proofs.Bits.{has-pow, has-insert, insert-lt, has-none, ones-inside}
 use Rattle.policy.specs.declared.Policy.{Policy}
 use Rattle.policy.specs.Policies.{source, targetOf}
 use Rattle.graph.specs.Cycles.{Path, spread, closure, reach}
@@ -32,24 +32,17 @@ unfolding members
 has-members n m e l t = mem-filter (has m) (below n) e (mem-below n e l) t
 
 insert-cases : (m t e : ℕ) → has (insert m t) e ≡ true → (has m e ≡ true) ⊎ (t ≡ e)
-unfolding insert
-insert-cases m t e h = go (or-cases (has m e) (has (2 ^ t) e) (sym (has-or e m (2 ^ t)) ∙ h))
+insert-cases m t e h = go (or-cases (has m e) (eqb t e) (sym (has-insert m t e) ∙ h))
   where
-    go : (has m e ≡ true) ⊎ (has (2 ^ t) e ≡ true) → (has m e ≡ true) ⊎ (t ≡ e)
+    go : (has m e ≡ true) ⊎ (eqb t e ≡ true) → (has m e ≡ true) ⊎ (t ≡ e)
     go (inl k) = inl k
-    go (inr k) = inr (eqb≡ t e (sym (has-pow t e) ∙ k))
+    go (inr k) = inr (eqb≡ t e k)
 
 insert-keeps : (m t e : ℕ) → has m e ≡ true → has (insert m t) e ≡ true
-unfolding insert
-insert-keeps m t e h = has-or e m (2 ^ t) ∙ or-left (has m e) (has (2 ^ t) e) h
+insert-keeps m t e h = has-insert m t e ∙ or-left (has m e) (eqb t e) h
 
 insert-adds : (m t : ℕ) → has (insert m t) t ≡ true
-unfolding insert
-insert-adds m t = has-or t m (2 ^ t) ∙ or-right (has m t) (has (2 ^ t) t) (has-pow t t ∙ ≡eqb t t refl)
-
-insert-lt : (n m t : ℕ) → m < 2 ^ n → t < n → insert m t < 2 ^ n
-unfolding insert
-insert-lt n m t l h = or-lt n m (2 ^ t) l (pow-lt h)
+insert-adds m t = has-insert m t t ∙ or-right (has m t) (eqb t t) (≡eqb t t refl)
 
 one-member : (u : ℕ) → 0 < ones (2 ^ u)
 one-member u = go (ones-inside 0 (2 ^ u) (λ e t. absurd (false≢true (sym (has-none e) ∙ t))))
@@ -172,7 +165,7 @@ module _ (p : Policy) where
   spread-lt (e ∷ es) s n h l = go (has s (source p e)) (spread-lt es s n (λ f m. h f (List·Memᴰ·tail m)) l)
     where
       go : (b : Bool) → spread p es s < 2 ^ n → cond b (insert (spread p es s) (targetOf p e)) (spread p es s) < 2 ^ n
-      go true q = insert-lt n (spread p es s) (targetOf p e) q (h e (List·Memᴰ·head refl))
+      go true q = insert-lt (spread p es s) (targetOf p e) n q (h e (List·Memᴰ·head refl))
       go false q = q
 
   pub closure-lt : (es : List ℕ) (s n k : ℕ) → ((e : ℕ) → List·Memᴰ e es → targetOf p e < n) → s < 2 ^ n → closure p k es s < 2 ^ n
