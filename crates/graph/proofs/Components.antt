@@ -32,11 +32,11 @@ module _ (p : Policy) where
   unfolding component
   component-some m e f h =
       let r = gather-some (λ (f : ℕ). has m f && has (reach p es (targetOf p e)) (source p f) && has (reach p es (targetOf p f)) (source p e)) (edges p) f h in
-      let a : has m f && has (reach p es (targetOf p e)) (source p f) ≡ true = and-l (has m f && has (reach p es (targetOf p e)) (source p f)) _ (r .1) in
-      ( r .0
-      , and-l (has m f) _ a
-      , reach-sound p es (targetOf p e) (source p f) (and-r (has m f) _ a)
-      , reach-sound p es (targetOf p f) (source p e) (and-r (has m f && has (reach p es (targetOf p e)) (source p f)) _ (r .1))
+      let a : has m f && has (reach p es (targetOf p e)) (source p f) ≡ true = and-l (has m f && has (reach p es (targetOf p e)) (source p f)) _ (r .1) in (
+        r .0,
+        and-l (has m f) _ a,
+        reach-sound p es (targetOf p e) (source p f) (and-r (has m f) _ a),
+        reach-sound p es (targetOf p f) (source p e) (and-r (has m f && has (reach p es (targetOf p e)) (source p f)) _ (r .1)),
       )
     where
       es : List ℕ

@@ -165,7 +165,7 @@ module _ (p : Policy) where
 
   -- the edges of a closed path are a cycle
   pub closed-cycle : Targets p → (v e₀ : ℕ) (es : List ℕ) → Path p (below (edges p)) v (e₀ ∷ es) v → (X : ℕ) → ((e : ℕ) → (has X e ≡ true) ↔ List·Memᴰ e (e₀ ∷ es)) → isCycle p X ≡ true
-  closed-cycle targets v e₀ es a X exact = cycle-complete targets X (record { first = e₀; rest = es; closed = subst (λ (u : ℕ). Path p (below (edges p)) u (e₀ ∷ es) u) (sym (a .0)) a; exact = exact; })
+  closed-cycle targets v e₀ es a X exact = cycle-complete targets X (record { first = e₀; rest = es; closed = subst (λ (u : ℕ). Path p (below (edges p)) u (e₀ ∷ es) u) (sym (a .0)) a; exact = exact })
 
   -- ---- the states of an edge set
   pub contains-some : (v m : ℕ) → contains p v m ≡ true → (e : ℕ) × (e < edges p) × (has m e ≡ true) × (source p e ≡ v)
