@@ -1,4 +1,4 @@
--- Strongly connected components of an edge set, and its part in some colours (document 01, "Cycles and the forest"; document 004, section 5.1).
+-- Strongly connected components of an edge set, and its part in some colours (document 004, sections 2.1 and 2.2).
 use Prim.Native.Nat.{ℕ}
 use mathlib.Core.Bool.{_&&_}
 use Rattle.lists.specs.Lists.{all}
