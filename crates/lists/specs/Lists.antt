@@ -1,5 +1,6 @@
 -- Tests, filters and searches on lists. Written to be computed: a recursive call is bound by `let`, and made only where it is needed.
 use Prim.Native.Nat.{ℕ, zero, suc, _+_, _<_}
+use mathlib.Core.Logic.{_≢_}
 use mathlib.Core.Bool.{Bool, true, false, _&&_, _||_, cond}
 use mathlib.Core.List.{List, [], _∷_, _++_, List·Memᴰ}
 use lib.Dec.{ltb}
@@ -44,3 +45,8 @@ below (suc n) = below n ++ (n ∷ [])
 abbrev pub Ascending : List ℕ → Type 0
 Ascending [] = Unit {0}
 Ascending (x ∷ xs) = ((y : ℕ) → List·Memᴰ y xs → x < y) × Ascending xs
+
+-- no member stands twice
+abbrev pub Distinct : List ℕ → Type 0
+Distinct [] = Unit {0}
+Distinct (x ∷ xs) = ((y : ℕ) → List·Memᴰ y xs → x ≢ y) × Distinct xs
