@@ -1,14 +1,14 @@
 -- The laws of `has`: of and, or, difference, one bit, inclusion; two masks with the same bits are equal; counts. Assumes nothing.
 use Prim.Native.Nat.{ℕ, zero, suc, _+_, _*_, _-_, _/_, _%_, _^_, _≤_, _<_, min, max}
-use native.Mathlib.Nat.{one-mul, pow-suc, mod-lt, div-add-mod', div-one, add-comm, lt-irrefl, not-suc-le-zero, zero-min, zero-max, le-of-eq}
+use native.Mathlib.Nat.{one-mul, pow-suc, mod-lt, div-add-mod', div-one, add-comm}
 use native.Mathlib.Omega.{arith}
 use native.Mathlib.Decide.{decLt}
 use native.Mathlib.Numerals.{add-one}
-use mathlib.Core.Path.{_≡_, refl, sym, ap, ap₂, _∙_, subst}
-use mathlib.Core.Logic.{_≢_, _↔_, _⊎_, inl, inr}
+use mathlib.Core.Path.{_≡_, refl, sym, ap, _∙_, subst}
+use mathlib.Core.Logic.{_⊎_, inl, inr}
 use mathlib.Core.Bool.{Bool, true, false, not, _&&_, _||_, true≢false, false≢true}
-use lib.Dec.{T, eqb, eqb→eq, eqb-refl, lit<, lit≤}
-use lib.Arith.{bin-ind, digits-div, digits-mod, lt-one}
+use lib.Dec.{eqb, lit<}
+use lib.Arith.{digits-mod, lt-one}
 use lib.Pow.{shr-shr, shl-exact, pow-pos, pow-lt, field, mod-mod-pow}
 use lib.Bits.{bitAnd, bitOr, bitXor, and-step, or-step, and-shr, or-shr, or-lt, or-zero-r, xor-shr, xor-mod}
 use lib.Count.{ones, onesIn, ones-step}

@@ -1,10 +1,9 @@
 -- The set of the numbers below n that pass a test, as a mask: its bits, and one turn of the loop that builds it. Assumes nothing.
-use Prim.Native.Nat.{ℕ, zero, suc, _+_, _-_, _*_, _^_, _≤_, _<_}
+use Prim.Native.Nat.{ℕ, zero, suc, _+_, _^_, _<_}
 use native.Mathlib.Omega.{arith}
 use mathlib.Core.Path.{_≡_, refl, sym, ap, _∙_}
-use mathlib.Core.Logic.{_⊎_, inl, inr, _≢_}
-use mathlib.Core.Bool.{Bool, true, false, _&&_, _||_, cond, true≢false, false≢true, or-true, or-false}
-use lib.Dec.{eqb}
+use mathlib.Core.Logic.{_⊎_, inl, inr}
+use mathlib.Core.Bool.{Bool, true, false, _||_, cond, or-true, or-false}
 use lib.Pow.{pow-pos}
 use native.Mathlib.Numerals.{add-one}
 use Rattle.lists.proofs.Bools.{test, ≡eqb, neqb}

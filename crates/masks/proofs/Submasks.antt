@@ -1,21 +1,19 @@
 -- The members of `submasks k m` are the masks whose bits are bits of m below k; they ascend. Assumes nothing.
-use Prim.Native.Nat.{ℕ, zero, suc, _+_, _-_, _*_, _/_, _%_, _^_, _≤_, _<_}
+use Prim.Native.Nat.{ℕ, zero, suc, _+_, _%_, _^_, _<_}
 use native.Mathlib.Omega.{arith}
-use native.Mathlib.Nat.{mod-lt, pow-suc, div-add-mod', add-comm, mod-eq-of-lt, mod-one}
+use native.Mathlib.Nat.{mod-lt}
 use native.Mathlib.Decide.{ℕ-discrete, decLt}
-use mathlib.Core.Path.{_≡_, refl, sym, ap, _∙_, subst}
-use mathlib.Core.Logic.{_⊎_, inl, inr, _≢_, _↔_}
-use mathlib.Core.Bool.{Bool, true, false, not, _&&_, _||_, cond, true≢false, false≢true, or-true, or-false}
-use mathlib.Core.List.{List, [], _∷_, _++_, map, List·Memᴰ, List·Memᴰ·head, List·Memᴰ·tail, List·Memᴰ·cases-cons, Memᴰ·append-left, Memᴰ·append-right, List·Memᴰ·append-cases, Memᴰ·cast}
-use lib.Dec.{eqb, lit<}
-use lib.Pow.{pow-pos, pow-lt, split, field, mod-mod-pow}
-use native.Mathlib.Numerals.{add-one}
-use lib.Bits.{bitAnd, bitOr}
+use mathlib.Core.Path.{_≡_, sym, ap, _∙_, subst}
+use mathlib.Core.Logic.{_⊎_, inl, inr}
+use mathlib.Core.Bool.{Bool, true, false, _||_, cond, true≢false, false≢true, or-true, or-false}
+use mathlib.Core.List.{List, [], _∷_, _++_, map, List·Memᴰ, List·Memᴰ·head, Memᴰ·append-left, Memᴰ·append-right, List·Memᴰ·append-cases, Memᴰ·cast}
+use lib.Dec.{eqb}
+use lib.Pow.{pow-pos}
 use Rattle.lists.specs.Lists.{Ascending}
 use Rattle.lists.proofs.Bools.{test, or-cases, eqb≡, ≡eqb, neqb}
 use Rattle.lists.proofs.Lists.{map-mem, mem-map, ascending-append}
 use Rattle.masks.specs.Masks.{has, submasks}
-use Rattle.masks.proofs.Bits.{has-zero, has-suc, has-none, has-pow, has-or, mask-ext, has-mod, has-high, lt-of-bits, has-top}
+use Rattle.masks.proofs.Bits.{has-none, mask-ext, has-mod, has-high, lt-of-bits, has-top}
 
 Part : ℕ → ℕ → ℕ → Type 0
 Part k m x = (e : ℕ) → has x e ≡ true → (has m e ≡ true) × (e < k)

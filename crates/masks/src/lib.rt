@@ -1,6 +1,6 @@
 // Sets as bit masks: edge sets in 64 bits, colour sets in 8.
 ghost use mathlib.Core.Path.{_≡_};
-ghost use Prim.Native.Nat.{ℕ, _-_, _<_, _≤_, _^_};
+ghost use Prim.Native.Nat.{_-_, _<_, _≤_, _^_};
 ghost use lib.Bits.{bitAnd, bitOr};
 ghost use lib.Count.{ones};
 ghost use Rattle.masks.specs.Masks.{has, insert, minus, inside, properly};
