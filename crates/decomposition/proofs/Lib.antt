@@ -2,3 +2,4 @@ pub mod Chains
 pub mod Order
 pub mod Largest
 pub mod Priorities
+pub mod Planted
