@@ -3,3 +3,4 @@ pub mod Order
 pub mod Largest
 pub mod Priorities
 pub mod Planted
+pub mod Numbered
