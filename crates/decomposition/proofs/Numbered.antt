@@ -7,11 +7,11 @@ use native.Mathlib.Numerals.{add-one}
 use mathlib.Core.Path.{_≡_, refl, sym, ap, _∙_, subst}
 use mathlib.Core.Logic.{_⊎_, inl, inr}
 use mathlib.Core.Bool.{Bool, true, false, not, _&&_, cond, true≢false}
-use mathlib.Core.List.{List, [], _∷_, _++_, map, append-assoc, append-nil, List·Memᴰ, List·Memᴰ·head, List·Memᴰ·tail, Memᴰ·append-left, Memᴰ·append-right, List·Memᴰ·append-cases, List·Memᴰ·not-nil, Memᴰ·cast}
+use mathlib.Core.List.{List, [], _∷_, _++_, map, append-assoc, append-nil, List·Memᴰ, List·Memᴰ·head, List·Memᴰ·tail, Memᴰ·append-left, Memᴰ·append-right, List·Memᴰ·append-cases, List·Memᴰ·not-nil}
 use lib.Count.{ones}
 use lib.Dec.{eqb}
 use lib.ListN.{length, getD, length-append}
-use Rattle.lists.proofs.Bools.{test, both, ≡eqb, neqb}
+use Rattle.lists.proofs.Bools.{both, ≡eqb, neqb}
 use Rattle.lists.proofs.Lists.{getD-mem, mem-at, map-mem, mem-map}
 use Rattle.policy.specs.declared.Policy.{Policy}
 use Rattle.policy.specs.Policies.{edges, accepting}
@@ -159,14 +159,14 @@ module _ (p : Policy) (ns : List Node) where
   -- at the start the roots are pending
   start : ((r : ℕ) → List·Memᴰ r (roots p) → ones r ≤ edges p) → Ordered (roots p) → Placing 0 [] (pendingRoots p)
   start few o = record {
-      known = λ x m. is-known x (map-mem root (roots p) x m);
-      back = λ n h. absurd (omega arith);
-      deep = λ n h. absurd (omega arith);
-      hangs = hang (roots p);
-      in-order = order-pending 65535 0 (accepting p) (roots p) o;
-      all-roots = λ m k. (root m, mem-map root (roots p) m k, refl, refl);
-      all-children = λ n h. absurd (omega arith)
-    }
+    known = λ x m. is-known x (map-mem root (roots p) x m);
+    back = λ n h. absurd (omega arith);
+    deep = λ n h. absurd (omega arith);
+    hangs = hang (roots p);
+    in-order = order-pending 65535 0 (accepting p) (roots p) o;
+    all-roots = λ m k. (root m, mem-map root (roots p) m k, refl, refl);
+    all-children = λ n h. absurd (omega arith);
+  }
     where
       root : ℕ → Node
       root m = pending 65535 0 (accepting p m) m
@@ -201,14 +201,14 @@ module _ (p : Policy) (ns : List Node) where
   turn : ((m c : ℕ) → List·Memᴰ c (children p m) → ones c < ones m) → ((m : ℕ) → Ordered (children p m))
       → (i : ℕ) (s xs : List Node) → Placing i s (node ns i ∷ xs) → Placing (suc i) (s ++ (node ns i ∷ [])) (pendingChildren p i (node ns i) ++ xs)
   turn fewer o i s xs v = record {
-      known = λ z m. now-known z (cases m);
-      back = λ n h. now-back n (below-suc n i h);
-      deep = λ n h. now-deep n (below-suc n i h);
-      hangs = hangs-children i (x .level) (x .accepted) (children p (x .mask)) xs (hangs-grow (above x) (chain ns i) xs (above-in (x-known .0)) (v .hangs .1));
-      in-order = order-insert a new xs (subst (λ (l : List Node). InOrder l) (sym assoc) (v .in-order)) (order-pending i (x .level + 1) (λ _. x .accepted) (children p (x .mask)) (o (x .mask))) apart;
-      all-roots = λ m k. let r = v .all-roots m k in (r .0, keep (r .1), r .2, r .3);
-      all-children = λ n h. now-children n (below-suc n i h)
-    }
+    known = λ z m. now-known z (cases m);
+    back = λ n h. now-back n (below-suc n i h);
+    deep = λ n h. now-deep n (below-suc n i h);
+    hangs = hangs-children i (x .level) (x .accepted) (children p (x .mask)) xs (hangs-grow (above x) (chain ns i) xs (above-in (x-known .0)) (v .hangs .1));
+    in-order = order-insert a new xs (subst (λ (l : List Node). InOrder l) (sym assoc) (v .in-order)) (order-pending i (x .level + 1) (λ _. x .accepted) (children p (x .mask)) (o (x .mask))) apart;
+    all-roots = λ m k. let r = v .all-roots m k in (r .0, keep (r .1), r .2, r .3);
+    all-children = λ n h. now-children n (below-suc n i h);
+  }
     where
       x : Node
       x = node ns i
@@ -276,6 +276,82 @@ module _ (p : Policy) (ns : List Node) where
 
       now-children : (n : ℕ) → (n < i) ⊎ (n ≡ i) → (m : ℕ) → List·Memᴰ m (children p (maskAt ns n)) → (z : Node) × List·Memᴰ z (a ++ (new ++ xs)) × (childNode n z ≡ true) × (z .mask ≡ m)
       now-children n (inl h) m k = let r = v .all-children n h m k in (r .0, keep (r .1), r .2, r .3)
-      now-children n (inr e) m k =
-          (child m, Memᴰ·append-right a (Memᴰ·append-left xs (mem-map child (children p (x .mask)) m (subst (λ (n : ℕ). List·Memᴰ m (children p (maskAt ns n))) e k))),
-          both (not (eqb (x .level + 1) 0)) (eqb i n) (ap not (not-top (x .level))) (≡eqb i n (sym e)), refl)
+      now-children n (inr e) m k = (
+        child m,
+        Memᴰ·append-right a (Memᴰ·append-left xs (mem-map child (children p (x .mask)) m (subst (λ (n : ℕ). List·Memᴰ m (children p (maskAt ns n))) e k))),
+        both (not (eqb (x .level + 1) 0)) (eqb i n) (ap not (not-top (x .level))) (≡eqb i n (sym e)),
+        refl,
+      )
+
+  all-placed : (i : ℕ) (s : List Node) → ns ≡ s ++ [] → length s ≡ i → Placing i s [] → Placing (length ns) ns []
+  all-placed i s e l v =
+      let d : s ≡ ns = sym (e ∙ append-nil s) in
+      subst (λ (s : List Node). Placing (length s) s []) d (subst (λ (i : ℕ). Placing i s []) (sym l) v)
+
+  -- to the end, where all nodes are placed
+  run : ((m c : ℕ) → List·Memᴰ c (children p m) → ones c < ones m) → ((m : ℕ) → Ordered (children p m))
+      → (f i : ℕ) (s pend : List Node) → length (planted p (suc (edges p)) i pend) ≤ f → ns ≡ s ++ planted p (suc (edges p)) i pend → length s ≡ i → Placing i s pend → Placing (length ns) ns []
+  unfolding planted node
+  run fewer o zero i s [] h e l v = all-placed i s e l v
+  run fewer o (suc f) i s [] h e l v = all-placed i s e l v
+  run fewer o zero i s (x ∷ xs) h e l v =
+      let few = v .known x (Memᴰ·append-right s (List·Memᴰ·head refl)) .1 in
+      absurd (omega (arith, ap length (planted-turn p fewer (edges p) i x xs (omega arith))))
+  run fewer o (suc f) i s (x ∷ xs) h e l v =
+      let few = v .known x (Memᴰ·append-right s (List·Memᴰ·head refl)) .1 in
+      let pend : List Node = pendingChildren p i x ++ xs in
+      let t : planted p (suc (edges p)) i (x ∷ xs) ≡ x ∷ planted p (suc (edges p)) (suc i) pend
+      = planted-turn p fewer (edges p) i x xs (omega arith) ∙ ap (λ (j : ℕ). x ∷ planted p (suc (edges p)) j pend) (add-one i) in
+      let r : List Node = planted p (suc (edges p)) (suc i) pend in
+      let whole : ns ≡ s ++ (x ∷ r) = e ∙ ap (λ (z : List Node). s ++ z) t in
+      let here : node ns i ≡ x = ap (λ (l : List Node). node l i) whole ∙ ap (λ (j : ℕ). node (s ++ (x ∷ r)) j) (sym l) ∙ getD-after s x r (record { mask = 0; parent = 0; level = 0; accepted = false }) in
+      run fewer o f (suc i) (s ++ (x ∷ [])) pend (omega (arith, ap length t)) (whole ∙ sym (append-assoc s (x ∷ []) r)) (length-append s (x ∷ []) ∙ ap (λ (j : ℕ). j + 1) l ∙ add-one i)
+      (subst (λ (y : Node). Placing (suc i) (s ++ (y ∷ [])) (pendingChildren p i y ++ xs)) here (turn fewer o i s xs (subst (λ (y : Node). Placing i s (y ∷ xs)) (sym here) v)))
+
+  placed-numbered : Placing (length ns) ns [] → Numbered p ns
+  unfolding node childOf
+  placed-numbered v = record {
+    parent-lt = v .back;
+    level-up = λ n l f. under n l f .level-next;
+    ordered = order-at ns none (subst (λ (l : List Node). InOrder l) (append-nil ns) (v .in-order));
+    depth-first = λ n l. subst (λ (j : ℕ). (rootAt ns j ≡ true) ⊎ List·Memᴰ (parentAt ns j) (chain ns n)) (sym (add-one n)) (v .deep (suc n) (omega arith));
+    root-mask = λ n l t. top n l t .of-roots;
+    mask-root = λ m k. let r = v .all-roots m k in numbered-as (λ x. isRoot x) m (r .0) (r .1) (r .2) (r .3);
+    child-mask = λ n l f. under n l f .of-children;
+    mask-child = λ n l m k. let r = v .all-children n l m k in numbered-as (childNode n) m (r .0) (r .1) (r .2) (r .3);
+    accepted-root = λ n l t. top n l t .verdict;
+    accepted-child = λ n l f. under n l f .same-verdict;
+    root-parent = λ n l t. top n l t .no-parent;
+  }
+    where
+      none : Node
+      none = record { mask = 0; parent = 0; level = 0; accepted = false }
+
+      of-number : (n : ℕ) → n < length ns → Known (length ns) (node ns n)
+      of-number n l = v .known (node ns n) (Memᴰ·append-left [] (getD-mem ns n none l)) .0
+
+      under : (n : ℕ) → n < length ns → rootAt ns n ≡ false → Under (length ns) (node ns n)
+      under n l f = go (of-number n l)
+        where
+          go : Known (length ns) (node ns n) → Under (length ns) (node ns n)
+          go (inl t) = absurd (true≢false (sym (t .is-root) ∙ f))
+          go (inr u) = u
+
+      top : (n : ℕ) → n < length ns → rootAt ns n ≡ true → Top (node ns n)
+      top n l t = go (of-number n l)
+        where
+          go : Known (length ns) (node ns n) → Top (node ns n)
+          go (inl k) = k
+          go (inr u) = absurd (true≢false (sym t ∙ u .not-root))
+
+      -- the number of a node that passes
+      numbered-as : (t : Node → Bool) (m : ℕ) (x : Node) → List·Memᴰ x (ns ++ []) → t x ≡ true → x .mask ≡ m → (j : ℕ) × (j < length ns) × (t (node ns j) ≡ true) × (maskAt ns j ≡ m)
+      numbered-as t m x k e is =
+          let r = mem-at ns none x (subst (λ (l : List Node). List·Memᴰ x l) (append-nil ns) k) in
+          (r .0, r .1, ap t (r .2) ∙ e, ap (λ (y : Node). y .mask) (r .2) ∙ is)
+
+pub numbered : (p : Policy) → (fewer : (m c : ℕ) → List·Memᴰ c (children p m) → ones c < ones m) → (few : (r : ℕ) → List·Memᴰ r (roots p) → ones r ≤ edges p)
+    → (ordered-children : (m : ℕ) → Ordered (children p m)) → (ordered-roots : Ordered (roots p)) → Numbered p (forest p)
+numbered p fewer few ordered-children ordered-roots =
+    placed-numbered p (forest p)
+    (run p (forest p) fewer ordered-children (length (planted p (suc (edges p)) 0 (pendingRoots p))) 0 [] (pendingRoots p) (omega arith) (forest-planted p) refl (start p (forest p) few ordered-roots))
