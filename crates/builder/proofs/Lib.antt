@@ -1,3 +1,4 @@
 pub mod Branch
 pub mod EdgeRuns
+pub mod Leaves
 pub mod Next
