@@ -1,3 +1,4 @@
 pub mod Paths
 pub mod Cycles
 pub mod Components
+pub mod Through

@@ -1,0 +1,185 @@
+-- The largest cycle through a state inside an edge set: it is a cycle with that state where it is not empty, each cycle with the state inside
+-- the set lies inside it, and it is the same for each of its states. Assumes nothing.
+use Prim.Native.Nat.{ℕ, _^_, _<_}
+use native.Mathlib.Omega.{arith}
+use native.Mathlib.Decide.{decLt, ℕ-discrete}
+use mathlib.Core.Path.{_≡_, refl, sym, ap, _∙_, subst}
+use mathlib.Core.Logic.{_⊎_, inl, inr, _≢_}
+use mathlib.Core.Bool.{Bool, true, false, _&&_, true≢false, false≢true}
+use mathlib.Core.List.{List, [], _∷_, _++_, List·Memᴰ}
+use Rattle.lists.specs.Lists.{any, below}
+use Rattle.lists.proofs.Bools.{test, and-l, and-r, both}
+use Rattle.lists.proofs.Lists.{any-some, none-any, mem-below}
+use Rattle.masks.specs.Masks.{has, inside, gather, members}
+use Rattle.masks.proofs.Bits.{has-none, has-high, mask-ext, inside-all, all-inside, inside-antisym}
+use Rattle.masks.proofs.Gather.{has-gather, gather-lt}
+use Rattle.policy.specs.declared.Policy.{Policy}
+use Rattle.policy.specs.Policies.{edges, source, targetOf}
+use Rattle.graph.specs.Cycles.{Path, reach, isCycle, contains}
+use Rattle.graph.specs.Through.{cycleThrough}
+use Rattle.graph.proofs.Paths.{members-has, members-lt, has-members, path-join, path-weaken, reach-sound, reach-complete}
+use Rattle.graph.proofs.Cycles.{Targets, cycle-some, cycle-edge, cycle-path, path-cycle, contains-some, some-contains, contains-inside}
+
+-- what a gathered set has
+gather-some : (t : ℕ → Bool) (n e : ℕ) → has (gather t n) e ≡ true → (e < n) × (t e ≡ true)
+gather-some t n e h = go (decLt e n)
+  where
+    go : Dec (e < n) → (e < n) × (t e ≡ true)
+    go (yes l) = (l, sym (has-gather t n e l) ∙ h)
+    go (no k) = absurd (false≢true (sym (has-high n e (gather t n) (gather-lt t n) (omega arith)) ∙ h))
+
+-- a set of numbers below n is empty, or has a member
+none-or-some : (n m : ℕ) → ((e : ℕ) → has m e ≡ true → e < n) → (m ≡ 0) ⊎ ((e : ℕ) × (has m e ≡ true))
+none-or-some n m lt = go (test (any (has m) (below n)))
+  where
+    go : (any (has m) (below n) ≡ true) ⊎ (any (has m) (below n) ≡ false) → (m ≡ 0) ⊎ ((e : ℕ) × (has m e ≡ true))
+    go (inl t) = let r = any-some (has m) (below n) t in inr (r .0, r .2)
+    go (inr f) = inl (mask-ext m 0 (λ e. off e (test (has m e))))
+      where
+        off : (e : ℕ) → (has m e ≡ true) ⊎ (has m e ≡ false) → has m e ≡ has 0 e
+        off e (inl t) = absurd (true≢false (sym t ∙ none-any (has m) (below n) f e (mem-below n e (lt e t))))
+        off e (inr k) = k ∙ sym (has-none e)
+
+module _ (p : Policy) where
+  -- paths of m's edges
+  abbrev Leads : ℕ → ℕ → ℕ → Type 0
+  Leads m u v = (w : List ℕ) × Path p (members (edges p) m) u w v
+
+  leads-join : (m u v z : ℕ) → Leads m u v → Leads m v z → Leads m u z
+  leads-join m u v z a b = (a .0 ++ b .0, path-join p (members (edges p) m) u (a .0) v (b .0) z (a .1) (b .1))
+
+  leads-edge : (m e : ℕ) → e < edges p → has m e ≡ true → Leads m (source p e) (targetOf p e)
+  leads-edge m e l t = (e ∷ [], (refl, has-members (edges p) m e l t, refl))
+
+  leads-up : (a b u v : ℕ) → inside a b ≡ true → Leads a u v → Leads b u v
+  leads-up a b u v i r = (r .0, path-weaken p (members (edges p) a) (members (edges p) b) (λ e k. has-members (edges p) b e (members-lt (edges p) a e k) (inside-all a b i e (members-has (edges p) a e k))) u (r .0) v (r .1))
+
+  -- a path from a state comes to a state
+  leads-state : Targets p → (m u : ℕ) (w : List ℕ) (v : ℕ) → u < p .states → Path p (members (edges p) m) u w v → v < p .states
+  leads-state targets m u [] v l a = subst (λ (x : ℕ). x < p .states) a l
+  leads-state targets m u (e ∷ w) v l a = leads-state targets m (targetOf p e) w v (targets e (members-lt (edges p) m e (a .1))) (a .2)
+
+  -- ---- its edges
+  pub through-some : (m v e : ℕ) → has (cycleThrough p m v) e ≡ true → (e < edges p) × (has m e ≡ true) × Leads m v (source p e) × Leads m (targetOf p e) v
+  unfolding cycleThrough
+  through-some m v e h =
+      let r = gather-some (λ (f : ℕ). has m f && has (reach p es v) (source p f) && has (reach p es (targetOf p f)) v) (edges p) e h in
+      let a : has m e && has (reach p es v) (source p e) ≡ true = and-l (has m e && has (reach p es v) (source p e)) _ (r .1) in (
+        r .0,
+        and-l (has m e) _ a,
+        reach-sound p es v (source p e) (and-r (has m e) _ a),
+        reach-sound p es (targetOf p e) v (and-r (has m e && has (reach p es v) (source p e)) _ (r .1)),
+      )
+    where
+      es : List ℕ
+      es = members (edges p) m
+
+  pub through-lt : (m v : ℕ) → cycleThrough p m v < 2 ^ edges p
+  unfolding cycleThrough
+  through-lt m v = gather-lt _ (edges p)
+
+  pub through-inside : (m v : ℕ) → inside (cycleThrough p m v) m ≡ true
+  through-inside m v = all-inside (cycleThrough p m v) m (λ e t. through-some m v e t .1)
+
+  -- a set that contains a state is not empty
+  contains-nonzero : (u m : ℕ) → contains p u m ≡ true → m ≢ 0
+  contains-nonzero u m on z = let r = contains-some p u m on in false≢true (sym (ap (λ (k : ℕ). has k (r .0)) z ∙ has-none (r .0)) ∙ r .2)
+
+  module _ (targets : Targets p) (m v : ℕ) (state : v < p .states) where
+    pub some-through : (e : ℕ) → e < edges p → has m e ≡ true → Leads m v (source p e) → Leads m (targetOf p e) v → has (cycleThrough p m v) e ≡ true
+    unfolding cycleThrough
+    some-through e l h a b =
+        has-gather (λ (f : ℕ). has m f && has (reach p es v) (source p f) && has (reach p es (targetOf p f)) v) (edges p) e l
+        ∙ both (has m e && has (reach p es v) (source p e)) _
+        (both (has m e) _ h (reach-complete p es v state lt (a .0) (source p e) (a .1)))
+        (reach-complete p es (targetOf p e) (targets e l) lt (b .0) v (b .1))
+      where
+        es : List ℕ
+        es = members (edges p) m
+
+        lt : (f : ℕ) → List·Memᴰ f es → targetOf p f < p .states
+        lt f k = targets f (members-lt (edges p) m f k)
+
+    -- a path of m between states that v leads to and that lead to v stays in it
+    path-through : (u : ℕ) (w : List ℕ) (z : ℕ) → Leads m v u → Leads m z v → Path p (members (edges p) m) u w z → Path p (members (edges p) (cycleThrough p m v)) u w z
+    path-through u [] z a b h = h
+    path-through u (e ∷ w) z a b h =
+        let l = members-lt (edges p) m e (h .1) in
+        let t = members-has (edges p) m e (h .1) in
+        let a′ : Leads m v (source p e) = subst (Leads m v) (sym (h .0)) a in
+        let s = some-through e l t a′ (leads-join m (targetOf p e) z v (w, h .2) b) in
+        (h .0, has-members (edges p) (cycleThrough p m v) e l s, path-through (targetOf p e) w z (leads-join m v (source p e) (targetOf p e) a′ (leads-edge m e l t)) b (h .2))
+
+    -- ---- it is a cycle with v, where it is not empty
+    closed-through : (e : ℕ) → has (cycleThrough p m v) e ≡ true → (f : ℕ) × (f < edges p) × (has (cycleThrough p m v) f ≡ true) × (source p f ≡ v)
+    closed-through e t = let r = through-some m v e t in go (r .0) (r .2 .0) (r .2 .1) (r .3)
+      where
+        go : e < edges p → (w : List ℕ) → Path p (members (edges p) m) v w (source p e) → Leads m (targetOf p e) v
+            → (f : ℕ) × (f < edges p) × (has (cycleThrough p m v) f ≡ true) × (source p f ≡ v)
+        go l [] a b = (e, l, t, sym a)
+        go l (f ∷ w) a b =
+            let q = path-through v (f ∷ w) (source p e) ([], refl) (leads-join m (source p e) (targetOf p e) v (leads-edge m e l (through-some m v e t .1)) b) a in
+            (f, members-lt (edges p) (cycleThrough p m v) f (q .1), members-has (edges p) (cycleThrough p m v) f (q .1), a .0)
+
+    joined-through : (e f : ℕ) → has (cycleThrough p m v) e ≡ true → has (cycleThrough p m v) f ≡ true → Leads (cycleThrough p m v) (targetOf p e) (source p f)
+    joined-through e f te tf =
+        let ce = through-some m v e te in
+        let cf = through-some m v f tf in
+        let h = leads-join m (targetOf p e) v (source p f) (ce .3) (cf .2) in
+        let a = leads-join m v (source p e) (targetOf p e) (ce .2) (leads-edge m e (ce .0) (ce .1)) in
+        let b = leads-join m (source p f) (targetOf p f) v (leads-edge m f (cf .0) (cf .1)) (cf .3) in
+        (h .0, path-through (targetOf p e) (h .0) (source p f) a b (h .1))
+
+    pub through-cycle : cycleThrough p m v ≢ 0 → (isCycle p (cycleThrough p m v) ≡ true) × (contains p v (cycleThrough p m v) ≡ true)
+    through-cycle nz = (path-cycle p targets (cycleThrough p m v) nz (through-lt m v) joined-through, go (none-or-some (edges p) (cycleThrough p m v) (λ e t. through-some m v e t .0)))
+      where
+        go : (cycleThrough p m v ≡ 0) ⊎ ((e : ℕ) × (has (cycleThrough p m v) e ≡ true)) → contains p v (cycleThrough p m v) ≡ true
+        go (inl z) = absurd (nz z)
+        go (inr r) = let f = closed-through (r .0) (r .1) in some-contains p v (cycleThrough p m v) (f .0) (f .1) (f .2) (f .3)
+
+    -- ---- it is the largest
+    pub through-largest : (x : ℕ) → isCycle p x ≡ true → inside x m ≡ true → contains p v x ≡ true → inside x (cycleThrough p m v) ≡ true
+    through-largest x cy wi on = all-inside x (cycleThrough p m v) (λ e t. some-through e (cycle-edge p x cy e t) (inside-all x m wi e t) (leads-up x m v (source p e) wi (to e t)) (leads-up x m (targetOf p e) v wi (from e t)))
+      where
+        g : (e : ℕ) × (e < edges p) × (has x e ≡ true) × (source p e ≡ v)
+        g = contains-some p v x on
+
+        to : (e : ℕ) → has x e ≡ true → Leads x v (source p e)
+        to e t = subst (λ (u : ℕ). Leads x u (source p e)) (g .3) (leads-join x (source p (g .0)) (targetOf p (g .0)) (source p e) (leads-edge x (g .0) (g .1) (g .2)) (cycle-path p x cy (g .0) e (g .2) t))
+
+        from : (e : ℕ) → has x e ≡ true → Leads x (targetOf p e) v
+        from e t = subst (Leads x (targetOf p e)) (g .3) (cycle-path p x cy e (g .0) t (g .2))
+
+    -- it is empty exactly if no cycle inside m contains v
+    pub through-none : cycleThrough p m v ≡ 0 → (x : ℕ) → isCycle p x ≡ true → inside x m ≡ true → contains p v x ≡ false
+    through-none z x cy wi = go (test (contains p v x))
+      where
+        zero-only : inside x (cycleThrough p m v) ≡ true → x ≡ 0
+        zero-only i = mask-ext x 0 (λ e. off e (test (has x e)))
+          where
+            off : (e : ℕ) → (has x e ≡ true) ⊎ (has x e ≡ false) → has x e ≡ has 0 e
+            off e (inl t) = t ∙ sym (sym (ap (λ (k : ℕ). has k e) z) ∙ inside-all x (cycleThrough p m v) i e t)
+            off e (inr f) = f ∙ sym (has-none e)
+
+        go : (contains p v x ≡ true) ⊎ (contains p v x ≡ false) → contains p v x ≡ false
+        go (inl t) = absurd (cycle-some p x cy (zero-only (through-largest x cy wi t)))
+        go (inr f) = f
+
+    pub none-through : ((x : ℕ) → isCycle p x ≡ true → inside x m ≡ true → contains p v x ≡ false) → cycleThrough p m v ≡ 0
+    none-through h = go (ℕ-discrete (cycleThrough p m v) 0)
+      where
+        go : Dec (cycleThrough p m v ≡ 0) → cycleThrough p m v ≡ 0
+        go (yes z) = z
+        go (no nz) = let c = through-cycle nz in absurd (true≢false (sym (c .1) ∙ h (cycleThrough p m v) (c .0) (through-inside m v)))
+
+  -- each state of it has it as the largest cycle through that state
+  pub through-same : Targets p → (m v u : ℕ) → v < p .states → contains p u (cycleThrough p m v) ≡ true → cycleThrough p m u ≡ cycleThrough p m v
+  through-same targets m v u lv on =
+      let r = contains-some p u (cycleThrough p m v) on in
+      let to = through-some m v (r .0) (r .2) .2 in
+      let lu : u < p .states = leads-state targets m v (to .0) u lv (subst (Path p (members (edges p) m) v (to .0)) (r .3) (to .1)) in
+      let c = through-cycle targets m v lv (contains-nonzero u (cycleThrough p m v) on) in
+      let up = through-largest targets m u lu (cycleThrough p m v) (c .0) (through-inside m v) on in
+      let vu = contains-inside p v (cycleThrough p m v) (cycleThrough p m u) up (c .1) in
+      let d = through-cycle targets m u lu (contains-nonzero v (cycleThrough p m u) vu) in
+      inside-antisym (cycleThrough p m u) (cycleThrough p m v) (through-largest targets m v lv (cycleThrough p m u) (d .0) (through-inside m u) vu) up
