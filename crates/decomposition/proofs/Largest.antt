@@ -1,15 +1,15 @@
 -- The law of `largest`: its members, and that each member of a list lies inside one of its largest; a list that keeps only largest ones,
 -- and one above each member, is the list of the largest in sibling order. Assumes nothing.
-use Prim.Native.Nat.{ℕ, _≤_, _<_}
+use Prim.Native.Nat.{ℕ, _≤_}
 use native.Mathlib.Omega.{arith}
 use native.Mathlib.Decide.{decLe}
 use mathlib.Core.Path.{_≡_, refl, sym, ap, _∙_}
 use mathlib.Core.Logic.{_⊎_, inl, inr}
-use mathlib.Core.Bool.{Bool, true, false, not, _&&_, true≢false, false≢true}
+use mathlib.Core.Bool.{Bool, true, false, not, true≢false, false≢true}
 use mathlib.Core.List.{List, [], _∷_, List·Memᴰ, List·Memᴰ·head, List·Memᴰ·tail, List·Memᴰ·cases-cons, Memᴰ·cast}
 use lib.Dec.{eqb}
 use Rattle.lists.specs.Lists.{any, Ascending}
-use Rattle.lists.proofs.Bools.{test, eqb≡, neqb, and-l, both, not-true}
+use Rattle.lists.proofs.Bools.{test, eqb≡, and-l, both, not-true}
 use Rattle.lists.proofs.Lists.{some-any, none-any, none-true, filter-mem, mem-filter, ascending-filter}
 use Rattle.masks.specs.Masks.{inside, properly}
 use Rattle.masks.proofs.Bits.{inside-refl, inside-trans, inside-le, properly-lt}
