@@ -5,3 +5,4 @@ pub mod Children
 pub mod Priorities
 pub mod Planted
 pub mod Numbered
+pub mod Forest
