@@ -13,6 +13,7 @@ use Rattle.lists.proofs.Lists.{mem-below}
 use Rattle.recurrence.specs.Runs.{after, met}
 use Rattle.policy.specs.declared.Policy.{Policy}
 use Rattle.policy.specs.Policies.{legal, edges, edgeOf, source, targetOf, edgeColours}
+use Rattle.policy.proofs.Laws.{legal-target, source-edge, edge-lt}
 use Rattle.graph.specs.Cycles.{Path}
 use Rattle.decomposition.specs.Forest.{forest}
 use Rattle.builder.specs.Automaton.{built, stateAt, number, leafAfter, priorityAfter, rowTarget, rowPriority}
@@ -38,9 +39,6 @@ pub record Read (p : Policy) (targets priorities w : List ℕ) (r : Run) (v l : 
   pub some : any (λ (a : ℕ). ltb a (p .letters)) w ≡ true → taken ≢ []
 
 module _
-    (legal-target : (p : Policy) → legal p ≡ true → (e : ℕ) → e < edges p → targetOf p e < p .states)
-    (source-edge : (p : Policy) → legal p ≡ true → (v a : ℕ) → a < p .letters → source p (edgeOf p v a) ≡ v)
-    (edge-lt : (p : Policy) (v a : ℕ) → v < p .states → a < p .letters → edgeOf p v a < edges p)
     (leaf-after-good : (p : Policy) → legal p ≡ true → (e : ℕ) → e < edges p → (l : ℕ) → Good (forest p) p (source p e) l → Good (forest p) p (targetOf p e) (leafAfter (forest p) p e l))
     (built-good : (p : Policy) → legal p ≡ true → (s : ℕ) → s < length (built p) → (stateAt p s .state < p .states) × Good (forest p) p (stateAt p s .state) (stateAt p s .leaf))
     (number-at : (p : Policy) → legal p ≡ true → (v l : ℕ) → v < p .states → Good (forest p) p v l → (number p v l < length (built p)) × (stateAt p (number p v l) .state ≡ v) × (stateAt p (number p v l) .leaf ≡ l))

@@ -1,2 +1,4 @@
 pub mod Known
 pub mod Joint
+pub mod Period
+pub mod Demand3
