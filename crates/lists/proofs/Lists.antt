@@ -1,12 +1,16 @@
--- Membership in a filtered list, in a list of numbers below n, at a position; what `any` and `all` say of the members. Assumes nothing.
-use Prim.Native.Nat.{ℕ, zero, suc, _+_, _≤_, _<_}
+-- Membership in a filtered list, in a list of numbers below n, at a position; what `any` and `all` say of the members; places of lists one after the other.
+-- Assumes nothing.
+use Prim.Native.Nat.{ℕ, zero, suc, _+_, _*_, _≤_, _<_}
 use native.Mathlib.Omega.{arith}
 use native.Mathlib.Decide.{ℕ-discrete}
-use mathlib.Core.Path.{_≡_, refl, sym, ap, _∙_, subst}
+use native.Mathlib.Nat.{zero-mul, suc-mul}
+use mathlib.Core.Path.{_≡_, refl, sym, ap, ap₂, _∙_, subst}
 use mathlib.Core.Logic.{_⊎_, inl, inr, _≢_}
 use mathlib.Core.Bool.{Bool, true, false, not, _&&_, _||_, cond, true≢false, false≢true}
-use mathlib.Core.List.{List, [], _∷_, _++_, map, List·Memᴰ, List·Memᴰ·head, List·Memᴰ·tail, List·Memᴰ·cases-cons, Memᴰ·append-left, Memᴰ·append-right, List·Memᴰ·append-cases, List·Memᴰ·not-nil, List·Memᴰ·eq-of-singleton, Memᴰ·cast}
-use lib.ListN.{length, getD}
+use mathlib.Core.List.{List, [], _∷_, _++_, map, map-append, append-nil, append-assoc, List·Memᴰ, List·Memᴰ·head, List·Memᴰ·tail, List·Memᴰ·cases-cons, Memᴰ·append-left, Memᴰ·append-right, List·Memᴰ·append-cases, List·Memᴰ·not-nil, List·Memᴰ·eq-of-singleton, Memᴰ·cast}
+use lib.Arith.{digits-lt}
+use lib.ListN.{length, getD, length-append, length-map, List·getD-append}
+use lib.Seq.{getD-at, getD-append-add}
 use Rattle.lists.specs.Lists.{any, all, filter, firstOr, flat, position, below, Ascending}
 use Rattle.lists.proofs.Bools.{test, and-l, and-r, or-right}
 
@@ -152,3 +156,41 @@ ascending-append (x ∷ l) r a b h = (λ y m. go y (List·Memᴰ·append-cases l
 pub ascending-below : (n : ℕ) → Ascending (below n)
 ascending-below zero = tt
 ascending-below (suc n) = ascending-append (below n) (n ∷ []) (ascending-below n) (λ y m. absurd (List·Memᴰ·not-nil m), tt) (λ x y a b. omega (arith, below-lt n x a, List·Memᴰ·eq-of-singleton b))
+
+-- ---- numbers below n, and lists of one length one after the other
+pub length-below : (n : ℕ) → length (below n) ≡ n
+length-below zero = refl
+length-below (suc n) = length-append (below n) (n ∷ []) ∙ omega (arith, length-below n)
+
+module _ {A : Type 0} where
+  pub getD-map-below : (g : ℕ → A) (n i : ℕ) (d : A) → i < n → getD (map g (below n)) i d ≡ g i
+  getD-map-below g zero i d h = absurd (omega arith)
+  getD-map-below g (suc n) i d h = ap (λ (l : List A). getD l i d) (map-append g (below n) (n ∷ [])) ∙ go (ℕ-discrete i n) (getD-map-below g n i d)
+    where
+      long : length (map g (below n)) ≡ n
+      long = length-map (below n) g ∙ length-below n
+
+      go : Dec (i ≡ n) → (i < n → getD (map g (below n)) i d ≡ g i) → getD (map g (below n) ++ (g n ∷ [])) i d ≡ g i
+      go (yes e) ih = getD-at (map g (below n)) (g n) [] d i (long ∙ sym e) ∙ ap g (sym e)
+      go (no k) ih = List·getD-append (map g (below n)) (g n ∷ []) d i (omega (arith, long)) ∙ ih (omega arith)
+
+  flat-last : (f : ℕ → List A) (l : List ℕ) (n : ℕ) → flat (map f (l ++ (n ∷ []))) ≡ flat (map f l) ++ f n
+  flat-last f [] n = append-nil (f n)
+  flat-last f (x ∷ l) n = ap (λ (r : List A). f x ++ r) (flat-last f l n) ∙ sym (append-assoc (f x) (flat (map f l)) (f n))
+
+  module _ (f : ℕ → List A) (k : ℕ) (long : (i : ℕ) → length (f i) ≡ k) where
+    pub length-pieces : (n : ℕ) → length (flat (map f (below n))) ≡ n * k
+    length-pieces zero = sym (zero-mul k)
+    length-pieces (suc n) =
+        ap length (flat-last f (below n) n) ∙ length-append (flat (map f (below n))) (f n) ∙ ap₂ _+_ (length-pieces n) (long n) ∙ sym (suc-mul n k)
+
+    -- place j of the i-th list
+    pub getD-pieces : (n i j : ℕ) (d : A) → i < n → j < k → getD (flat (map f (below n))) (i * k + j) d ≡ getD (f i) j d
+    getD-pieces zero i j d h l = absurd (omega arith)
+    getD-pieces (suc n) i j d h l = ap (λ (z : List A). getD z (i * k + j) d) (flat-last f (below n) n) ∙ go (ℕ-discrete i n) (getD-pieces n i j d)
+      where
+        go : Dec (i ≡ n) → (i < n → j < k → getD (flat (map f (below n))) (i * k + j) d ≡ getD (f i) j d) → getD (flat (map f (below n)) ++ f n) (i * k + j) d ≡ getD (f i) j d
+        go (yes e) ih =
+            ap (λ (z : ℕ). getD (flat (map f (below n)) ++ f n) (z + j) d) (ap (λ (z : ℕ). z * k) e ∙ sym (length-pieces n))
+            ∙ getD-append-add (flat (map f (below n))) (f n) j d ∙ ap (λ (z : ℕ). getD (f z) j d) (sym e)
+        go (no q) ih = List·getD-append (flat (map f (below n))) (f n) d (i * k + j) (subst (λ (z : ℕ). i * k + j < z) (sym (length-pieces n)) (digits-lt (omega arith) l)) ∙ ih (omega arith) l
