@@ -18,10 +18,11 @@ use Rattle.graph.specs.Cycles.{contains}
 use Rattle.graph.proofs.Cycles.{some-contains, contains-inside, cycle-target}
 use Rattle.decomposition.specs.Forest.{Node, isRoot, node, chain, childOf, inRoot}
 use Rattle.decomposition.specs.Laws.{ForestLaws, maskAt, rootAt}
+use Rattle.decomposition.proofs.Chains.{chain-self, chain-lt, chain-trans, chain-top}
 use Rattle.builder.specs.Automaton.{orElse, next, deepest, lead, holds, kids, isLeaf, leaves, firstLeaf, entered, firstLeafBelow, leafAfter}
 use Rattle.builder.proofs.EdgeRuns.{Good}
 use Rattle.builder.proofs.Next.{first-cases, first-mem, next-mem}
-use Rattle.builder.proofs.Branch.{chain-self, chain-in, chain-trans, chain-inside, root-of, child-above, child-lt, deepest-mem, deepest-has}
+use Rattle.builder.proofs.Branch.{chain-inside, child-above, child-lt, deepest-mem, deepest-has}
 
 module _ (ns : List Node) (p : Policy) where
   -- ---- the children that contain a state
@@ -129,18 +130,20 @@ module _ (ns : List Node) (p : Policy) where
     pub node-target : contains p (targetOf p e) (maskAt ns (deepest ns e l)) ≡ true
 
 module _ (p : Policy) (ns : List Node) (laws : ForestLaws p ns) where
+  open ForestLaws laws using (parent-lt, level-up)
+
   -- ---- down to a leaf
   under-to : (v k n : ℕ) → n < length ns → length ns ≤ n + k → contains p v (maskAt ns n) ≡ true → (l : ℕ) × LeafUnder ns p v n l
   under-to v zero n h b t = absurd (omega arith)
   under-to v (suc k) n h b t = go (test (isLeaf ns p v n)) (under-to v k)
     where
       go : (isLeaf ns p v n ≡ true) ⊎ (isLeaf ns p v n ≡ false) → ((j : ℕ) → j < length ns → length ns ≤ j + k → contains p v (maskAt ns j) ≡ true → (l : ℕ) × LeafUnder ns p v j l) → (l : ℕ) × LeafUnder ns p v n l
-      go (inl u) ih = (n, record { in-range = h; is-leaf = u; under = chain-self p ns laws n h })
+      go (inl u) ih = (n, record { in-range = h; is-leaf = u; under = chain-self ns n })
       go (inr u) ih =
           let r = inner-kid ns p v n t u in
           let c = kid ns p v n (r .0) (r .1) in
           let q = ih (r .0) (c .0) (omega (arith, child-lt p ns laws n (r .0) (c .0) (c .1))) (c .2) in
-          (q .0, record { in-range = q .1 .in-range; is-leaf = q .1 .is-leaf; under = chain-trans p ns laws n (r .0) (q .0) (q .1 .in-range) (child-above p ns laws n (r .0) (c .0) (c .1)) (q .1 .under) })
+          (q .0, record { in-range = q .1 .in-range; is-leaf = q .1 .is-leaf; under = chain-trans ns parent-lt level-up (q .0) (r .0) n (q .1 .in-range) (q .1 .under) (child-above p ns laws n (r .0) (c .0) (c .1)) })
 
   -- a node that contains v has a leaf of v at or below it
   pub leaf-under : (v n : ℕ) → n < length ns → contains p v (maskAt ns n) ≡ true → (l : ℕ) × LeafUnder ns p v n l
@@ -183,32 +186,24 @@ module _ (p : Policy) (ns : List Node) (laws : ForestLaws p ns) where
       go [] = List·Memᴰ·head refl
       go (x ∷ xs) = List·Memᴰ·head refl
 
+  -- the first leaf of w at or below n is one
   pub first-below : (w n : ℕ) → n < length ns → contains p w (maskAt ns n) ≡ true → LeafUnder ns p w n (firstLeafBelow ns p w n)
   unfolding firstLeafBelow
-  first-below w n h t = record { in-range = s .0; is-leaf = s .1; under = Memᴰ·cast (eqb≡ n (z .0) (z .2)) (z .1) }
+  first-below w n h t =
+      let r = leaf-under w n h t in
+      go (filter-mem T (leaves ns p w) x (first-mem n (filter T (leaves ns p w)) (r .0) (mem-filter T (leaves ns p w) (r .0) (of-leaf ns p w (r .0) (r .1 .in-range) (r .1 .is-leaf)) (some-any (eqb n) (chain ns (r .0)) n (r .1 .under) (≡eqb n n refl)))))
     where
       T : ℕ → Bool
-      T l = any (eqb n) (chain ns l)
+      T = λ l. any (eqb n) (chain ns l)
 
       x : ℕ
       x = firstOr n (filter (λ l. any (eqb n) (chain ns l)) (leaves ns p w))
 
-      r : (l : ℕ) × LeafUnder ns p w n l
-      r = leaf-under w n h t
-
-      m : List·Memᴰ (firstOr n (filter (λ l. any (eqb n) (chain ns l)) (leaves ns p w))) (filter (λ l. any (eqb n) (chain ns l)) (leaves ns p w))
-      m =
-          first-mem n (filter (λ l. any (eqb n) (chain ns l)) (leaves ns p w)) (r .0)
-          (mem-filter (λ l. any (eqb n) (chain ns l)) (leaves ns p w) (r .0) (of-leaf ns p w (r .0) (r .1 .in-range) (r .1 .is-leaf)) (some-any (eqb n) (chain ns (r .0)) n (r .1 .under) (≡eqb n n refl)))
-
-      f : List·Memᴰ (firstOr n (filter (λ l. any (eqb n) (chain ns l)) (leaves ns p w))) (leaves ns p w) × (any (eqb n) (chain ns (firstOr n (filter (λ l. any (eqb n) (chain ns l)) (leaves ns p w)))) ≡ true)
-      f = filter-mem (λ l. any (eqb n) (chain ns l)) (leaves ns p w) (firstOr n (filter (λ l. any (eqb n) (chain ns l)) (leaves ns p w))) m
-
-      s : (firstOr n (filter (λ l. any (eqb n) (chain ns l)) (leaves ns p w)) < length ns) × (isLeaf ns p w (firstOr n (filter (λ l. any (eqb n) (chain ns l)) (leaves ns p w))) ≡ true)
-      s = leaf-of ns p w (firstOr n (filter (λ l. any (eqb n) (chain ns l)) (leaves ns p w))) (f .0)
-
-      z : (y : ℕ) × List·Memᴰ y (chain ns (firstOr n (filter (λ l. any (eqb n) (chain ns l)) (leaves ns p w)))) × (eqb n y ≡ true)
-      z = any-some (eqb n) (chain ns (firstOr n (filter (λ l. any (eqb n) (chain ns l)) (leaves ns p w)))) (f .1)
+      go : List·Memᴰ x (leaves ns p w) × (any (eqb n) (chain ns x) ≡ true) → LeafUnder ns p w n x
+      go f =
+          let s = leaf-of ns p w x (f .0) in
+          let z = any-some (eqb n) (chain ns x) (f .1) in
+          record { in-range = s .0; is-leaf = s .1; under = Memᴰ·cast (eqb≡ n (z .0) (z .2)) (z .1) }
 
   -- ---- one edge
   pub meets : (e l : ℕ) → e < edges p → inRoot ns e ≡ true → Good ns p (source p e) l → Meets ns p e l
@@ -217,14 +212,14 @@ module _ (p : Policy) (ns : List Node) (laws : ForestLaws p ns) where
       absurd (true≢false (sym (some-contains p (source p e) (maskAt ns (r .0)) e he (r .3) refl) ∙ g .1 (r .0) (r .1)))
   meets e l he t (inl g) =
       let r = root-with ns p e t in
-      let s = root-of p ns laws l (g .0) in
+      let s = chain-top ns parent-lt level-up l (g .0) in
       let same : s .0 ≡ r .0 =
-            laws .apart (s .0) (r .0) (s .1) (r .1) (s .2) (r .2) (source p e)
-            (contains-inside p (source p e) (maskAt ns l) (maskAt ns (s .0)) (chain-inside p ns laws (s .0) l (g .0) (s .3)) (leaf-contains ns p (source p e) l (g .1)))
+            laws .apart (s .0) (r .0) (chain-lt ns parent-lt level-up l (s .0) (g .0) (s .1)) (r .1) (s .2) (r .2) (source p e)
+            (contains-inside p (source p e) (maskAt ns l) (maskAt ns (s .0)) (chain-inside p ns laws (s .0) l (g .0) (s .1)) (leaf-contains ns p (source p e) l (g .1)))
             (some-contains p (source p e) (maskAt ns (r .0)) e he (r .3) refl) in
-      let up : List·Memᴰ (r .0) (chain ns l) = Memᴰ·cast (sym same) (s .3) in
-      let m = deepest-mem p ns laws e l (g .0) in
-      let i = chain-in p ns laws (deepest ns e l) l (g .0) m in
+      let up : List·Memᴰ (r .0) (chain ns l) = Memᴰ·cast (sym same) (s .1) in
+      let m = deepest-mem p ns laws e l in
+      let i = chain-lt ns parent-lt level-up l (deepest ns e l) (g .0) m in
       let k = deepest-has p ns laws e l (r .0) up (r .3) in
       record { leaf-range = g .0; leaf-source = g .1; node-range = i; node-above = m; node-has = k; node-target = cycle-target p (maskAt ns (deepest ns e l)) e (laws .cycle (deepest ns e l) i) k }
 
@@ -244,14 +239,14 @@ module _ (p : Policy) (ns : List Node) (laws : ForestLaws p ns) where
       go : (isLeaf ns p (targetOf p e) (deepest ns e l) ≡ true) ⊎ (isLeaf ns p (targetOf p e) (deepest ns e l) ≡ false) → LeafUnder ns p (targetOf p e) (deepest ns e l) (leafAfter ns p e l)
       go (inl u) =
           subst (LeafUnder ns p (targetOf p e) (deepest ns e l)) (sym (after-at ns p e l t u))
-          (record { in-range = g .node-range; is-leaf = u; under = chain-self p ns laws (deepest ns e l) (g .node-range) })
+          (record { in-range = g .node-range; is-leaf = u; under = chain-self ns (deepest ns e l) })
       go (inr u) =
           let r = after-entered e l t g u in
           let c = kid ns p (targetOf p e) (deepest ns e l) (entered ns p (targetOf p e) (deepest ns e l) l) (r .0) in
           record {
             in-range = r .1 .in-range;
             is-leaf = r .1 .is-leaf;
-            under = chain-trans p ns laws (deepest ns e l) (entered ns p (targetOf p e) (deepest ns e l) l) (leafAfter ns p e l) (r .1 .in-range) (child-above p ns laws (deepest ns e l) (entered ns p (targetOf p e) (deepest ns e l) l) (c .0) (c .1)) (r .1 .under);
+            under = chain-trans ns parent-lt level-up (leafAfter ns p e l) (entered ns p (targetOf p e) (deepest ns e l) l) (deepest ns e l) (r .1 .in-range) (r .1 .under) (child-above p ns laws (deepest ns e l) (entered ns p (targetOf p e) (deepest ns e l) l) (c .0) (c .1));
           }
 
   -- an edge leads from a leaf of its source to a leaf of its target
