@@ -1,4 +1,5 @@
 pub mod Branch
+pub mod Closed
 pub mod EdgeRuns
 pub mod Leaves
 pub mod Next
