@@ -2,3 +2,4 @@ pub mod Known
 pub mod Joint
 pub mod Period
 pub mod Demand3
+pub mod DefinedRows
