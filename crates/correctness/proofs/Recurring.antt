@@ -1,0 +1,36 @@
+-- Which priorities recur over the rows can be computed: they are what the window of as many rounds as there are built states holds. So the least of
+-- the window is the least recurring priority.
+use Prim.Native.Nat.{ℕ, _≤_, _<_}
+use mathlib.Core.Path.{_≡_, refl}
+use mathlib.Core.Logic.{_↔_}
+use mathlib.Core.Bool.{Bool, true}
+use mathlib.Core.List.{List, [], _∷_, List·Memᴰ}
+use lib.ListN.{length}
+use Rattle.recurrence.specs.Runs.{after, window}
+use Rattle.recurrence.proofs.Runs.{numbered-recurring}
+use Rattle.policy.specs.declared.Policy.{Policy}
+use Rattle.policy.specs.Policies.{legal, edges, source, targetOf}
+use Rattle.decomposition.specs.Forest.{forest}
+use Rattle.builder.specs.Automaton.{built, stateAt, number, leafAfter}
+use Rattle.builder.proofs.EdgeRuns.{Good}
+use Rattle.running.specs.declared.Run.{Run}
+use Rattle.running.specs.Running.{rowStep, rowMeets}
+use Rattle.correctness.specs.Demand3.{Rows, RecurringPriority}
+use Rattle.correctness.proofs.Joint.{stands-after}
+
+module _
+    (leaf-after-good : (p : Policy) → legal p ≡ true → (e : ℕ) → e < edges p → (l : ℕ) → Good (forest p) p (source p e) l → Good (forest p) p (targetOf p e) (leafAfter (forest p) p e l))
+    (built-good : (p : Policy) → legal p ≡ true → (s : ℕ) → s < length (built p) → (stateAt p s .state < p .states) × Good (forest p) p (stateAt p s .state) (stateAt p s .leaf))
+    (number-at : (p : Policy) → legal p ≡ true → (v l : ℕ) → v < p .states → Good (forest p) p v l → (number p v l < length (built p)) × (stateAt p (number p v l) .state ≡ v) × (stateAt p (number p v l) .leaf ≡ l))
+    where
+  module _ (p : Policy) (ok : legal p ≡ true) (targets priorities : List ℕ) (rows : Rows p targets priorities) where
+    -- a letter leads from a built state to a built state
+    pub built-step : (r : Run) (a : ℕ) → r .state < length (built p) → rowStep (p .letters) targets priorities r a .state < length (built p)
+    unfolding after
+    built-step r a h = stands-after leaf-after-good built-good number-at p ok targets priorities rows (a ∷ []) r (stateAt p (r .state) .state) (record { is-built = h; over = refl }) .is-built
+
+    pub recurring-priorities : (stem loop : List ℕ) (r : Run) → r .state < length (built p)
+        → (k : ℕ) → RecurringPriority p targets priorities stem loop r k ↔ List·Memᴰ k (window (rowStep (p .letters) targets priorities) (rowMeets (p .letters) targets priorities) (length (built p)) stem loop r)
+    recurring-priorities stem loop r h k =
+        numbered-recurring (rowStep (p .letters) targets priorities) (rowMeets (p .letters) targets priorities) (λ (r : Run). r .state) (λ (s : ℕ). record { state = s }) (λ r. refl) (λ s. refl)
+          (length (built p)) built-step stem loop r h k
