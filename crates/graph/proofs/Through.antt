@@ -42,13 +42,13 @@ none-or-some n m lt = go (test (any (has m) (below n)))
 
 module _ (p : Policy) where
   -- paths of m's edges
-  abbrev Leads : ℕ → ℕ → ℕ → Type 0
+  abbrev pub Leads : ℕ → ℕ → ℕ → Type 0
   Leads m u v = (w : List ℕ) × Path p (members (edges p) m) u w v
 
-  leads-join : (m u v z : ℕ) → Leads m u v → Leads m v z → Leads m u z
+  pub leads-join : (m u v z : ℕ) → Leads m u v → Leads m v z → Leads m u z
   leads-join m u v z a b = (a .0 ++ b .0, path-join p (members (edges p) m) u (a .0) v (b .0) z (a .1) (b .1))
 
-  leads-edge : (m e : ℕ) → e < edges p → has m e ≡ true → Leads m (source p e) (targetOf p e)
+  pub leads-edge : (m e : ℕ) → e < edges p → has m e ≡ true → Leads m (source p e) (targetOf p e)
   leads-edge m e l t = (e ∷ [], (refl, has-members (edges p) m e l t, refl))
 
   leads-up : (a b u v : ℕ) → inside a b ≡ true → Leads a u v → Leads b u v

@@ -1,0 +1,273 @@
+-- The table of what each state reaches: after the rows are joined at every state, row v is what v reaches. Joining at k leaves each row
+-- closed by way of the states up to k, so that no round has to be repeated. Assumes nothing.
+use Prim.Native.Nat.{ℕ, zero, suc, _+_, _*_, _%_, _≤_, _<_}
+use native.Mathlib.Omega.{arith}
+use native.Mathlib.Decide.{ℕ-discrete}
+use native.Mathlib.Nat.{mod-lt, div-add-mod'}
+use native.Mathlib.Numerals.{add-one}
+use mathlib.Core.Path.{_≡_, refl, sym, ap, _∙_, subst}
+use mathlib.Core.Logic.{_⊎_, inl, inr, _≢_}
+use mathlib.Core.Bool.{Bool, true, false, _&&_, _||_, cond, false≢true}
+use mathlib.Core.List.{List, [], _∷_, List·Memᴰ}
+use lib.Dec.{eqb}
+use lib.Bits.{bitOr}
+use lib.ListN.{length, getD, set, replicate, length-set, length-replicate}
+use lib.Seq.{getD-set-same, getD-set-other}
+use Rattle.lists.proofs.Bools.{test, or-cases, or-left, or-right, eqb≡, ≡eqb, bool-ext}
+use Rattle.masks.specs.Masks.{has, insert, members}
+use Rattle.masks.proofs.Bits.{has-none, has-or, has-insert, mask-ext}
+use Rattle.policy.specs.declared.Policy.{Policy}
+use Rattle.policy.specs.Policies.{edges, edgeOf, source, targetOf, legal}
+use Rattle.policy.proofs.Laws.{Counts, legal-counts, legal-target, source-edge, edge-lt}
+use Rattle.graph.specs.Cycles.{Path, reach}
+use Rattle.graph.specs.Through.{Rows, withEdge, edgeRow, edgeRows, joinRow, joinRows, joinedRows}
+use Rattle.graph.proofs.Paths.{members-has, members-lt, reach-sound, reach-complete}
+use Rattle.graph.proofs.Through.{Leads, leads-join, leads-edge}
+
+-- ---- one more member
+insert-cases : (m t e : ℕ) → has (insert m t) e ≡ true → (has m e ≡ true) ⊎ (t ≡ e)
+insert-cases m t e h = go (or-cases (has m e) (eqb t e) (sym (has-insert m t e) ∙ h))
+  where
+    go : (has m e ≡ true) ⊎ (eqb t e ≡ true) → (has m e ≡ true) ⊎ (t ≡ e)
+    go (inl k) = inl k
+    go (inr k) = inr (eqb≡ t e k)
+
+insert-keeps : (m t e : ℕ) → has m e ≡ true → has (insert m t) e ≡ true
+insert-keeps m t e h = has-insert m t e ∙ or-left (has m e) (eqb t e) h
+
+insert-adds : (m t : ℕ) → has (insert m t) t ≡ true
+insert-adds m t = has-insert m t t ∙ or-right (has m t) (eqb t t) (≡eqb t t refl)
+
+-- ---- a row joined at k
+join-cases : (row k pivot x : ℕ) → has (joinRow row k pivot) x ≡ true → (has row x ≡ true) ⊎ ((has row k ≡ true) × (has pivot x ≡ true))
+unfolding joinRow
+join-cases row k pivot x h = go (test (has row k))
+  where
+    or : has row k ≡ true → (has row x ≡ true) ⊎ (has pivot x ≡ true) → (has row x ≡ true) ⊎ ((has row k ≡ true) × (has pivot x ≡ true))
+    or t (inl q) = inl q
+    or t (inr q) = inr (t, q)
+
+    go : (has row k ≡ true) ⊎ (has row k ≡ false) → (has row x ≡ true) ⊎ ((has row k ≡ true) × (has pivot x ≡ true))
+    go (inl t) = or t (or-cases (has row x) (has pivot x) (sym (has-or x row pivot) ∙ (rw t at h)))
+    go (inr f) = inl (rw f at h)
+
+join-keeps : (row k pivot x : ℕ) → has row x ≡ true → has (joinRow row k pivot) x ≡ true
+unfolding joinRow
+join-keeps row k pivot x h = go (has row k)
+  where
+    go : (b : Bool) → has (cond b (bitOr row pivot) row) x ≡ true
+    go true = has-or x row pivot ∙ or-left (has row x) (has pivot x) h
+    go false = h
+
+join-adds : (row k pivot x : ℕ) → has row k ≡ true → has pivot x ≡ true → has (joinRow row k pivot) x ≡ true
+unfolding joinRow
+join-adds row k pivot x t h = rw t (has-or x row pivot ∙ or-right (has row x) (has pivot x) h)
+
+-- ---- joined at each state in turn
+-- f k u: row u, joined at the states below k
+module _ (n : ℕ) (f : ℕ → ℕ → ℕ) (next : (k u : ℕ) → k < n → u < n → f (suc k) u ≡ joinRow (f k u) k (f k k)) where
+  turn-keeps : (k u x : ℕ) → k < n → u < n → has (f k u) x ≡ true → has (f (suc k) u) x ≡ true
+  turn-keeps k u x lk lu h = ap (λ (r : ℕ). has r x) (next k u lk lu) ∙ join-keeps (f k u) k (f k k) x h
+
+  turn-adds : (k u x : ℕ) → k < n → u < n → has (f k u) k ≡ true → has (f k k) x ≡ true → has (f (suc k) u) x ≡ true
+  turn-adds k u x lk lu t h = ap (λ (r : ℕ). has r x) (next k u lk lu) ∙ join-adds (f k u) k (f k k) x t h
+
+  turn-cases : (k u x : ℕ) → k < n → u < n → has (f (suc k) u) x ≡ true → (has (f k u) x ≡ true) ⊎ ((has (f k u) k ≡ true) × (has (f k k) x ≡ true))
+  turn-cases k u x lk lu h = join-cases (f k u) k (f k k) x (sym (ap (λ (r : ℕ). has r x) (next k u lk lu)) ∙ h)
+
+  pub turns-keep : (k u x : ℕ) → k ≤ n → u < n → has (f 0 u) x ≡ true → has (f k u) x ≡ true
+  turns-keep zero u x l lu h = h
+  turns-keep (suc k) u x l lu h = turn-keeps k u x l lu (turns-keep k u x (omega arith) lu h)
+
+  -- the rows are closed by way of the states below k
+  pub turns-closed : (k w u x : ℕ) → k ≤ n → w < k → u < n → has (f k u) w ≡ true → has (f k w) x ≡ true → has (f k u) x ≡ true
+  turns-closed zero w u x l lw lu a b = absurd (omega arith)
+  turns-closed (suc k) w u x l lw lu a b = go (ℕ-discrete w k) (λ (w u x : ℕ). turns-closed k w u x (omega arith))
+    where
+      go : Dec (w ≡ k) → ((w u x : ℕ) → w < k → u < n → has (f k u) w ≡ true → has (f k w) x ≡ true → has (f k u) x ≡ true) → has (f (suc k) u) x ≡ true
+      go (yes q) ih = at-k (turn-cases k u k l lu (subst (λ (z : ℕ). has (f (suc k) u) z ≡ true) q a)) (turn-cases k k x l l (subst (λ (z : ℕ). has (f (suc k) z) x ≡ true) q b))
+        where
+          at-k : (has (f k u) k ≡ true) ⊎ ((has (f k u) k ≡ true) × (has (f k k) k ≡ true)) → (has (f k k) x ≡ true) ⊎ ((has (f k k) k ≡ true) × (has (f k k) x ≡ true)) → has (f (suc k) u) x ≡ true
+          at-k (inl s) (inl t) = turn-adds k u x l lu s t
+          at-k (inl s) (inr t) = turn-adds k u x l lu s (t .1)
+          at-k (inr s) (inl t) = turn-adds k u x l lu (s .0) t
+          at-k (inr s) (inr t) = turn-adds k u x l lu (s .0) (t .1)
+      go (no q) ih = below-k (turn-cases k u w l lu a) (turn-cases k w x l (omega arith) b)
+        where
+          wk : w < k
+          wk = omega arith
+
+          below-k : (has (f k u) w ≡ true) ⊎ ((has (f k u) k ≡ true) × (has (f k k) w ≡ true)) → (has (f k w) x ≡ true) ⊎ ((has (f k w) k ≡ true) × (has (f k k) x ≡ true)) → has (f (suc k) u) x ≡ true
+          below-k (inl s) (inl t) = turn-keeps k u x l lu (ih w u x wk lu s t)
+          below-k (inl s) (inr t) = turn-adds k u x l lu (ih w u k wk lu s (t .0)) (t .1)
+          below-k (inr s) (inl t) = turn-adds k u x l lu (s .0) (ih w k x wk l (s .1) t)
+          below-k (inr s) (inr t) = turn-adds k u x l lu (s .0) (t .1)
+
+  -- what the rows have is in any transitive relation that has the first rows
+  pub turns-sound : (R : ℕ → ℕ → Type 0) → ((u v z : ℕ) → R u v → R v z → R u z) → ((u x : ℕ) → u < n → has (f 0 u) x ≡ true → R u x)
+      → (k u x : ℕ) → k ≤ n → u < n → has (f k u) x ≡ true → R u x
+  turns-sound R trans first zero u x l lu h = first u x lu h
+  turns-sound R trans first (suc k) u x l lu h = go (turn-cases k u x l lu h) (λ (u x : ℕ). turns-sound R trans first k u x (omega arith))
+    where
+      go : (has (f k u) x ≡ true) ⊎ ((has (f k u) k ≡ true) × (has (f k k) x ≡ true)) → ((u x : ℕ) → u < n → has (f k u) x ≡ true → R u x) → R u x
+      go (inl s) ih = ih u x lu s
+      go (inr s) ih = trans u k x (ih u k lu (s .0)) (ih k x l (s .1))
+
+-- ---- the rows as a list
+join-length : (rows : List ℕ) (k pivot n : ℕ) → length (joinRows rows k pivot n) ≡ length rows
+unfolding joinRows
+join-length rows k pivot zero = refl
+join-length rows k pivot (suc n) = simp length-set (join-length rows k pivot n)
+
+join-after : (rows : List ℕ) (k pivot n u : ℕ) → n ≤ u → getD (joinRows rows k pivot n) u 0 ≡ getD rows u 0
+unfolding joinRows
+join-after rows k pivot zero u l = refl
+join-after rows k pivot (suc n) u l = getD-set-other (joinRows rows k pivot n) n u _ 0 (λ q. omega arith) ∙ join-after rows k pivot n u (omega arith)
+
+join-at : (rows : List ℕ) (k pivot n u : ℕ) → n ≤ length rows → u < n → getD (joinRows rows k pivot n) u 0 ≡ joinRow (getD rows u 0) k pivot
+unfolding joinRows
+join-at rows k pivot zero u l lu = absurd (omega arith)
+join-at rows k pivot (suc n) u l lu = go (ℕ-discrete u n) (join-at rows k pivot n u (omega arith))
+  where
+    r : List ℕ
+    r = joinRows rows k pivot n
+
+    go : Dec (u ≡ n) → (u < n → getD (joinRows rows k pivot n) u 0 ≡ joinRow (getD rows u 0) k pivot) → getD (joinRows rows k pivot (suc n)) u 0 ≡ joinRow (getD rows u 0) k pivot
+    go (yes q) ih =
+        ap (λ (z : ℕ). getD (joinRows rows k pivot (suc n)) z 0) q ∙ getD-set-same r n (joinRow (getD r n 0) k pivot) 0 (omega (arith, join-length rows k pivot n))
+        ∙ ap (λ (z : ℕ). joinRow z k pivot) (join-after rows k pivot n n (omega arith) ∙ ap (λ (z : ℕ). getD rows z 0) (sym q))
+    go (no q) ih = getD-set-other r n u (joinRow (getD r n 0) k pivot) 0 q ∙ ih (omega arith)
+
+joined-length : (rows : List ℕ) (n k : ℕ) → length (joinedRows rows n k) ≡ length rows
+unfolding joinedRows
+joined-length rows n zero = refl
+joined-length rows n (suc k) = join-length (joinedRows rows n k) k (getD (joinedRows rows n k) k 0) n ∙ joined-length rows n k
+
+joined-next : (rows : List ℕ) (n : ℕ) → n ≤ length rows → (k u : ℕ) → u < n
+    → getD (joinedRows rows n (suc k)) u 0 ≡ joinRow (getD (joinedRows rows n k) u 0) k (getD (joinedRows rows n k) k 0)
+unfolding joinedRows
+joined-next rows n l k u lu = join-at (joinedRows rows n k) k (getD (joinedRows rows n k) k 0) n u (omega (arith, joined-length rows n k)) lu
+
+module _ (p : Policy) (m : ℕ) where
+  edge-rows-length : (n : ℕ) → length (edgeRows p m n) ≡ 16
+  unfolding edgeRows
+  edge-rows-length zero = length-replicate {A = ℕ} 16 0
+  edge-rows-length (suc n) = simp length-set (edge-rows-length n)
+
+  edge-rows-at : (n v : ℕ) → n ≤ 16 → v < n → getD (edgeRows p m n) v 0 ≡ edgeRow p m v (p .letters)
+  unfolding edgeRows
+  edge-rows-at zero v l lv = absurd (omega arith)
+  edge-rows-at (suc n) v l lv = go (ℕ-discrete v n) (edge-rows-at n v (omega arith))
+    where
+      go : Dec (v ≡ n) → (v < n → getD (edgeRows p m n) v 0 ≡ edgeRow p m v (p .letters)) → getD (edgeRows p m (suc n)) v 0 ≡ edgeRow p m v (p .letters)
+      go (yes q) ih =
+          ap (λ (z : ℕ). getD (edgeRows p m (suc n)) z 0) q ∙ getD-set-same (edgeRows p m n) n (edgeRow p m n (p .letters)) 0 (omega (arith, edge-rows-length n))
+          ∙ ap (λ (z : ℕ). edgeRow p m z (p .letters)) (sym q)
+      go (no q) ih = getD-set-other (edgeRows p m n) n v (edgeRow p m n (p .letters)) 0 q ∙ ih (omega arith)
+
+  -- ---- a first row: the state, and the targets of its edges in m
+  edge-row-self : (v a : ℕ) → has (edgeRow p m v a) v ≡ true
+  unfolding edgeRow withEdge
+  edge-row-self v zero = insert-adds 0 v
+  edge-row-self v (suc a) = go (has m (edgeOf p v a)) (edge-row-self v a)
+    where
+      go : (b : Bool) → has (edgeRow p m v a) v ≡ true → has (cond b (insert (edgeRow p m v a) (targetOf p (edgeOf p v a))) (edgeRow p m v a)) v ≡ true
+      go true h = insert-keeps (edgeRow p m v a) (targetOf p (edgeOf p v a)) v h
+      go false h = h
+
+  edge-row-has : (v a b : ℕ) → b < a → has m (edgeOf p v b) ≡ true → has (edgeRow p m v a) (targetOf p (edgeOf p v b)) ≡ true
+  unfolding edgeRow withEdge
+  edge-row-has v zero b l t = absurd (omega arith)
+  edge-row-has v (suc a) b l t = go (ℕ-discrete b a) (edge-row-has v a b)
+    where
+      e : ℕ
+      e = edgeOf p v b
+
+      keep : (c : Bool) (x : ℕ) → has (edgeRow p m v a) (targetOf p e) ≡ true → has (cond c (insert (edgeRow p m v a) x) (edgeRow p m v a)) (targetOf p e) ≡ true
+      keep true x h = insert-keeps (edgeRow p m v a) x (targetOf p e) h
+      keep false x h = h
+
+      go : Dec (b ≡ a) → (b < a → has m (edgeOf p v b) ≡ true → has (edgeRow p m v a) (targetOf p (edgeOf p v b)) ≡ true) → has (edgeRow p m v (suc a)) (targetOf p e) ≡ true
+      go (yes q) ih = rw (← q, t) (insert-adds (edgeRow p m v b) (targetOf p e))
+      go (no q) ih = keep (has m (edgeOf p v a)) (targetOf p (edgeOf p v a)) (ih (omega arith) t)
+
+  edge-row-cases : (v a x : ℕ) → has (edgeRow p m v a) x ≡ true → (v ≡ x) ⊎ ((b : ℕ) × (b < a) × (has m (edgeOf p v b) ≡ true) × (targetOf p (edgeOf p v b) ≡ x))
+  unfolding edgeRow withEdge
+  edge-row-cases v zero x h = go (insert-cases 0 v x h)
+    where
+      go : (has 0 x ≡ true) ⊎ (v ≡ x) → (v ≡ x) ⊎ ((b : ℕ) × (b < 0) × (has m (edgeOf p v b) ≡ true) × (targetOf p (edgeOf p v b) ≡ x))
+      go (inl t) = absurd (false≢true (sym (has-none x) ∙ t))
+      go (inr q) = inl q
+  edge-row-cases v (suc a) x h = go (test (has m (edgeOf p v a))) (edge-row-cases v a x)
+    where
+      From : ℕ → Type 0
+      From k = (v ≡ x) ⊎ ((b : ℕ) × (b < k) × (has m (edgeOf p v b) ≡ true) × (targetOf p (edgeOf p v b) ≡ x))
+
+      up : From a → From (suc a)
+      up (inl q) = inl q
+      up (inr r) = inr (r .0, omega (arith, r .1), r .2, r .3)
+
+      new : has m (edgeOf p v a) ≡ true → (has (edgeRow p m v a) x ≡ true → From a) → (has (edgeRow p m v a) x ≡ true) ⊎ (targetOf p (edgeOf p v a) ≡ x) → From (suc a)
+      new t ih (inl k) = up (ih k)
+      new t ih (inr k) = inr (a, omega arith, t, k)
+
+      go : (has m (edgeOf p v a) ≡ true) ⊎ (has m (edgeOf p v a) ≡ false) → (has (edgeRow p m v a) x ≡ true → From a) → From (suc a)
+      go (inl t) ih = new t ih (insert-cases (edgeRow p m v a) (targetOf p (edgeOf p v a)) x (rw t at h))
+      go (inr k) ih = up (ih (rw k at h))
+
+  -- ---- the rows joined at every state are what each state reaches
+  module _ (ok : legal p ≡ true) where
+    -- row u, joined at the states below k
+    row : ℕ → ℕ → ℕ
+    row k u = getD (joinedRows (edgeRows p m (p .states)) (p .states) k) u 0
+
+    next : (k u : ℕ) → k < p .states → u < p .states → row (suc k) u ≡ joinRow (row k u) k (row k k)
+    unfolding row
+    next k u lk lu = joined-next (edgeRows p m (p .states)) (p .states) (omega (arith, edge-rows-length (p .states), legal-counts p ok .states-few)) k u lu
+
+    first-is : (u : ℕ) → u < p .states → row 0 u ≡ edgeRow p m u (p .letters)
+    unfolding row joinedRows
+    first-is u l = edge-rows-at (p .states) u (legal-counts p ok .states-few) l
+
+    first-sound : (u x : ℕ) → u < p .states → has (row 0 u) x ≡ true → Leads p m u x
+    first-sound u x l h = go (edge-row-cases u (p .letters) x (sym (ap (λ (r : ℕ). has r x) (first-is u l)) ∙ h))
+      where
+        go : (u ≡ x) ⊎ ((b : ℕ) × (b < p .letters) × (has m (edgeOf p u b) ≡ true) × (targetOf p (edgeOf p u b) ≡ x)) → Leads p m u x
+        go (inl q) = ([], q)
+        go (inr r) =
+            let e = edgeOf p u (r .0) in
+            subst (λ (z : ℕ). Leads p m z x) (source-edge p ok u (r .0) (r .1)) (subst (Leads p m (source p e)) (r .3) (leads-edge p m e (edge-lt p u (r .0) l (r .1)) (r .2)))
+
+    -- an edge is that of its source and a letter
+    edge-split : (e : ℕ) → edgeOf p (source p e) (e % p .letters) ≡ e
+    unfolding edgeOf source
+    edge-split e = div-add-mod' e (p .letters)
+
+    first-edge : (e : ℕ) → source p e < p .states → has m e ≡ true → has (row 0 (source p e)) (targetOf p e) ≡ true
+    first-edge e l t =
+        ap (λ (r : ℕ). has r (targetOf p e)) (first-is (source p e) l)
+        ∙ subst (λ (z : ℕ). has (edgeRow p m (source p e) (p .letters)) (targetOf p z) ≡ true) (edge-split e)
+        (edge-row-has (source p e) (p .letters) (e % p .letters) (mod-lt e (omega (arith, legal-counts p ok .letters-some))) (ap (has m) (edge-split e) ∙ t))
+
+    last-path : (u : ℕ) (w : List ℕ) (x : ℕ) → u < p .states → Path p (members (edges p) m) u w x → has (row (p .states) u) x ≡ true
+    last-path u [] x l a = turns-keep (p .states) row next (p .states) u x (omega arith) l
+        (ap (λ (r : ℕ). has r x) (first-is u l) ∙ subst (λ (z : ℕ). has (edgeRow p m u (p .letters)) z ≡ true) a (edge-row-self u (p .letters)))
+    last-path u (e ∷ w) x l a =
+        let le = members-lt (edges p) m e (a .1) in
+        let lt : targetOf p e < p .states = legal-target p ok e le in
+        let ls : source p e < p .states = subst (λ (z : ℕ). z < p .states) (sym (a .0)) l in
+        let one : has (row (p .states) u) (targetOf p e) ≡ true = subst (λ (z : ℕ). has (row (p .states) z) (targetOf p e) ≡ true) (a .0)
+            (turns-keep (p .states) row next (p .states) (source p e) (targetOf p e) (omega arith) ls (first-edge e ls (members-has (edges p) m e (a .1)))) in
+        turns-closed (p .states) row next (p .states) (targetOf p e) u x (omega arith) lt l one (last-path (targetOf p e) w x lt (a .2))
+
+    pub rows-reach : Rows p m (joinedRows (edgeRows p m (p .states)) (p .states) (p .states))
+    unfolding row
+    rows-reach v l = mask-ext (row (p .states) v) (reach p (members (edges p) m) v) (λ x. bool-ext (has (row (p .states) v) x) (has (reach p (members (edges p) m) v) x) (sound x) (complete x))
+      where
+        sound : (x : ℕ) → has (row (p .states) v) x ≡ true → has (reach p (members (edges p) m) v) x ≡ true
+        sound x h =
+            let w = turns-sound (p .states) row next (Leads p m) (leads-join p m) first-sound (p .states) v x (omega arith) l h in
+            reach-complete p (members (edges p) m) v l (λ e k. legal-target p ok e (members-lt (edges p) m e k)) (w .0) x (w .1)
+
+        complete : (x : ℕ) → has (reach p (members (edges p) m) v) x ≡ true → has (row (p .states) v) x ≡ true
+        complete x h = let w = reach-sound p (members (edges p) m) v x h in last-path v (w .0) x l (w .1)
