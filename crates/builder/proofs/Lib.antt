@@ -3,3 +3,4 @@ pub mod Closed
 pub mod EdgeRuns
 pub mod Leaves
 pub mod Next
+pub mod Tables
