@@ -1,11 +1,12 @@
--- A closed run over edges: the least priority that it meets is even exactly if the set of its edges is accepting. Assumes nothing.
-use Prim.Native.Nat.{ℕ, zero, suc, _≤_, _<_}
+-- A closed run over edges: the least priority that it meets is even exactly if the set of its edges is accepting. Over any nodes
+-- with the forest's laws. Assumes nothing.
+use Prim.Native.Nat.{ℕ, _≤_, _<_}
 use native.Mathlib.Omega.{arith}
 use native.Mathlib.Nat.{le-refl}
 use native.Mathlib.Decide.{decLe}
 use mathlib.Core.Path.{_≡_, refl, sym, ap, _∙_, subst}
 use mathlib.Core.Logic.{_⊎_, inl, inr, _↔_, _≢_}
-use mathlib.Core.Bool.{Bool, true, false, not, true≢false}
+use mathlib.Core.Bool.{true, false, not, true≢false}
 use mathlib.Core.List.{List, [], _∷_, List·Memᴰ, List·Memᴰ·head, List·Memᴰ·tail, List·Memᴰ·cases-cons, List·Memᴰ·not-nil, List·Memᴰ·eq-of-singleton, Memᴰ·cast}
 use lib.ListN.{length}
 use Rattle.lists.specs.Lists.{below}
@@ -18,12 +19,12 @@ use Rattle.policy.specs.Policies.{edges, source, targetOf, accepting}
 use Rattle.graph.specs.Cycles.{Path, isCycle, contains}
 use Rattle.graph.proofs.Cycles.{Targets, cycle-edge, closed-cycle, some-contains}
 use Rattle.decomposition.specs.Forest.{Node, node, chain, childOf, inRoot, priority}
-use Rattle.decomposition.specs.Laws.{ForestLaws, maskAt, rootAt}
-use Rattle.decomposition.proofs.Chains.{chain-self, chain-le, chain-lt, chain-trans, chain-linear}
+use Rattle.decomposition.specs.Laws.{ForestLaws, maskAt}
+use Rattle.decomposition.proofs.Chains.{chain-le, chain-lt, chain-trans, chain-linear}
 use Rattle.builder.specs.Automaton.{deepest, next, kids, isLeaf, entered, leafAfter, priorityAfter}
 use Rattle.builder.proofs.EdgeRuns.{Good, leafRun, metRun, Least}
 use Rattle.builder.proofs.Next.{next-mem, gap, next-nearer}
-use Rattle.builder.proofs.Branch.{chain-inside, chain-priority, child-above, child-lt, child-between, child-unique, lead-is, deepest-under, deepest-at}
+use Rattle.builder.proofs.Branch.{chain-inside, chain-priority, child-lt, child-between, child-unique, lead-is, deepest-under, deepest-at}
 use Rattle.builder.proofs.Leaves.{kid, is-kid, kids-ascend, leaf-childless, with-root, entered-next, LeafUnder, Meets, meets, after-entered, after-under, leaf-after-good}
 
 -- a member of least f

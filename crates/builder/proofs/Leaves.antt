@@ -1,13 +1,13 @@
 -- Leaves: each node that contains a state has a leaf of it at or below, and each edge leads from a leaf of its source to a leaf of its target.
--- Assumes nothing but the forest's laws.
+-- Over any nodes with the forest's laws. Assumes nothing.
 use Prim.Native.Nat.{ℕ, zero, suc, _+_, _≤_, _<_}
 use native.Mathlib.Omega.{arith}
 use mathlib.Core.Path.{_≡_, refl, sym, ap, _∙_, subst}
 use mathlib.Core.Logic.{_⊎_, inl, inr, _↔_}
-use mathlib.Core.Bool.{Bool, true, false, not, _&&_, cond, true≢false, false≢true}
+use mathlib.Core.Bool.{Bool, true, false, not, _&&_, cond, true≢false}
 use mathlib.Core.List.{List, [], _∷_, List·Memᴰ, List·Memᴰ·head, List·Memᴰ·not-nil, List·Memᴰ·eq-of-singleton, Memᴰ·cast}
 use lib.Dec.{eqb}
-use lib.ListN.{length, getD}
+use lib.ListN.{length}
 use Rattle.lists.specs.Lists.{any, filter, firstOr, below, Ascending}
 use Rattle.lists.proofs.Bools.{test, eqb≡, ≡eqb, and-l, and-r, both, not-true}
 use Rattle.lists.proofs.Lists.{any-some, some-any, none-any, filter-mem, mem-filter, mem-below, below-lt, getD-mem, mem-at, ascending-filter, ascending-below}
@@ -21,46 +21,49 @@ use Rattle.decomposition.specs.Laws.{ForestLaws, maskAt, rootAt}
 use Rattle.decomposition.proofs.Chains.{chain-self, chain-lt, chain-trans, chain-top}
 use Rattle.builder.specs.Automaton.{orElse, next, deepest, lead, holds, kids, isLeaf, leaves, firstLeaf, entered, firstLeafBelow, leafAfter}
 use Rattle.builder.proofs.EdgeRuns.{Good}
-use Rattle.builder.proofs.Next.{first-cases, first-mem, next-mem}
+use Rattle.builder.proofs.Next.{first-mem, next-mem}
 use Rattle.builder.proofs.Branch.{chain-inside, child-above, child-lt, deepest-mem, deepest-has}
 
 module _ (ns : List Node) (p : Policy) where
   -- ---- the children that contain a state
+  abbrev holding : ℕ → ℕ → ℕ → Bool
+  holding v n j = childOf ns n j && holds ns p v j
+
   pub kid : (v n j : ℕ) → List·Memᴰ j (kids ns p v n) → (j < length ns) × (childOf ns n j ≡ true) × (contains p v (maskAt ns j) ≡ true)
   unfolding kids holds
   kid v n j m =
-      let r = filter-mem (λ j. childOf ns n j && holds ns p v j) (below (length ns)) j m in
+      let r = filter-mem (holding v n) (below (length ns)) j m in
       (below-lt (length ns) j (r .0), and-l (childOf ns n j) (holds ns p v j) (r .1), and-r (childOf ns n j) (holds ns p v j) (r .1))
 
   pub is-kid : (v n j : ℕ) → j < length ns → childOf ns n j ≡ true → contains p v (maskAt ns j) ≡ true → List·Memᴰ j (kids ns p v n)
   unfolding kids holds
-  is-kid v n j h c t = mem-filter (λ j. childOf ns n j && holds ns p v j) (below (length ns)) j (mem-below (length ns) j h) (both (childOf ns n j) (holds ns p v j) c t)
+  is-kid v n j h c t = mem-filter (holding v n) (below (length ns)) j (mem-below (length ns) j h) (both (childOf ns n j) (holds ns p v j) c t)
 
   pub kids-ascend : (v n : ℕ) → Ascending (kids ns p v n)
   unfolding kids
-  kids-ascend v n = ascending-filter (λ j. childOf ns n j && holds ns p v j) (below (length ns)) (ascending-below (length ns))
+  kids-ascend v n = ascending-filter (holding v n) (below (length ns)) (ascending-below (length ns))
 
   -- ---- leaves of a state
   pub leaf-contains : (v n : ℕ) → isLeaf ns p v n ≡ true → contains p v (maskAt ns n) ≡ true
   unfolding isLeaf holds
-  leaf-contains v n t = and-l (holds ns p v n) (not (any (λ j. childOf ns n j && holds ns p v j) (below (length ns)))) t
+  leaf-contains v n t = and-l (holds ns p v n) (not (any (holding v n) (below (length ns)))) t
 
   pub leaf-childless : (v n : ℕ) → isLeaf ns p v n ≡ true → (j : ℕ) → j < length ns → childOf ns n j ≡ true → contains p v (maskAt ns j) ≡ true → ⊥
   unfolding isLeaf holds
   leaf-childless v n t j h c k =
-      let f = not-true (any (λ j. childOf ns n j && holds ns p v j) (below (length ns))) (and-r (holds ns p v n) (not (any (λ j. childOf ns n j && holds ns p v j) (below (length ns)))) t) in
-      true≢false (sym (both (childOf ns n j) (holds ns p v j) c k) ∙ none-any (λ j. childOf ns n j && holds ns p v j) (below (length ns)) f j (mem-below (length ns) j h))
+      let f = not-true (any (holding v n) (below (length ns))) (and-r (holds ns p v n) (not (any (holding v n) (below (length ns)))) t) in
+      true≢false (sym (both (childOf ns n j) (holds ns p v j) c k) ∙ none-any (holding v n) (below (length ns)) f j (mem-below (length ns) j h))
 
   -- what contains v and is no leaf of v has a child that contains v
   pub inner-kid : (v n : ℕ) → contains p v (maskAt ns n) ≡ true → isLeaf ns p v n ≡ false → (j : ℕ) × List·Memᴰ j (kids ns p v n)
   unfolding isLeaf holds kids
-  inner-kid v n t f = go (test (any (λ j. childOf ns n j && holds ns p v j) (below (length ns))))
+  inner-kid v n t f = go (test (any (holding v n) (below (length ns))))
     where
-      go : (any (λ j. childOf ns n j && holds ns p v j) (below (length ns)) ≡ true) ⊎ (any (λ j. childOf ns n j && holds ns p v j) (below (length ns)) ≡ false) → (j : ℕ) × List·Memᴰ j (filter (λ j. childOf ns n j && holds ns p v j) (below (length ns)))
+      go : (any (holding v n) (below (length ns)) ≡ true) ⊎ (any (holding v n) (below (length ns)) ≡ false) → (j : ℕ) × List·Memᴰ j (filter (holding v n) (below (length ns)))
       go (inl u) =
-          let r = any-some (λ j. childOf ns n j && holds ns p v j) (below (length ns)) u in
-          (r .0, mem-filter (λ j. childOf ns n j && holds ns p v j) (below (length ns)) (r .0) (r .1) (r .2))
-      go (inr u) = absurd (true≢false (sym (both (holds ns p v n) (not (any (λ j. childOf ns n j && holds ns p v j) (below (length ns)))) t (ap not u)) ∙ f))
+          let r = any-some (holding v n) (below (length ns)) u in
+          (r .0, mem-filter (holding v n) (below (length ns)) (r .0) (r .1) (r .2))
+      go (inr u) = absurd (true≢false (sym (both (holds ns p v n) (not (any (holding v n) (below (length ns)))) t (ap not u)) ∙ f))
 
   pub leaf-of : (v l : ℕ) → List·Memᴰ l (leaves ns p v) → (l < length ns) × (isLeaf ns p v l ≡ true)
   unfolding leaves
@@ -214,9 +217,9 @@ module _ (p : Policy) (ns : List Node) (laws : ForestLaws p ns) where
       let r = root-with ns p e t in
       let s = chain-top ns parent-lt level-up l (g .0) in
       let same : s .0 ≡ r .0 =
-            laws .apart (s .0) (r .0) (chain-lt ns parent-lt level-up l (s .0) (g .0) (s .1)) (r .1) (s .2) (r .2) (source p e)
-            (contains-inside p (source p e) (maskAt ns l) (maskAt ns (s .0)) (chain-inside p ns laws (s .0) l (g .0) (s .1)) (leaf-contains ns p (source p e) l (g .1)))
-            (some-contains p (source p e) (maskAt ns (r .0)) e he (r .3) refl) in
+      laws .apart (s .0) (r .0) (chain-lt ns parent-lt level-up l (s .0) (g .0) (s .1)) (r .1) (s .2) (r .2) (source p e)
+      (contains-inside p (source p e) (maskAt ns l) (maskAt ns (s .0)) (chain-inside p ns laws (s .0) l (g .0) (s .1)) (leaf-contains ns p (source p e) l (g .1)))
+      (some-contains p (source p e) (maskAt ns (r .0)) e he (r .3) refl) in
       let up : List·Memᴰ (r .0) (chain ns l) = Memᴰ·cast (sym same) (s .1) in
       let m = deepest-mem p ns laws e l in
       let i = chain-lt ns parent-lt level-up l (deepest ns e l) (g .0) m in

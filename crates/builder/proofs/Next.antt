@@ -2,11 +2,11 @@
 use Prim.Native.Nat.{ℕ, _+_, _-_, _≤_, _<_}
 use native.Mathlib.Omega.{arith}
 use native.Mathlib.Decide.{decLt}
-use mathlib.Core.Path.{_≡_, refl, sym, ap, _∙_}
+use mathlib.Core.Path.{_≡_, refl, ap}
 use mathlib.Core.Logic.{_⊎_, inl, inr, _≢_}
-use mathlib.Core.Bool.{Bool, true, false, cond}
+use mathlib.Core.Bool.{true, false, cond}
 use mathlib.Core.List.{List, [], _∷_, List·Memᴰ, List·Memᴰ·head, List·Memᴰ·tail, Memᴰ·cast}
-use lib.Dec.{ltb, leb}
+use lib.Dec.{ltb, leb, lt→ltb}
 use Rattle.lists.specs.Lists.{filter, firstOr, Ascending}
 use Rattle.lists.proofs.Bools.{test, T→≡, lt-true, le-true, le-false}
 use Rattle.lists.proofs.Lists.{filter-mem, mem-filter, ascending-filter}
@@ -27,7 +27,7 @@ first-le d (x ∷ xs) s y (List·Memᴰ·tail k) = omega (arith, s .0 y k)
 
 -- ---- the next in cyclic order
 above : (c x : ℕ) → c < x → ltb c x ≡ true
-above c x h = T→≡ (ltb c x) (lib.Dec.lt→ltb c x h)
+above c x h = T→≡ (ltb c x) (lt→ltb c x h)
 
 -- the next one is the first of all, or above c
 next-cases : (c : ℕ) (l : List ℕ) → (next c l ≡ firstOr c l) ⊎ (List·Memᴰ (next c l) l × (c < next c l))

@@ -1,14 +1,14 @@
 -- The table of built states: each stands over a leaf of its state, each pair of a state and a leaf of it stands there once, in order. Assumes nothing.
-use Prim.Native.Nat.{ℕ, zero, suc, _≤_, _<_}
+use Prim.Native.Nat.{ℕ, zero, suc, _<_}
 use native.Mathlib.Omega.{arith}
 use native.Mathlib.Decide.{decLt}
 use mathlib.Core.Path.{_≡_, refl, sym, ap, _∙_, subst}
 use mathlib.Core.Logic.{_⊎_, inl, inr}
-use mathlib.Core.Bool.{Bool, true, false, _&&_, true≢false}
+use mathlib.Core.Bool.{true, false, true≢false}
 use mathlib.Core.List.{List, [], _∷_, _++_, map, List·Memᴰ, List·Memᴰ·head, List·Memᴰ·tail, List·Memᴰ·not-nil, List·Memᴰ·append-cases, Memᴰ·cast}
 use lib.Dec.{eqb}
 use lib.ListN.{length, getD}
-use Rattle.lists.specs.Lists.{flat, position, below, Ascending}
+use Rattle.lists.specs.Lists.{flat, below, Ascending}
 use Rattle.lists.proofs.Bools.{eqb≡, ≡eqb, and-l, and-r, both}
 use Rattle.lists.proofs.Lists.{mem-below, below-lt, getD-mem, position-at, position-first, flat-mem, mem-flat, map-mem, mem-map, ascending-below}
 use Rattle.policy.specs.declared.Policy.{Policy}
