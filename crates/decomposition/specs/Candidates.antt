@@ -1,0 +1,50 @@
+-- Where nodes are looked for: one list of cycles for the whole policy, by colour sets, holds every node of the forest.
+use Prim.Native.Nat.{ℕ}
+use mathlib.Core.Bool.{Bool, not, _&&_, cond}
+use mathlib.Core.List.{List, [], _∷_, map}
+use lib.Dec.{eqb}
+use Rattle.lists.specs.Lists.{any, filter, flat, below}
+use Rattle.masks.specs.Masks.{properly}
+use Rattle.colour_sets.specs.Order.{setAt}
+use Rattle.policy.specs.declared.Policy.{Policy}
+use Rattle.policy.specs.Policies.{coloursOf, accepting}
+use Rattle.graph.specs.Cycles.{contains}
+use Rattle.graph.specs.Components.{coloured}
+use Rattle.graph.specs.Through.{cycleThrough}
+use Rattle.decomposition.specs.Forest.{differs, full, inOrder, largest}
+use Rattle.decomposition.specs.Next.{firstIn, afterIn}
+
+module _ (p : Policy) where
+  -- x is a cycle whose lowest state is v, given that it is 0 or a cycle through v
+  unfoldable pub lowestIs : ℕ → ℕ → Bool
+  lowestIs v x = not (eqb x 0) && not (any (λ u. contains p u x) (below v))
+
+  -- the largest cycle through v with colours in c, if its colours are exactly c and v is its lowest state
+  unfoldable pub candidateAt : ℕ → ℕ → List ℕ
+  candidateAt c v = let x = cycleThrough p (coloured p (full p) c) v in cond (lowestIs v x && eqb (coloursOf p x) c) (x ∷ []) []
+
+  unfoldable pub candidatesOf : ℕ → List ℕ
+  candidatesOf c = flat (map (candidateAt c) (below (p .states)))
+
+  -- for every colour set in the fixed order and every state
+  unfoldable pub candidates : List ℕ
+  candidates = flat (map (λ i. candidatesOf (setAt i)) (below 256))
+
+  -- those with a given verdict
+  unfoldable pub judged : Bool → List ℕ
+  judged b = filter (λ m. not (differs b (accepting p m))) candidates
+
+  -- the largest cycle through v, if v is its lowest state
+  unfoldable pub rootAt : ℕ → List ℕ
+  rootAt v = let x = cycleThrough p (full p) v in cond (lowestIs v x) (x ∷ []) []
+
+  unfoldable pub rootCandidates : List ℕ
+  rootCandidates = flat (map rootAt (below (p .states)))
+
+-- the largest of l properly inside n, in sibling order
+unfoldable pub childrenIn : List ℕ → ℕ → List ℕ
+childrenIn l n = inOrder (largest (filter (λ m. properly m n) l))
+
+-- the first of some siblings where a is 0, else the first that stands after a
+unfoldable pub nextIn : ℕ → List ℕ → ℕ
+nextIn a l = let r = afterIn a l in cond (eqb a 0) (firstIn l) r
