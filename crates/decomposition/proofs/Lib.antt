@@ -1,5 +1,6 @@
 pub mod Chains
 pub mod Order
+pub mod Distinct
 pub mod Largest
 pub mod Children
 pub mod Priorities
