@@ -3,6 +3,7 @@ pub mod Order
 pub mod Distinct
 pub mod Largest
 pub mod Children
+pub mod Full
 pub mod Priorities
 pub mod Planted
 pub mod Numbered
