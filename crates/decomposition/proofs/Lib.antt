@@ -4,6 +4,7 @@ pub mod Distinct
 pub mod Largest
 pub mod Children
 pub mod Full
+pub mod Candidates
 pub mod Priorities
 pub mod Planted
 pub mod Numbered
