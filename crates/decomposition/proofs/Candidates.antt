@@ -1,34 +1,36 @@
 -- The candidates are the full cycles, each once, and at most 4,096: every node of the forest is one, the children of a candidate are the
 -- largest candidates of the other verdict properly inside it, and the roots are the largest cycles through the states. Assumes nothing.
-use Prim.Native.Nat.{ℕ, zero, suc, _*_, _^_, _≤_, _<_}
+use Prim.Native.Nat.{ℕ, zero, suc, _≤_, _<_}
 use native.Mathlib.Omega.{arith}
 use native.Mathlib.Decide.{decLt}
 use mathlib.Core.Path.{_≡_, refl, sym, ap, _∙_, subst}
 use mathlib.Core.Logic.{_⊎_, inl, inr, _≢_}
 use mathlib.Core.Bool.{Bool, true, false, not, _&&_, cond, true≢false, false≢true}
-use mathlib.Core.List.{List, [], _∷_, map, List·Memᴰ, List·Memᴰ·head, List·Memᴰ·tail, List·Memᴰ·not-nil, List·Memᴰ·eq-of-singleton, Memᴰ·cast}
+use mathlib.Core.List.{List, [], _∷_, List·Memᴰ, List·Memᴰ·head, List·Memᴰ·not-nil, List·Memᴰ·eq-of-singleton, Memᴰ·cast}
 use lib.Dec.{eqb}
 use lib.ListN.{length}
 use lib.Pow.{pow-mono}
-use Rattle.lists.specs.Lists.{any, filter, flat, below, Distinct}
+use Rattle.lists.specs.Lists.{any, filter, below, Distinct}
 use Rattle.lists.proofs.Bools.{test, eqb≡, ≡eqb, neqb, and-l, and-r, both, not-true}
 use Rattle.lists.proofs.Lists.{any-some, none-any, filter-mem, mem-filter, mem-below, below-lt, flat-mem, mem-flat}
 use Rattle.masks.specs.Masks.{inside, properly}
+use Rattle.masks.proofs.Bits.{inside-trans, properly-lt}
 use Rattle.colour_sets.specs.Order.{setAt, positionOf}
 use Rattle.colour_sets.proofs.Laws.{set-once, set-position, position-lt}
 use Rattle.policy.specs.declared.Policy.{Policy}
 use Rattle.policy.specs.Policies.{coloursOf, accepting, legal}
-use Rattle.policy.proofs.Laws.{Counts, legal-counts, legal-target, colours-lt, accepting-colours}
+use Rattle.policy.proofs.Laws.{legal-counts, legal-target, colours-lt, accepting-colours}
 use Rattle.graph.specs.Cycles.{isCycle, contains}
 use Rattle.graph.specs.Through.{cycleThrough}
-use Rattle.graph.proofs.Cycles.{Targets, cycle-some, contains-inside}
+use Rattle.graph.proofs.Cycles.{Targets, some-nonzero, contains-some, contains-inside}
 use Rattle.graph.proofs.Through.{through-cycle, through-largest, through-same}
 use Rattle.decomposition.specs.Forest.{differs, full, inOrder, largest, roots, children}
 use Rattle.decomposition.specs.Candidates.{lowestIs, candidateAt, candidatesOf, candidates, judged, rootAt, rootCandidates, childrenIn}
+use Rattle.decomposition.proofs.Order.{order-mem, mem-order}
 use Rattle.decomposition.proofs.Largest.{largest-order-mem, in-largest-order}
 use Rattle.decomposition.proofs.Distinct.{distinct-filter, distinct-below, distinct-flat, distinct-ordered, distinct-largest, length-below, flat-few}
 use Rattle.decomposition.proofs.Children.{root-cycle, root-largest}
-use Rattle.decomposition.proofs.Full.{inColours, Full, Filled, contains-lt, cycle-state, full-cycle, full-state, fill, fill-inside}
+use Rattle.decomposition.proofs.Full.{inColours, Full, contains-lt, cycle-state, inside-full, full-cycle, full-state, fill, fill-inside}
 
 -- the least number that passes, from one that does
 least-to : (t : ℕ → Bool) (k n : ℕ) → n < k → t n ≡ true → (u : ℕ) × (t u ≡ true) × (any t (below u) ≡ false)
@@ -58,6 +60,25 @@ one-few : (b : Bool) (x : ℕ) → length (cond b (x ∷ []) []) ≤ 1
 one-few true x = omega arith
 one-few false x = omega arith
 
+-- ---- verdicts
+same-verdict : (b a : Bool) → not (differs b a) ≡ true → a ≡ b
+same-verdict true true t = refl
+same-verdict true false t = absurd (false≢true t)
+same-verdict false true t = absurd (false≢true t)
+same-verdict false false t = refl
+
+verdict-same : (b a : Bool) → a ≡ b → not (differs b a) ≡ true
+verdict-same true a t = rw t refl
+verdict-same false a t = rw t refl
+
+not-itself : (a : Bool) → a ≡ not a → ⊥
+not-itself true e = true≢false e
+not-itself false e = false≢true e
+
+properly-inside : (x y : ℕ) → properly x y ≡ true → inside x y ≡ true
+unfolding properly
+properly-inside x y t = and-l (inside x y) (not (eqb x y)) t
+
 module _ (p : Policy) where
   -- ---- the lowest state
   lowest-some : (v x : ℕ) → lowestIs p v x ≡ true → (x ≢ 0) × ((u : ℕ) → contains p u x ≡ true → v ≤ u)
@@ -71,14 +92,17 @@ module _ (p : Policy) where
       go u on (yes l) = absurd (true≢false (sym on ∙ none-any (λ (u : ℕ). contains p u x) (below v) none u (mem-below v u l)))
       go u on (no n) = omega arith
 
+  contains-nonzero : (v x : ℕ) → contains p v x ≡ true → x ≢ 0
+  contains-nonzero v x on = let r = contains-some p v x on in some-nonzero x (r .0) (r .2)
+
   lowest-same : (v u x : ℕ) → lowestIs p v x ≡ true → lowestIs p u x ≡ true → contains p v x ≡ true → contains p u x ≡ true → v ≡ u
   lowest-same v u x a b on onu = omega (arith, lowest-some v x a .1 u onu, lowest-some u x b .1 v on)
 
-  some-lowest : (v x : ℕ) → x ≢ 0 → contains p v x ≡ true → (u : ℕ) × (contains p u x ≡ true) × (lowestIs p u x ≡ true)
+  some-lowest : (v x : ℕ) → contains p v x ≡ true → (u : ℕ) × (contains p u x ≡ true) × (lowestIs p u x ≡ true)
   unfolding lowestIs
-  some-lowest v x nz on =
+  some-lowest v x on =
       let r = least (λ (u : ℕ). contains p u x) v on in
-      (r .0, r .1, both (not (eqb x 0)) (not (any (λ (u : ℕ). contains p u x) (below (r .0)))) (ap not (neqb x 0 nz)) (ap not (r .2)))
+      (r .0, r .1, both (not (eqb x 0)) (not (any (λ (u : ℕ). contains p u x) (below (r .0)))) (ap not (neqb x 0 (contains-nonzero v x on))) (ap not (r .2)))
 
   -- ---- the candidate of a colour set at a state
   abbrev fits : ℕ → ℕ → Bool
@@ -116,6 +140,15 @@ module _ (p : Policy) where
       let s = at-mem (setAt (r .0)) (r .1) x (r .4) in
       record { some = lowest-some (r .1) x (s .1) .0; state = r .1; state-lt = r .3; is = s .0 ∙ ap (λ (c : ℕ). cycleThrough p (inColours p c) (r .1)) (sym (s .2)) }
 
+  -- ---- those with a given verdict
+  pub judged-mem : (b : Bool) (x : ℕ) → List·Memᴰ x (judged p b) → List·Memᴰ x (candidates p) × (accepting p x ≡ b)
+  unfolding judged
+  judged-mem b x k = let r = filter-mem (λ (m : ℕ). not (differs b (accepting p m))) (candidates p) x k in (r .0, same-verdict b (accepting p x) (r .1))
+
+  pub mem-judged : (b : Bool) (x : ℕ) → List·Memᴰ x (candidates p) → accepting p x ≡ b → List·Memᴰ x (judged p b)
+  unfolding judged
+  mem-judged b x k t = mem-filter (λ (m : ℕ). not (differs b (accepting p m))) (candidates p) x k (verdict-same b (accepting p x) t)
+
   module _ (lawful : legal p ≡ true) where
     targets : Targets p
     targets e l = legal-target p lawful e l
@@ -136,7 +169,7 @@ module _ (p : Policy) where
         set = set-position c (colours-few x)
 
         lowest : (u : ℕ) × (contains p u x ≡ true) × (lowestIs p u x ≡ true)
-        lowest = some-lowest (f .state) x (f .some) (full-state p lawful x f)
+        lowest = some-lowest (f .state) x (full-state p lawful x f)
 
         u : ℕ
         u = lowest .0
@@ -198,3 +231,123 @@ module _ (p : Policy) where
     pub candidates-few : length (candidates p) ≤ 4096
     unfolding candidates
     candidates-few = omega (arith, flat-few (λ (i : ℕ). candidatesOf p (setAt i)) 16 (λ i. of-few (setAt i)) (below 256), length-below 256)
+
+    -- ---- children: of a candidate n
+    abbrev within : ℕ → List ℕ
+    within n = filter (λ (m : ℕ). properly m n) (judged p (not (accepting p n)))
+
+    within-mem : (n x : ℕ) → List·Memᴰ x (within n) → List·Memᴰ x (candidates p) × (inside x n ≡ true) × (accepting p x ≡ not (accepting p n))
+    within-mem n x k =
+        let r = filter-mem (λ (m : ℕ). properly m n) (judged p (not (accepting p n))) x k in
+        let s = judged-mem (not (accepting p n)) x (r .0) in
+        (s .0, properly-inside x n (r .1), s .1)
+
+    mem-within : (n x : ℕ) → List·Memᴰ x (candidates p) → inside x n ≡ true → accepting p x ≡ not (accepting p n) → List·Memᴰ x (within n)
+    unfolding properly
+    mem-within n x k i t =
+        mem-filter (λ (m : ℕ). properly m n) (judged p (not (accepting p n))) x (mem-judged (not (accepting p n)) x k t)
+        (both (inside x n) (not (eqb x n)) i (ap not (neqb x n (λ e. not-itself (accepting p n) (ap (accepting p) (sym e) ∙ t)))))
+
+    pub children-are : (n : ℕ) → List·Memᴰ n (candidates p) → children p n ≡ childrenIn (judged p (not (accepting p n))) n
+    unfolding childrenIn
+    children-are n k = sym (Rattle.decomposition.proofs.Children.children-are p n (inOrder (largest (within n))) part above apart (distinct-ordered (largest (within n)) (distinct-largest (within n) (distinct-filter (λ (m : ℕ). properly m n) (judged p (not (accepting p n))) (judged-distinct (not (accepting p n)))))))
+      where
+        part : (x : ℕ) → List·Memᴰ x (inOrder (largest (within n))) → (isCycle p x ≡ true) × (inside x n ≡ true) × (accepting p x ≡ not (accepting p n))
+        part x m = let r = within-mem n x (largest-order-mem (within n) x m .0) in (candidate-cycle x (r .0), r .1, r .2)
+
+        above : (x : ℕ) → isCycle p x ≡ true → inside x n ≡ true → accepting p x ≡ not (accepting p n) → (y : ℕ) × List·Memᴰ y (inOrder (largest (within n))) × (inside x y ≡ true)
+        above x cy i t =
+            let z = fill p lawful x cy in
+            let zn = fill-inside p lawful n (candidate-full n k) x (z .0) cy i (z .1) in
+            let y = in-largest-order (within n) (z .0) (mem-within n (z .0) (full-candidate (z .0) (z .1 .filled)) zn (accepting-colours p (z .0) x (z .1 .colours) ∙ t)) in
+            (y .0, y .1, inside-trans x (z .0) (y .0) (z .1 .above) (y .2))
+
+        apart : (x y : ℕ) → List·Memᴰ x (inOrder (largest (within n))) → List·Memᴰ y (inOrder (largest (within n))) → properly x y ≡ false
+        apart x y m l = largest-order-mem (within n) x m .1 y (largest-order-mem (within n) y l .0)
+
+    pub child-candidate : (n c : ℕ) → List·Memᴰ n (candidates p) → List·Memᴰ c (children p n) → List·Memᴰ c (candidates p)
+    unfolding childrenIn
+    child-candidate n c k m = within-mem n c (largest-order-mem (within n) c (subst (λ (l : List ℕ). List·Memᴰ c l) (children-are n k) m) .0) .0
+
+    -- ---- roots
+    pub root-candidate : (r : ℕ) → List·Memᴰ r (roots p) → List·Memᴰ r (candidates p)
+    root-candidate r k =
+        let z = fill p lawful r (root-cycle p r k) in
+        Memᴰ·cast (root-largest p r (z .0) k (full-cycle p lawful (z .0) (z .1 .filled)) (z .1 .above)) (full-candidate (z .0) (z .1 .filled))
+
+    -- the largest cycle through v, if v is its lowest state
+    root-at : (v x : ℕ) → v < p .states → List·Memᴰ x (rootAt p v) → (x ≡ cycleThrough p (full p) v) × (lowestIs p v x ≡ true) × (isCycle p x ≡ true) × (contains p v x ≡ true)
+    unfolding rootAt
+    root-at v x l k =
+        let y = cycleThrough p (full p) v in
+        let r = one-mem (lowestIs p v y) y x k in
+        let s = through-cycle p targets (full p) v l (lowest-some v y (r .0) .0) in
+        (r .1, ap (lowestIs p v) (r .1) ∙ r .0, ap (isCycle p) (r .1) ∙ s .0, ap (contains p v) (r .1) ∙ s .1)
+
+    at-root : (v x : ℕ) → x ≡ cycleThrough p (full p) v → lowestIs p v x ≡ true → List·Memᴰ x (rootAt p v)
+    unfolding rootAt
+    at-root v x e t = Memᴰ·cast e (mem-one (lowestIs p v (cycleThrough p (full p) v)) (cycleThrough p (full p) v) (ap (lowestIs p v) (sym e) ∙ t))
+
+    root-candidates-at : (x : ℕ) → List·Memᴰ x (rootCandidates p) → (v : ℕ) × (v < p .states) × (x ≡ cycleThrough p (full p) v) × (isCycle p x ≡ true)
+    unfolding rootCandidates
+    root-candidates-at x k =
+        let r = flat-mem (rootAt p) (below (p .states)) x k in
+        let l = below-lt (p .states) (r .0) (r .1) in
+        let s = root-at (r .0) x l (r .2) in
+        (r .0, l, s .0, s .2)
+
+    pub root-candidates-cycle : (x : ℕ) → List·Memᴰ x (rootCandidates p) → isCycle p x ≡ true
+    root-candidates-cycle x k = root-candidates-at x k .3
+
+    root-distinct : (v : ℕ) → Distinct (rootAt p v)
+    unfolding rootAt
+    root-distinct v = one-distinct (lowestIs p v (cycleThrough p (full p) v)) (cycleThrough p (full p) v)
+
+    root-few : (v : ℕ) → length (rootAt p v) ≤ 1
+    unfolding rootAt
+    root-few v = one-few (lowestIs p v (cycleThrough p (full p) v)) (cycleThrough p (full p) v)
+
+    pub root-candidates-few : length (rootCandidates p) ≤ 16
+    unfolding rootCandidates
+    root-candidates-few = omega (arith, flat-few (rootAt p) 1 root-few (below (p .states)), length-below (p .states), legal-counts p lawful .states-few)
+
+    pub root-candidates-distinct : Distinct (rootCandidates p)
+    unfolding rootCandidates
+    root-candidates-distinct = distinct-flat (rootAt p) (below (p .states)) (distinct-below (p .states)) (λ v m. root-distinct v) same
+      where
+        same : (v u z : ℕ) → List·Memᴰ v (below (p .states)) → List·Memᴰ u (below (p .states)) → List·Memᴰ z (rootAt p v) → List·Memᴰ z (rootAt p u) → v ≡ u
+        same v u z m n a b =
+            let r = root-at v z (below-lt (p .states) v m) a in
+            let s = root-at u z (below-lt (p .states) u n) b in
+            lowest-same v u z (r .1) (s .1) (r .3) (s .3)
+
+    -- the largest cycle through any state stands at its lowest
+    whole-candidate : (v : ℕ) → v < p .states → contains p v (cycleThrough p (full p) v) ≡ true → List·Memᴰ (cycleThrough p (full p) v) (rootCandidates p)
+    unfolding rootCandidates
+    whole-candidate v l on =
+        let x = cycleThrough p (full p) v in
+        let r = some-lowest v x on in
+        mem-flat (rootAt p) (below (p .states)) (r .0) x (mem-below (p .states) (r .0) (contains-lt p lawful (r .0) x (r .1))) (at-root (r .0) x (sym (through-same p targets (full p) v (r .0) l (r .1))) (r .2))
+
+    root-candidates-same : (x y : ℕ) → List·Memᴰ x (rootCandidates p) → List·Memᴰ y (rootCandidates p) → inside x y ≡ true → x ≡ y
+    root-candidates-same x y k l i =
+        let a = root-candidates-at x k in
+        let b = root-candidates-at y l in
+        let s = cycle-state p lawful x (a .3) in
+        let u = s .0 in
+        a .2 ∙ sym (through-same p targets (full p) (a .0) u (a .1) (ap (contains p u) (sym (a .2)) ∙ s .2))
+        ∙ through-same p targets (full p) (b .0) u (b .1) (ap (contains p u) (sym (b .2)) ∙ contains-inside p u x y i (s .2)) ∙ sym (b .2)
+
+    pub roots-are : roots p ≡ inOrder (rootCandidates p)
+    roots-are = sym (Rattle.decomposition.proofs.Children.roots-are p (inOrder (rootCandidates p)) (λ x k. root-candidates-cycle x (order-mem (rootCandidates p) x k)) above (λ x y k l. apart x y (order-mem (rootCandidates p) x k) (order-mem (rootCandidates p) y l) (test (properly x y))) (distinct-ordered (rootCandidates p) root-candidates-distinct))
+      where
+        above : (x : ℕ) → isCycle p x ≡ true → (y : ℕ) × List·Memᴰ y (inOrder (rootCandidates p)) × (inside x y ≡ true)
+        above x cy =
+            let s = cycle-state p lawful x cy in
+            let y = cycleThrough p (full p) (s .0) in
+            let i = through-largest p targets (full p) (s .0) (s .1) x cy (inside-full p lawful x cy) (s .2) in
+            (y, mem-order (rootCandidates p) y (whole-candidate (s .0) (s .1) (contains-inside p (s .0) x y i (s .2))), i)
+
+        apart : (x y : ℕ) → List·Memᴰ x (rootCandidates p) → List·Memᴰ y (rootCandidates p) → (properly x y ≡ true) ⊎ (properly x y ≡ false) → properly x y ≡ false
+        apart x y k l (inl t) = absurd (omega (arith, properly-lt x y t, root-candidates-same x y k l (properly-inside x y t)))
+        apart x y k l (inr f) = f

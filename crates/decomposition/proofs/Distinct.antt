@@ -1,6 +1,6 @@
 -- Lists without a member twice: filtered, appended, lists of numbers below n, lists joined; the length of joined lists; and such a list put
 -- in sibling order. Assumes nothing.
-use Prim.Native.Nat.{ℕ, zero, suc, _+_, _*_, _≤_, _<_}
+use Prim.Native.Nat.{ℕ, zero, suc, _*_, _≤_}
 use native.Mathlib.Omega.{arith}
 use native.Mathlib.Nat.{suc-mul}
 use mathlib.Core.Path.{_≡_, refl, sym, _∙_}
