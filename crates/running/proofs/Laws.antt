@@ -33,7 +33,7 @@ shaped-facts k ts ps e =
       most = le-true k 8 (and-r one (leb k 8) to2);
       same = eqb≡ (length ts) (length ps) (and-r two (eqb (length ts) (length ps)) to3);
       whole = eqb≡ (length ts % k) 0 (and-r three (eqb (length ts % k) 0) to4);
-      few = le-true (length ts / k) 65535 (and-r four (leb (length ts / k) 65535) e)
+      few = le-true (length ts / k) 65535 (and-r four (leb (length ts / k) 65535) e);
     }
 
 -- a state and a letter in range have a row

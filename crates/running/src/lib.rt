@@ -50,11 +50,13 @@ impl Run {
         if letters <= letter {
             return Reading::Refused(12, self);
         }
-        let row = at * k + letter as usize;
+        let a = letter as usize;
+        let row = at * k + a;
         let t = targets[row];
         if states <= t as usize {
             return Reading::Refused(13, self);
         }
-        Reading::Moved(Run { state: t }, priorities[row])
+        let met = priorities[row];
+        Reading::Moved(Run { state: t }, met)
     }
 }

@@ -1,6 +1,4 @@
 -- Question 8: each test leaves its part of the definition. Assumes nothing.
-use mathlib.Core.Path.{_≡_}
-use native.Mathlib.Omega.{arith}
 use borrow.Author.Needs.{needs}
 use borrow.Author.Tests.{le-leb, lt-leb, eq-eqb, ne-eqb}
 use Rattle.running.specs.Running.{shaped, rowStates}
