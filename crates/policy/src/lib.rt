@@ -1,5 +1,11 @@
 // A policy: a deterministic Muller automaton with 1 to 16 states, 1 to 8 letters, 1 to 8 colours and at most 64 edges.
 // Edge number = state times letters plus letter. Entries past the last edge are 0. family[s] says whether the colour set s is in the family.
+ghost use mathlib.Core.Path.{_≡_};
+ghost use Prim.Native.Nat.{_<_, _≤_};
+ghost use mathlib.Core.Bool.{true};
+ghost use Rattle.lists.specs.Lists.{all, below};
+ghost use Rattle.policy.specs.Policies.{edges, targetOf, colourOf, coloursOf, inFamily, accepting, legalCounts, legalEdge, legalSet, legal};
+
 pub struct Policy {
     pub states: u8,
     pub letters: u8,
@@ -8,4 +14,123 @@ pub struct Policy {
     pub target: [u8; 64],
     pub colour: [u8; 64],
     pub family: [bool; 256],
+}
+
+// How many edges there are.
+pub fn edges(p: Policy) -> usize
+    ensures { λ r. ⌜ r ≡ edges p ⌝ }
+{
+    p.states as usize * p.letters as usize
+}
+
+// The state that edge e leads to.
+pub fn target_of(p: Policy, e: usize) -> u8
+    requires { ⌜ e < 64 ⌝ }
+    ensures { λ r. ⌜ r ≡ targetOf p e ⌝ }
+{
+    p.target[e]
+}
+
+// The colour of edge e.
+pub fn colour_of(p: Policy, e: usize) -> u8
+    requires { ⌜ e < 64 ⌝ }
+    ensures { λ r. ⌜ r ≡ colourOf p e ⌝ }
+{
+    p.colour[e]
+}
+
+// Whether a colour set is in the family.
+pub fn in_family(p: Policy, s: u8) -> bool
+    ensures { λ r. ⌜ r ≡ inFamily p s ⌝ }
+{
+    p.family[s as usize]
+}
+
+// The colours of an edge set.
+pub fn colours_of(p: Policy, m: u64) -> u8
+    requires { ⌜ legal p ≡ true ⌝ }
+    ensures { λ r. ⌜ r ≡ coloursOf p m ⌝ }
+{
+    let mut s: u8 = 0;
+    let n = edges(p);
+    for e in 0..n {
+        if masks::has(m, e) {
+            s = masks::set_with(s, p.colour[e]);
+        }
+    }
+    s
+}
+
+// The verdict of an edge set.
+pub fn is_accepting(p: Policy, m: u64) -> bool
+    requires { ⌜ legal p ≡ true ⌝ }
+    ensures { λ r. ⌜ r ≡ accepting p m ⌝ }
+{
+    in_family(p, colours_of(p, m))
+}
+
+// Whether the counts are within the limits.
+fn has_legal_counts(p: Policy) -> bool
+    ensures { λ r. ⌜ r ≡ legalCounts p ⌝ }
+{
+    (1 <= p.states)
+        & (p.states <= 16)
+        & (1 <= p.letters)
+        & (p.letters <= 8)
+        & (1 <= p.colours)
+        & (p.colours <= 8)
+        & (edges(p) <= 64)
+        & (p.initial < p.states)
+}
+
+// Whether edge e leads to a state and has a colour; past the last edge, whether both are 0.
+fn has_legal_edge(p: Policy, e: usize) -> bool
+    requires { ⌜ e < 64 ⌝ }
+    ensures { λ r. ⌜ r ≡ legalEdge p e ⌝ }
+{
+    if e < edges(p) {
+        return (p.target[e] < p.states) & (p.colour[e] < p.colours);
+    }
+    (p.target[e] == 0) & (p.colour[e] == 0)
+}
+
+// Whether every edge, and every entry past the last one, is legal.
+fn has_legal_edges(p: Policy) -> bool
+    ensures { λ r. ⌜ r ≡ all (legalEdge p) (below 64) ⌝ }
+{
+    let mut b = true;
+    for e in 0..64 {
+        b = b & has_legal_edge(p, e);
+    }
+    b
+}
+
+// Whether the colour set s, if it is in the family, has members, and only colours of the policy.
+fn has_legal_set(p: Policy, s: usize) -> bool
+    requires { ⌜ (s < 256) × (p .colours ≤ 8) ⌝ }
+    ensures { λ r. ⌜ r ≡ legalSet p s ⌝ }
+{
+    !p.family[s] | ((0 < s) & (s < (1 << p.colours)))
+}
+
+// Whether every colour set of the family is legal.
+fn has_legal_sets(p: Policy) -> bool
+    requires { ⌜ p .colours ≤ 8 ⌝ }
+    ensures { λ r. ⌜ r ≡ all (legalSet p) (below 256) ⌝ }
+{
+    let mut b = true;
+    for s in 0..256 {
+        b = b & has_legal_set(p, s);
+    }
+    b
+}
+
+// Whether a policy is legal.
+pub fn is_legal(p: Policy) -> bool
+    ensures { λ r. ⌜ r ≡ legal p ⌝ }
+{
+    if has_legal_counts(p) {
+        return has_legal_edges(p) & has_legal_sets(p);
+    }
+    false
 }

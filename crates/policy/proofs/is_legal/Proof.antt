@@ -1,0 +1,34 @@
+use mathlib.Core.Path.{sym, _∙_}
+use borrow.Author.Needs.{needs}
+use Rattle.policy.proofs.Laws.{counts}
+use Rattle.policy.proofs.Tests.{legal-counted, legal-uncounted}
+use Rattle.policy.proofs.is_legal.Statement.{statement}
+use Rattle.policy.proofs.is_legal.Tie as tie
+
+has-legal-counts-requires : tie.Need-has-legal-counts-requires
+has-legal-counts-requires c κs = search needs
+
+has-legal-edges-requires : tie.Need-has-legal-edges-requires
+has-legal-edges-requires c κs = search needs
+
+has-legal-sets-requires : tie.Need-has-legal-sets-requires
+has-legal-sets-requires c κs =
+    let d = c .before .before in counts (d .before .args .p) (sym (d .has-legal-counts .ensures) ∙ c .before .if1 .taken) .colours-few
+
+returns : tie.Need-returns
+returns c =
+    let d = c .before .before .before in
+    legal-counted (d .before .args .p) (sym (d .has-legal-counts .ensures) ∙ c .before .before .if1 .taken) _ _ (c .before .has-legal-edges .ensures) (c .has-legal-sets .ensures)
+
+returns-2 : tie.Need-returns-2
+returns-2 c = sym (legal-uncounted (c .before .before .args .p) (sym (c .before .has-legal-counts .ensures) ∙ c .if1 .left))
+
+pub is-legal-spec : {M : Type 1} → statement M
+is-legal-spec =
+    tie.close
+    (tie.spec
+    has-legal-counts-requires
+    has-legal-edges-requires
+    has-legal-sets-requires
+    returns
+    returns-2)
