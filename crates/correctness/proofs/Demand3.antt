@@ -24,8 +24,6 @@ use Rattle.correctness.proofs.Joint.{stands-after}
 use Rattle.correctness.proofs.Period.{Settled, settled}
 
 module _
-    (forest-laws : (p : Policy) → legal p ≡ true → ForestLaws p (forest p))
-    (leaf-after-good : (p : Policy) → legal p ≡ true → (e : ℕ) → e < edges p → (l : ℕ) → Good (forest p) p (source p e) l → Good (forest p) p (targetOf p e) (leafAfter (forest p) p e l))
     (built-good : (p : Policy) → legal p ≡ true → (s : ℕ) → s < length (built p) → (stateAt p s .state < p .states) × Good (forest p) p (stateAt p s .state) (stateAt p s .leaf))
     (number-at : (p : Policy) → legal p ≡ true → (v l : ℕ) → v < p .states → Good (forest p) p v l → (number p v l < length (built p)) × (stateAt p (number p v l) .state ≡ v) × (stateAt p (number p v l) .leaf ≡ l))
     (closed-run : (p : Policy) (ns : List Node) → ForestLaws p ns → Targets p → (v e₀ : ℕ) (es : List ℕ) (l : ℕ) → Path p (below (edges p)) v (e₀ ∷ es) v → Good ns p v l → leafRun ns p (e₀ ∷ es) l ≡ l
@@ -44,8 +42,8 @@ module _
     }
     where
       together : (w : List ℕ) → StandsOver p (builtRun p targets priorities w r) (policyRun p targets priorities w v)
-      together w = stands-after leaf-after-good built-good number-at p ok targets priorities rows w r v stands
+      together w = stands-after built-good number-at p ok targets priorities rows w r v stands
 
       -- the loop, begun where the stem leads
       after-stem : Settled p targets priorities loop (builtRun p targets priorities stem r) (policyRun p targets priorities stem v)
-      after-stem = settled forest-laws leaf-after-good built-good number-at closed-run p ok targets priorities rows loop some (builtRun p targets priorities stem r) (policyRun p targets priorities stem v) (together stem)
+      after-stem = settled built-good number-at closed-run p ok targets priorities rows loop some (builtRun p targets priorities stem r) (policyRun p targets priorities stem v) (together stem)

@@ -16,8 +16,10 @@ use Rattle.policy.specs.Policies.{legal, edges, edgeOf, source, targetOf, edgeC
 use Rattle.policy.proofs.Laws.{legal-target, source-edge, edge-lt}
 use Rattle.graph.specs.Cycles.{Path}
 use Rattle.decomposition.specs.Forest.{forest}
+use Rattle.decomposition.proofs.Forest.{forest-laws}
 use Rattle.builder.specs.Automaton.{built, stateAt, number, leafAfter, priorityAfter, rowTarget, rowPriority}
 use Rattle.builder.proofs.EdgeRuns.{Good, leafRun, metRun}
+use Rattle.builder.proofs.Leaves.{leaf-after-good}
 use Rattle.running.specs.declared.Run.{Run}
 use Rattle.running.specs.Running.{policyStep, policyMeets, rowOf, rowStates, rowStep, rowMeets}
 use Rattle.running.proofs.Steps.{policy-moves, policy-stays, row-moves, row-refuses}
@@ -39,7 +41,6 @@ pub record Read (p : Policy) (targets priorities w : List ℕ) (r : Run) (v l : 
   pub some : any (λ (a : ℕ). ltb a (p .letters)) w ≡ true → taken ≢ []
 
 module _
-    (leaf-after-good : (p : Policy) → legal p ≡ true → (e : ℕ) → e < edges p → (l : ℕ) → Good (forest p) p (source p e) l → Good (forest p) p (targetOf p e) (leafAfter (forest p) p e l))
     (built-good : (p : Policy) → legal p ≡ true → (s : ℕ) → s < length (built p) → (stateAt p s .state < p .states) × Good (forest p) p (stateAt p s .state) (stateAt p s .leaf))
     (number-at : (p : Policy) → legal p ≡ true → (v l : ℕ) → v < p .states → Good (forest p) p v l → (number p v l < length (built p)) × (stateAt p (number p v l) .state ≡ v) × (stateAt p (number p v l) .leaf ≡ l))
     where
@@ -92,7 +93,7 @@ module _
           w-lt = legal-target p ok e e-lt
 
           w-good : Good (forest p) p (targetOf p e) (leafAfter (forest p) p e l)
-          w-good = leaf-after-good p ok e e-lt l (subst (λ (z : ℕ). Good (forest p) p z l) (sym (source-edge p ok v a lt)) (in-good r v l h .1))
+          w-good = leaf-after-good p (forest p) (forest-laws p ok) e e-lt l (subst (λ (z : ℕ). Good (forest p) p z l) (sym (source-edge p ok v a lt)) (in-good r v l h .1))
 
           target : getD targets (rowOf (p .letters) (r .state) a) 0 ≡ number p (targetOf p e) (leafAfter (forest p) p e l)
           target = rows .targets-are (r .state) a (h .is-built) lt ∙ ap₂ (λ (v l : ℕ). number p (targetOf p (edgeOf p v a)) (leafAfter (forest p) p (edgeOf p v a) l)) (h .over) (h .leaf-is)

@@ -27,6 +27,7 @@ use Rattle.graph.proofs.Paths.{path-mem}
 use Rattle.graph.proofs.Cycles.{Targets}
 use Rattle.decomposition.specs.Forest.{Node, even, forest}
 use Rattle.decomposition.specs.Laws.{ForestLaws}
+use Rattle.decomposition.proofs.Forest.{forest-laws}
 use Rattle.builder.specs.Automaton.{built, stateAt, number, leafAfter}
 use Rattle.builder.proofs.EdgeRuns.{Good, leafRun, metRun, Least}
 use Rattle.running.specs.declared.Run.{Run}
@@ -64,8 +65,6 @@ module _ (p : Policy) (targets priorities : List ℕ) where
     pub verdict : even least ≡ inFamily p colours
 
 module _
-    (forest-laws : (p : Policy) → legal p ≡ true → ForestLaws p (forest p))
-    (leaf-after-good : (p : Policy) → legal p ≡ true → (e : ℕ) → e < edges p → (l : ℕ) → Good (forest p) p (source p e) l → Good (forest p) p (targetOf p e) (leafAfter (forest p) p e l))
     (built-good : (p : Policy) → legal p ≡ true → (s : ℕ) → s < length (built p) → (stateAt p s .state < p .states) × Good (forest p) p (stateAt p s .state) (stateAt p s .leaf))
     (number-at : (p : Policy) → legal p ≡ true → (v l : ℕ) → v < p .states → Good (forest p) p v l → (number p v l < length (built p)) × (stateAt p (number p v l) .state ≡ v) × (stateAt p (number p v l) .leaf ≡ l))
     (closed-run : (p : Policy) (ns : List Node) → ForestLaws p ns → Targets p → (v e₀ : ℕ) (es : List ℕ) (l : ℕ) → Path p (below (edges p)) v (e₀ ∷ es) v → Good ns p v l → leafRun ns p (e₀ ∷ es) l ≡ l
@@ -89,7 +88,7 @@ module _
       stands-end : (n : ℕ) → StandsOver p (runEnd n) (stateEnd n)
       unfolding iter
       stands-end zero = stands
-      stands-end (suc n) = stands-after leaf-after-good built-good number-at p ok targets priorities rows loop (runEnd n) (stateEnd n) (stands-end n)
+      stands-end (suc n) = stands-after built-good number-at p ok targets priorities rows loop (runEnd n) (stateEnd n) (stands-end n)
 
       repeats : (i : ℕ) × (k : ℕ) × (runEnd i ≡ runEnd (i + suc k))
       repeats =
@@ -107,7 +106,7 @@ module _
         here = record { is-built = stands-end i .is-built; over = stands-end i .over; leaf-is = refl }
 
         way : Read p targets priorities (times (suc k) loop) (runEnd i) (stateEnd i) leaf
-        way = read leaf-after-good built-good number-at p ok targets priorities rows (times (suc k) loop) (runEnd i) (stateEnd i) leaf here
+        way = read built-good number-at p ok targets priorities rows (times (suc k) loop) (runEnd i) (stateEnd i) leaf here
 
         state-back : stateEnd i ≡ stateEnd (i + suc k)
         state-back = sym (stands-end i .over) ∙ ap (λ (x : Run). stateAt p (x .state) .state) back ∙ stands-end (i + suc k) .over
@@ -139,7 +138,7 @@ module _
 
         decided : Least (forest p) p (way .taken) leaf X
         unfolding X
-        decided = closed (stateEnd i) leaf (way .taken) taken-some path (in-good leaf-after-good built-good number-at p ok (runEnd i) (stateEnd i) leaf here .1) leaf-back
+        decided = closed (stateEnd i) leaf (way .taken) taken-some path (in-good built-good number-at p ok (runEnd i) (stateEnd i) leaf here .1) leaf-back
 
         priority-recurs : (k′ : ℕ) → Recurs (builtRun p targets priorities loop) (builtMet p targets priorities loop) r k′ ↔ List·Memᴰ k′ (metRun (forest p) p (way .taken) leaf)
         priority-recurs k′ =

@@ -19,7 +19,6 @@ use Rattle.correctness.specs.Demand3.{Rows, RecurringPriority}
 use Rattle.correctness.proofs.Joint.{stands-after}
 
 module _
-    (leaf-after-good : (p : Policy) → legal p ≡ true → (e : ℕ) → e < edges p → (l : ℕ) → Good (forest p) p (source p e) l → Good (forest p) p (targetOf p e) (leafAfter (forest p) p e l))
     (built-good : (p : Policy) → legal p ≡ true → (s : ℕ) → s < length (built p) → (stateAt p s .state < p .states) × Good (forest p) p (stateAt p s .state) (stateAt p s .leaf))
     (number-at : (p : Policy) → legal p ≡ true → (v l : ℕ) → v < p .states → Good (forest p) p v l → (number p v l < length (built p)) × (stateAt p (number p v l) .state ≡ v) × (stateAt p (number p v l) .leaf ≡ l))
     where
@@ -27,7 +26,7 @@ module _
     -- a letter leads from a built state to a built state
     pub built-step : (r : Run) (a : ℕ) → r .state < length (built p) → rowStep (p .letters) targets priorities r a .state < length (built p)
     unfolding after
-    built-step r a h = stands-after leaf-after-good built-good number-at p ok targets priorities rows (a ∷ []) r (stateAt p (r .state) .state) (record { is-built = h; over = refl }) .is-built
+    built-step r a h = stands-after built-good number-at p ok targets priorities rows (a ∷ []) r (stateAt p (r .state) .state) (record { is-built = h; over = refl }) .is-built
 
     pub recurring-priorities : (stem loop : List ℕ) (r : Run) → r .state < length (built p)
         → (k : ℕ) → RecurringPriority p targets priorities stem loop r k ↔ List·Memᴰ k (window (rowStep (p .letters) targets priorities) (rowMeets (p .letters) targets priorities) (length (built p)) stem loop r)
