@@ -1,9 +1,9 @@
 -- The defined row tables are rows: what running reads in them is what the built automaton says. Assumes nothing.
-use Prim.Native.Nat.{ℕ, zero, suc, _*_, _/_, _%_, _≤_, _<_}
+use Prim.Native.Nat.{ℕ, _*_, _/_, _%_, _≤_, _<_}
 use native.Mathlib.Omega.{arith}
 use native.Mathlib.Nat.{mul-mod-left, mul-div-cancel}
-use mathlib.Core.Path.{_≡_, refl, sym, ap, _∙_}
-use mathlib.Core.Bool.{Bool, true}
+use mathlib.Core.Path.{_≡_, sym, ap, _∙_}
+use mathlib.Core.Bool.{true}
 use mathlib.Core.List.{List, map}
 use lib.ListN.{length, getD, length-map}
 use borrow.Author.Tests.{le-leb}
@@ -12,7 +12,7 @@ use Rattle.lists.proofs.Bools.{≡eqb}
 use Rattle.lists.proofs.Lists.{length-below, getD-map-below, length-pieces, getD-pieces}
 use Rattle.policy.specs.declared.Policy.{Policy}
 use Rattle.policy.specs.Policies.{legal}
-use Rattle.policy.proofs.Laws.{Counts, legal-counts}
+use Rattle.policy.proofs.Laws.{legal-counts}
 use Rattle.builder.specs.Automaton.{built, rowTarget, rowPriority, rowTargets, rowPriorities}
 use Rattle.running.specs.Running.{rowOf, rowStates, shaped}
 use Rattle.correctness.specs.Demand3.{Rows}

@@ -2,32 +2,26 @@
 -- priority that recurs is even exactly if the set of colours that recurs is in the family.
 use Prim.Native.Nat.{ℕ, _<_}
 use mathlib.Core.Path.{_≡_}
-use mathlib.Core.Logic.{_↔_}
-use mathlib.Core.Bool.{Bool, true}
-use mathlib.Core.List.{List, _∷_, _++_, List·Memᴰ}
+use mathlib.Core.Bool.{true}
+use mathlib.Core.List.{List, _++_}
 use lib.Dec.{ltb}
 use lib.ListN.{length, take}
-use Rattle.lists.specs.Lists.{any, below}
-use Rattle.masks.specs.Masks.{has}
+use Rattle.lists.specs.Lists.{any}
 use Rattle.recurrence.specs.Runs.{times}
 use Rattle.policy.specs.declared.Policy.{Policy}
-use Rattle.policy.specs.Policies.{legal, edges, source, targetOf}
-use Rattle.graph.specs.Cycles.{Path}
-use Rattle.graph.proofs.Cycles.{Targets}
-use Rattle.decomposition.specs.Forest.{Node, forest}
+use Rattle.policy.specs.Policies.{legal}
+use Rattle.decomposition.specs.Forest.{forest}
 use Rattle.decomposition.specs.Laws.{ForestLaws}
-use Rattle.builder.specs.Automaton.{built, stateAt, number, leafAfter}
-use Rattle.builder.proofs.EdgeRuns.{Good, leafRun, Least}
+use Rattle.builder.specs.Automaton.{built, stateAt, number}
+use Rattle.builder.proofs.EdgeRuns.{Good}
 use Rattle.running.specs.declared.Run.{Run}
 use Rattle.correctness.specs.Demand3.{Rows, StandsOver, policyRun, builtRun, Demand3}
 use Rattle.correctness.proofs.Joint.{stands-after}
 use Rattle.correctness.proofs.Period.{Settled, settled}
 
 module _
-    (built-good : (p : Policy) → legal p ≡ true → (s : ℕ) → s < length (built p) → (stateAt p s .state < p .states) × Good (forest p) p (stateAt p s .state) (stateAt p s .leaf))
-    (number-at : (p : Policy) → legal p ≡ true → (v l : ℕ) → v < p .states → Good (forest p) p v l → (number p v l < length (built p)) × (stateAt p (number p v l) .state ≡ v) × (stateAt p (number p v l) .leaf ≡ l))
-    (closed-run : (p : Policy) (ns : List Node) → ForestLaws p ns → Targets p → (v e₀ : ℕ) (es : List ℕ) (l : ℕ) → Path p (below (edges p)) v (e₀ ∷ es) v → Good ns p v l → leafRun ns p (e₀ ∷ es) l ≡ l
-        → (X : ℕ) → ((e : ℕ) → (has X e ≡ true) ↔ List·Memᴰ e (e₀ ∷ es)) → Least ns p (e₀ ∷ es) l X)
+    (built-good : (p : Policy) → ForestLaws p (forest p) → (s : ℕ) → s < length (built p) → (stateAt p s .state < p .states) × Good (forest p) p (stateAt p s .state) (stateAt p s .leaf))
+    (number-at : (p : Policy) → ForestLaws p (forest p) → (v l : ℕ) → v < p .states → Good (forest p) p v l → (number p v l < length (built p)) × (stateAt p (number p v l) .state ≡ v) × (stateAt p (number p v l) .leaf ≡ l))
     where
   pub demand3 : (p : Policy) → legal p ≡ true → (targets priorities : List ℕ) → Rows p targets priorities
       → (stem loop : List ℕ) → any (λ a. ltb a (p .letters)) loop ≡ true → (r : Run) (v : ℕ) → StandsOver p r v → Demand3 p targets priorities stem loop r v
@@ -46,4 +40,4 @@ module _
 
       -- the loop, begun where the stem leads
       after-stem : Settled p targets priorities loop (builtRun p targets priorities stem r) (policyRun p targets priorities stem v)
-      after-stem = settled built-good number-at closed-run p ok targets priorities rows loop some (builtRun p targets priorities stem r) (policyRun p targets priorities stem v) (together stem)
+      after-stem = settled built-good number-at p ok targets priorities rows loop some (builtRun p targets priorities stem r) (policyRun p targets priorities stem v) (together stem)

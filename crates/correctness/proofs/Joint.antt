@@ -3,7 +3,7 @@
 use Prim.Native.Nat.{ℕ, _<_}
 use mathlib.Core.Path.{_≡_, refl, sym, ap, ap₂, _∙_, subst}
 use mathlib.Core.Logic.{_⊎_, inl, inr, _≢_}
-use mathlib.Core.Bool.{Bool, true, false, false≢true}
+use mathlib.Core.Bool.{true, false, false≢true}
 use mathlib.Core.List.{List, [], _∷_, _++_, map, nil≢cons}
 use lib.Dec.{ltb}
 use lib.ListN.{length, getD}
@@ -12,10 +12,11 @@ use Rattle.lists.proofs.Bools.{test, lt-true}
 use Rattle.lists.proofs.Lists.{mem-below}
 use Rattle.recurrence.specs.Runs.{after, met}
 use Rattle.policy.specs.declared.Policy.{Policy}
-use Rattle.policy.specs.Policies.{legal, edges, edgeOf, source, targetOf, edgeColours}
+use Rattle.policy.specs.Policies.{legal, edges, edgeOf, targetOf, edgeColours}
 use Rattle.policy.proofs.Laws.{legal-target, source-edge, edge-lt}
 use Rattle.graph.specs.Cycles.{Path}
 use Rattle.decomposition.specs.Forest.{forest}
+use Rattle.decomposition.specs.Laws.{ForestLaws}
 use Rattle.decomposition.proofs.Forest.{forest-laws}
 use Rattle.builder.specs.Automaton.{built, stateAt, number, leafAfter, priorityAfter, rowTarget, rowPriority}
 use Rattle.builder.proofs.EdgeRuns.{Good, leafRun, metRun}
@@ -41,20 +42,20 @@ pub record Read (p : Policy) (targets priorities w : List ℕ) (r : Run) (v l : 
   pub some : any (λ (a : ℕ). ltb a (p .letters)) w ≡ true → taken ≢ []
 
 module _
-    (built-good : (p : Policy) → legal p ≡ true → (s : ℕ) → s < length (built p) → (stateAt p s .state < p .states) × Good (forest p) p (stateAt p s .state) (stateAt p s .leaf))
-    (number-at : (p : Policy) → legal p ≡ true → (v l : ℕ) → v < p .states → Good (forest p) p v l → (number p v l < length (built p)) × (stateAt p (number p v l) .state ≡ v) × (stateAt p (number p v l) .leaf ≡ l))
+    (built-good : (p : Policy) → ForestLaws p (forest p) → (s : ℕ) → s < length (built p) → (stateAt p s .state < p .states) × Good (forest p) p (stateAt p s .state) (stateAt p s .leaf))
+    (number-at : (p : Policy) → ForestLaws p (forest p) → (v l : ℕ) → v < p .states → Good (forest p) p v l → (number p v l < length (built p)) × (stateAt p (number p v l) .state ≡ v) × (stateAt p (number p v l) .leaf ≡ l))
     where
   module _ (p : Policy) (ok : legal p ≡ true) where
     pub in-good : (r : Run) (v l : ℕ) → In p r v l → (v < p .states) × Good (forest p) p v l
     in-good r v l h =
-        let g = built-good p ok (r .state) (h .is-built) in
+        let g = built-good p (forest-laws p ok) (r .state) (h .is-built) in
         (subst (λ (z : ℕ). z < p .states) (h .over) (g .0),
           subst (λ (z : ℕ). Good (forest p) p v z) (h .leaf-is) (subst (λ (z : ℕ). Good (forest p) p z (stateAt p (r .state) .leaf)) (h .over) (g .1)))
 
     -- the numbered state (v, l) is it
     in-number : (r : Run) (v l : ℕ) → v < p .states → Good (forest p) p v l → r .state ≡ number p v l → In p r v l
     in-number r v l lt g e =
-        let n = number-at p ok v l lt g in
+        let n = number-at p (forest-laws p ok) v l lt g in
         record {
           is-built = subst (λ (s : ℕ). s < length (built p)) (sym e) (n .0);
           over = ap (λ (s : ℕ). stateAt p s .state) e ∙ n .1;
@@ -106,7 +107,7 @@ module _
 
           reads : (step r a ≡ record { state = getD targets (rowOf (p .letters) (r .state) a) 0 }) × (meets r a ≡ getD priorities (rowOf (p .letters) (r .state) a) 0 ∷ [])
           reads = row-moves (p .letters) targets priorities r a (rows .passes) (among (r .state) (h .is-built)) t
-            (among (getD targets (rowOf (p .letters) (r .state) a) 0) (subst (λ (s : ℕ). s < length (built p)) (sym target) (number-at p ok (targetOf p e) (leafAfter (forest p) p e l) w-lt w-good .0)))
+            (among (getD targets (rowOf (p .letters) (r .state) a) 0) (subst (λ (s : ℕ). s < length (built p)) (sym target) (number-at p (forest-laws p ok) (targetOf p e) (leafAfter (forest p) p e l) w-lt w-good .0)))
 
       stays : (r : Run) (v l a : ℕ) → In p r v l → ltb a (p .letters) ≡ false → In p (step r a) (policyStep p v a) l
       stays r v l a h f =

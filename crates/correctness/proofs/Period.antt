@@ -5,7 +5,7 @@ use native.Mathlib.Omega.{arith}
 use native.Mathlib.Decide.{decLt}
 use mathlib.Core.Path.{_≡_, refl, sym, ap, _∙_, subst}
 use mathlib.Core.Logic.{_↔_, _≢_}
-use mathlib.Core.Bool.{Bool, true, false, false≢true}
+use mathlib.Core.Bool.{true, false≢true}
 use mathlib.Core.List.{List, [], _∷_, _++_, map, List·Memᴰ, Memᴰ·cast, Memᴰ·append-left}
 use lib.Dec.{eqb, ltb}
 use lib.ListN.{length}
@@ -16,23 +16,23 @@ use Rattle.masks.specs.Masks.{has, gather}
 use Rattle.masks.proofs.Bits.{has-high}
 use Rattle.masks.proofs.Gather.{gather-lt, has-gather}
 use Rattle.recurrence.specs.Recurs.{iter, Recurs}
-use Rattle.recurrence.specs.Runs.{times, after, met}
+use Rattle.recurrence.specs.Runs.{times, met}
 use Rattle.recurrence.proofs.Pigeon.{pigeon}
 use Rattle.recurrence.proofs.Runs.{after-times, period-recurs}
 use Rattle.policy.specs.declared.Policy.{Policy}
-use Rattle.policy.specs.Policies.{legal, edges, source, targetOf, edgeColours, coloursOf, inFamily}
+use Rattle.policy.specs.Policies.{legal, edges, edgeColours, coloursOf, inFamily}
 use Rattle.policy.proofs.Laws.{legal-target, colours-some, some-colours, accepting-is}
 use Rattle.graph.specs.Cycles.{Path}
 use Rattle.graph.proofs.Paths.{path-mem}
-use Rattle.graph.proofs.Cycles.{Targets}
-use Rattle.decomposition.specs.Forest.{Node, even, forest}
+use Rattle.decomposition.specs.Forest.{even, forest}
 use Rattle.decomposition.specs.Laws.{ForestLaws}
 use Rattle.decomposition.proofs.Forest.{forest-laws}
-use Rattle.builder.specs.Automaton.{built, stateAt, number, leafAfter}
+use Rattle.builder.specs.Automaton.{built, stateAt, number}
 use Rattle.builder.proofs.EdgeRuns.{Good, leafRun, metRun, Least}
+use Rattle.builder.proofs.Closed.{closed-run}
 use Rattle.running.specs.declared.Run.{Run}
 use Rattle.running.specs.Running.{policyStep, policyMeets, rowStep, rowMeets}
-use Rattle.correctness.specs.Demand3.{Rows, StandsOver, policyRun, builtRun, RecurringColour, RecurringPriority}
+use Rattle.correctness.specs.Demand3.{Rows, StandsOver, policyRun, builtRun}
 use Rattle.correctness.proofs.Joint.{In, Read, in-good, read, stands-after}
 
 -- the set of the members of a list, all below n
@@ -65,10 +65,8 @@ module _ (p : Policy) (targets priorities : List ℕ) where
     pub verdict : even least ≡ inFamily p colours
 
 module _
-    (built-good : (p : Policy) → legal p ≡ true → (s : ℕ) → s < length (built p) → (stateAt p s .state < p .states) × Good (forest p) p (stateAt p s .state) (stateAt p s .leaf))
-    (number-at : (p : Policy) → legal p ≡ true → (v l : ℕ) → v < p .states → Good (forest p) p v l → (number p v l < length (built p)) × (stateAt p (number p v l) .state ≡ v) × (stateAt p (number p v l) .leaf ≡ l))
-    (closed-run : (p : Policy) (ns : List Node) → ForestLaws p ns → Targets p → (v e₀ : ℕ) (es : List ℕ) (l : ℕ) → Path p (below (edges p)) v (e₀ ∷ es) v → Good ns p v l → leafRun ns p (e₀ ∷ es) l ≡ l
-        → (X : ℕ) → ((e : ℕ) → (has X e ≡ true) ↔ List·Memᴰ e (e₀ ∷ es)) → Least ns p (e₀ ∷ es) l X)
+    (built-good : (p : Policy) → ForestLaws p (forest p) → (s : ℕ) → s < length (built p) → (stateAt p s .state < p .states) × Good (forest p) p (stateAt p s .state) (stateAt p s .leaf))
+    (number-at : (p : Policy) → ForestLaws p (forest p) → (v l : ℕ) → v < p .states → Good (forest p) p v l → (number p v l < length (built p)) × (stateAt p (number p v l) .state ≡ v) × (stateAt p (number p v l) .leaf ≡ l))
     where
   module _ (p : Policy) (ok : legal p ≡ true) where
     -- the verdict on a closed run, for a list that is not empty

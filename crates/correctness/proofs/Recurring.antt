@@ -12,9 +12,10 @@ use Rattle.lists.proofs.Bools.{test, lt-true, lt-false}
 use Rattle.recurrence.specs.Runs.{after, window}
 use Rattle.recurrence.proofs.Runs.{numbered-recurring}
 use Rattle.policy.specs.declared.Policy.{Policy}
-use Rattle.policy.specs.Policies.{legal, edges, source, targetOf}
+use Rattle.policy.specs.Policies.{legal}
 use Rattle.decomposition.specs.Forest.{forest}
-use Rattle.builder.specs.Automaton.{built, stateAt, number, leafAfter}
+use Rattle.decomposition.specs.Laws.{ForestLaws}
+use Rattle.builder.specs.Automaton.{built, stateAt, number}
 use Rattle.builder.proofs.EdgeRuns.{Good}
 use Rattle.running.specs.declared.Run.{Run}
 use Rattle.running.specs.Running.{rowStep, rowMeets}
@@ -49,8 +50,8 @@ least-mem l k m low = go (least-cases l)
     go (inr q) = q
 
 module _
-    (built-good : (p : Policy) → legal p ≡ true → (s : ℕ) → s < length (built p) → (stateAt p s .state < p .states) × Good (forest p) p (stateAt p s .state) (stateAt p s .leaf))
-    (number-at : (p : Policy) → legal p ≡ true → (v l : ℕ) → v < p .states → Good (forest p) p v l → (number p v l < length (built p)) × (stateAt p (number p v l) .state ≡ v) × (stateAt p (number p v l) .leaf ≡ l))
+    (built-good : (p : Policy) → ForestLaws p (forest p) → (s : ℕ) → s < length (built p) → (stateAt p s .state < p .states) × Good (forest p) p (stateAt p s .state) (stateAt p s .leaf))
+    (number-at : (p : Policy) → ForestLaws p (forest p) → (v l : ℕ) → v < p .states → Good (forest p) p v l → (number p v l < length (built p)) × (stateAt p (number p v l) .state ≡ v) × (stateAt p (number p v l) .leaf ≡ l))
     where
   module _ (p : Policy) (ok : legal p ≡ true) (targets priorities : List ℕ) (rows : Rows p targets priorities) where
     -- a letter leads from a built state to a built state

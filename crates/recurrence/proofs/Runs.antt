@@ -1,6 +1,6 @@
 -- Runs over lists of letters: over a list and then another, over readings of a loop; what recurs in a run that comes back; and that among n
 -- states what recurs is what the window holds. Assumes nothing.
-use Prim.Native.Nat.{ℕ, zero, suc, _+_, _≤_, _<_}
+use Prim.Native.Nat.{ℕ, zero, suc, _+_, _<_}
 use native.Mathlib.Omega.{arith}
 use native.Mathlib.Nat.{add-zero}
 use mathlib.Core.Path.{_≡_, refl, sym, ap, ap₂, _∙_, subst}
