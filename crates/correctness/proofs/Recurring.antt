@@ -1,5 +1,5 @@
--- Which priorities recur over the rows can be computed: they are what the window of as many rounds as there are built states holds. So the least of
--- the window is the least recurring priority.
+-- What recurs can be computed: it is what the window of as many rounds as there are states holds. So the least of the window over the rows is the least
+-- recurring priority.
 use Prim.Native.Nat.{ℕ, _≤_, _<_}
 use native.Mathlib.Omega.{arith}
 use mathlib.Core.Path.{_≡_, refl}
@@ -10,7 +10,7 @@ use lib.Dec.{ltb}
 use lib.ListN.{length}
 use Rattle.lists.proofs.Bools.{test, lt-true, lt-false}
 use Rattle.recurrence.specs.Runs.{after, window}
-use Rattle.recurrence.proofs.Runs.{numbered-recurring}
+use Rattle.recurrence.proofs.Runs.{recurring-window, numbered-recurring}
 use Rattle.policy.specs.declared.Policy.{Policy}
 use Rattle.policy.specs.Policies.{legal}
 use Rattle.decomposition.specs.Forest.{forest}
@@ -18,8 +18,9 @@ use Rattle.decomposition.specs.Laws.{ForestLaws}
 use Rattle.builder.specs.Automaton.{built, stateAt, number}
 use Rattle.builder.proofs.EdgeRuns.{Good}
 use Rattle.running.specs.declared.Run.{Run}
-use Rattle.running.specs.Running.{rowStep, rowMeets}
-use Rattle.correctness.specs.Demand3.{Rows, RecurringPriority}
+use Rattle.running.specs.Running.{policyStep, policyMeets, rowStep, rowMeets}
+use Rattle.running.proofs.Steps.{policy-within}
+use Rattle.correctness.specs.Demand3.{Rows, RecurringColour, RecurringPriority}
 use Rattle.correctness.specs.Known.{leastOf}
 use Rattle.correctness.proofs.Joint.{stands-after}
 
@@ -48,6 +49,11 @@ least-mem l k m low = go (least-cases l)
     go : (leastOf l ≡ 255) ⊎ List·Memᴰ (leastOf l) l → List·Memᴰ (leastOf l) l
     go (inl e) = Memᴰ·cast (omega (arith, least-le l k m)) m
     go (inr q) = q
+
+-- the recurring colours
+pub recurring-colours : (p : Policy) → legal p ≡ true → (targets priorities stem loop : List ℕ) (v : ℕ) → v < p .states
+    → (c : ℕ) → RecurringColour p targets priorities stem loop v c ↔ List·Memᴰ c (window (policyStep p) (policyMeets p) (p .states) stem loop v)
+recurring-colours p ok targets priorities stem loop v h c = recurring-window (policyStep p) (policyMeets p) (p .states) (policy-within p ok) stem loop v h c
 
 module _
     (built-good : (p : Policy) → ForestLaws p (forest p) → (s : ℕ) → s < length (built p) → (stateAt p s .state < p .states) × Good (forest p) p (stateAt p s .state) (stateAt p s .leaf))

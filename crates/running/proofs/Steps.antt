@@ -1,6 +1,6 @@
 -- What reading one letter does, in the policy's run and in the run over rows. Assumes nothing.
 use Prim.Native.Nat.{ℕ, _<_}
-use mathlib.Core.Path.{_≡_, refl}
+use mathlib.Core.Path.{_≡_, refl, sym, subst}
 use mathlib.Core.Logic.{_⊎_, inl, inr}
 use mathlib.Core.Bool.{Bool, true, false, cond}
 use mathlib.Core.List.{List, [], _∷_}
@@ -9,7 +9,8 @@ use lib.ListN.{getD}
 use borrow.Author.Tests.{lt-ltb}
 use Rattle.lists.proofs.Bools.{test, lt-true}
 use Rattle.policy.specs.declared.Policy.{Policy}
-use Rattle.policy.specs.Policies.{edgeOf, targetOf, edgeColours}
+use Rattle.policy.specs.Policies.{legal, edgeOf, targetOf, edgeColours}
+use Rattle.policy.proofs.Laws.{legal-target, edge-lt}
 use Rattle.running.specs.declared.Run.{Run}
 use Rattle.running.specs.declared.Reading.{Reading}
 use Rattle.running.specs.declared.Reading.the-variants.{Moved, Refused}
@@ -25,6 +26,14 @@ module _ (p : Policy) where
   pub policy-stays : (v a : ℕ) → ltb a (p .letters) ≡ false → (policyStep p v a ≡ v) × (policyMeets p v a ≡ [])
   unfolding policyStep policyMeets
   policy-stays v a f = (rw f refl, rw f refl)
+
+  -- a run never leaves the policy's states
+  pub policy-within : legal p ≡ true → (v a : ℕ) → v < p .states → policyStep p v a < p .states
+  policy-within ok v a h = go (test (ltb a (p .letters)))
+    where
+      go : (ltb a (p .letters) ≡ true) ⊎ (ltb a (p .letters) ≡ false) → policyStep p v a < p .states
+      go (inl t) = subst (λ (w : ℕ). w < p .states) (sym (policy-moves v a t .0)) (legal-target p ok (edgeOf p v a) (edge-lt p v a h (lt-true a (p .letters) t)))
+      go (inr f) = subst (λ (w : ℕ). w < p .states) (sym (policy-stays v a f .0)) h
 
 module _ (letters : ℕ) (targets priorities : List ℕ) where
   -- a letter of the policy, in one of the rows' states, with a target among them, moves the run
