@@ -25,9 +25,8 @@ use Rattle.policy.proofs.Laws.{legal-target, colours-some, some-colours, accept
 use Rattle.graph.specs.Cycles.{Path}
 use Rattle.graph.proofs.Paths.{path-mem}
 use Rattle.decomposition.specs.Forest.{even, forest}
-use Rattle.decomposition.specs.Laws.{ForestLaws}
 use Rattle.decomposition.proofs.Forest.{forest-laws}
-use Rattle.builder.specs.Automaton.{built, stateAt, number}
+use Rattle.builder.specs.Automaton.{built, stateAt}
 use Rattle.builder.proofs.EdgeRuns.{Good, leafRun, metRun, Least}
 use Rattle.builder.proofs.Closed.{closed-run}
 use Rattle.running.specs.declared.Run.{Run}
@@ -64,108 +63,104 @@ module _ (p : Policy) (targets priorities : List ℕ) where
     pub colours-recur : (c : ℕ) → (has colours c ≡ true) ↔ Recurs (policyRun p targets priorities loop) (policyMet loop) v c
     pub verdict : even least ≡ inFamily p colours
 
-module _
-    (built-good : (p : Policy) → ForestLaws p (forest p) → (s : ℕ) → s < length (built p) → (stateAt p s .state < p .states) × Good (forest p) p (stateAt p s .state) (stateAt p s .leaf))
-    (number-at : (p : Policy) → ForestLaws p (forest p) → (v l : ℕ) → v < p .states → Good (forest p) p v l → (number p v l < length (built p)) × (stateAt p (number p v l) .state ≡ v) × (stateAt p (number p v l) .leaf ≡ l))
-    where
-  module _ (p : Policy) (ok : legal p ≡ true) where
-    -- the verdict on a closed run, for a list that is not empty
-    closed : (v l : ℕ) (es : List ℕ) → es ≢ [] → Path p (below (edges p)) v es v → Good (forest p) p v l → leafRun (forest p) p es l ≡ l → Least (forest p) p es l (setOf (edges p) es)
-    closed v l [] some path good back = absurd (some refl)
-    closed v l (e ∷ es) some path good back =
-        closed-run p (forest p) (forest-laws p ok) (legal-target p ok) v e es l path good back (setOf (edges p) (e ∷ es))
-          (set-exact (edges p) (e ∷ es) (λ x m. below-lt (edges p) x (path-mem p (below (edges p)) v (e ∷ es) v path x m)))
+module _ (p : Policy) (ok : legal p ≡ true) where
+  -- the verdict on a closed run, for a list that is not empty
+  closed : (v l : ℕ) (es : List ℕ) → es ≢ [] → Path p (below (edges p)) v es v → Good (forest p) p v l → leafRun (forest p) p es l ≡ l → Least (forest p) p es l (setOf (edges p) es)
+  closed v l [] some path good back = absurd (some refl)
+  closed v l (e ∷ es) some path good back =
+      closed-run p (forest p) (forest-laws p ok) (legal-target p ok) v e es l path good back (setOf (edges p) (e ∷ es))
+        (set-exact (edges p) (e ∷ es) (λ x m. below-lt (edges p) x (path-mem p (below (edges p)) v (e ∷ es) v path x m)))
 
-    module _ (targets priorities : List ℕ) (rows : Rows p targets priorities) (loop : List ℕ) (some : any (λ (a : ℕ). ltb a (p .letters)) loop ≡ true) (r : Run) (v : ℕ) (stands : StandsOver p r v) where
-      abbrev runEnd : ℕ → Run
-      runEnd n = iter (builtRun p targets priorities loop) n r
+  module _ (targets priorities : List ℕ) (rows : Rows p targets priorities) (loop : List ℕ) (some : any (λ (a : ℕ). ltb a (p .letters)) loop ≡ true) (r : Run) (v : ℕ) (stands : StandsOver p r v) where
+    abbrev runEnd : ℕ → Run
+    runEnd n = iter (builtRun p targets priorities loop) n r
 
-      abbrev stateEnd : ℕ → ℕ
-      stateEnd n = iter (policyRun p targets priorities loop) n v
+    abbrev stateEnd : ℕ → ℕ
+    stateEnd n = iter (policyRun p targets priorities loop) n v
 
-      stands-end : (n : ℕ) → StandsOver p (runEnd n) (stateEnd n)
-      unfolding iter
-      stands-end zero = stands
-      stands-end (suc n) = stands-after built-good number-at p ok targets priorities rows loop (runEnd n) (stateEnd n) (stands-end n)
+    stands-end : (n : ℕ) → StandsOver p (runEnd n) (stateEnd n)
+    unfolding iter
+    stands-end zero = stands
+    stands-end (suc n) = stands-after p ok targets priorities rows loop (runEnd n) (stateEnd n) (stands-end n)
 
-      repeats : (i : ℕ) × (k : ℕ) × (runEnd i ≡ runEnd (i + suc k))
-      repeats =
-          let q = pigeon (length (built p)) (λ n. runEnd n .state) (λ n h. stands-end n .is-built) in
-          let e : q .1 ≡ q .0 + suc (q .1 - suc (q .0)) = omega (arith, q .2) in
-          (q .0, q .1 - suc (q .0), subst (λ (n : ℕ). runEnd (q .0) ≡ runEnd n) e (ap {B = Run} (λ (s : ℕ). record { state = s }) (q .4)))
+    repeats : (i : ℕ) × (k : ℕ) × (runEnd i ≡ runEnd (i + suc k))
+    repeats =
+        let q = pigeon (length (built p)) (λ n. runEnd n .state) (λ n h. stands-end n .is-built) in
+        let e : q .1 ≡ q .0 + suc (q .1 - suc (q .0)) = omega (arith, q .2) in
+        (q .0, q .1 - suc (q .0), subst (λ (n : ℕ). runEnd (q .0) ≡ runEnd n) e (ap {B = Run} (λ (s : ℕ). record { state = s }) (q .4)))
 
-      -- ---- one way round
-      module _ (i k : ℕ) (back : runEnd i ≡ runEnd (i + suc k)) where
-        leaf : ℕ
-        leaf = stateAt p (runEnd i .state) .leaf
+    -- ---- one way round
+    module _ (i k : ℕ) (back : runEnd i ≡ runEnd (i + suc k)) where
+      leaf : ℕ
+      leaf = stateAt p (runEnd i .state) .leaf
 
-        here : In p (runEnd i) (stateEnd i) leaf
-        unfolding leaf
-        here = record { is-built = stands-end i .is-built; over = stands-end i .over; leaf-is = refl }
+      here : In p (runEnd i) (stateEnd i) leaf
+      unfolding leaf
+      here = record { is-built = stands-end i .is-built; over = stands-end i .over; leaf-is = refl }
 
-        way : Read p targets priorities (times (suc k) loop) (runEnd i) (stateEnd i) leaf
-        way = read built-good number-at p ok targets priorities rows (times (suc k) loop) (runEnd i) (stateEnd i) leaf here
+      way : Read p targets priorities (times (suc k) loop) (runEnd i) (stateEnd i) leaf
+      way = read p ok targets priorities rows (times (suc k) loop) (runEnd i) (stateEnd i) leaf here
 
-        state-back : stateEnd i ≡ stateEnd (i + suc k)
-        state-back = sym (stands-end i .over) ∙ ap (λ (x : Run). stateAt p (x .state) .state) back ∙ stands-end (i + suc k) .over
+      state-back : stateEnd i ≡ stateEnd (i + suc k)
+      state-back = sym (stands-end i .over) ∙ ap (λ (x : Run). stateAt p (x .state) .state) back ∙ stands-end (i + suc k) .over
 
-        run-end : builtRun p targets priorities (times (suc k) loop) (runEnd i) ≡ runEnd i
-        run-end = after-times (rowStep (p .letters) targets priorities) (rowMeets (p .letters) targets priorities) loop r i (suc k) ∙ sym back
+      run-end : builtRun p targets priorities (times (suc k) loop) (runEnd i) ≡ runEnd i
+      run-end = after-times (rowStep (p .letters) targets priorities) (rowMeets (p .letters) targets priorities) loop r i (suc k) ∙ sym back
 
-        state-end : policyRun p targets priorities (times (suc k) loop) (stateEnd i) ≡ stateEnd i
-        state-end = after-times (policyStep p) (policyMeets p) loop v i (suc k) ∙ sym state-back
+      state-end : policyRun p targets priorities (times (suc k) loop) (stateEnd i) ≡ stateEnd i
+      state-end = after-times (policyStep p) (policyMeets p) loop v i (suc k) ∙ sym state-back
 
-        path : Path p (below (edges p)) (stateEnd i) (way .taken) (stateEnd i)
-        path = subst (Path p (below (edges p)) (stateEnd i) (way .taken)) state-end (way .path)
+      path : Path p (below (edges p)) (stateEnd i) (way .taken) (stateEnd i)
+      path = subst (Path p (below (edges p)) (stateEnd i) (way .taken)) state-end (way .path)
 
-        leaf-back : leafRun (forest p) p (way .taken) leaf ≡ leaf
-        unfolding leaf
-        leaf-back = sym (way .ends .leaf-is) ∙ ap (λ (x : Run). stateAt p (x .state) .leaf) run-end
+      leaf-back : leafRun (forest p) p (way .taken) leaf ≡ leaf
+      unfolding leaf
+      leaf-back = sym (way .ends .leaf-is) ∙ ap (λ (x : Run). stateAt p (x .state) .leaf) run-end
 
-        taken-some : way .taken ≢ []
-        unfolding times
-        taken-some =
-            let a = any-some (λ (a : ℕ). ltb a (p .letters)) loop some in
-            way .some (some-any (λ (a : ℕ). ltb a (p .letters)) (loop ++ times k loop) (a .0) (Memᴰ·append-left (times k loop) (a .1)) (a .2))
+      taken-some : way .taken ≢ []
+      unfolding times
+      taken-some =
+          let a = any-some (λ (a : ℕ). ltb a (p .letters)) loop some in
+          way .some (some-any (λ (a : ℕ). ltb a (p .letters)) (loop ++ times k loop) (a .0) (Memᴰ·append-left (times k loop) (a .1)) (a .2))
 
-        X : ℕ
-        X = setOf (edges p) (way .taken)
+      X : ℕ
+      X = setOf (edges p) (way .taken)
 
-        taken-lt : (e : ℕ) → List·Memᴰ e (way .taken) → e < edges p
-        taken-lt e m = below-lt (edges p) e (path-mem p (below (edges p)) (stateEnd i) (way .taken) (stateEnd i) path e m)
+      taken-lt : (e : ℕ) → List·Memᴰ e (way .taken) → e < edges p
+      taken-lt e m = below-lt (edges p) e (path-mem p (below (edges p)) (stateEnd i) (way .taken) (stateEnd i) path e m)
 
-        decided : Least (forest p) p (way .taken) leaf X
-        unfolding X
-        decided = closed (stateEnd i) leaf (way .taken) taken-some path (in-good built-good number-at p ok (runEnd i) (stateEnd i) leaf here .1) leaf-back
+      decided : Least (forest p) p (way .taken) leaf X
+      unfolding X
+      decided = closed (stateEnd i) leaf (way .taken) taken-some path (in-good p ok (runEnd i) (stateEnd i) leaf here .1) leaf-back
 
-        priority-recurs : (k′ : ℕ) → Recurs (builtRun p targets priorities loop) (builtMet p targets priorities loop) r k′ ↔ List·Memᴰ k′ (metRun (forest p) p (way .taken) leaf)
-        priority-recurs k′ =
-            let q = period-recurs (rowStep (p .letters) targets priorities) (rowMeets (p .letters) targets priorities) loop r i (suc k) (omega arith) back k′ in
-            (λ h. subst (List·Memᴰ k′) (way .priorities-are) (q .0 h), λ m. q .1 (subst (List·Memᴰ k′) (sym (way .priorities-are)) m))
+      priority-recurs : (k′ : ℕ) → Recurs (builtRun p targets priorities loop) (builtMet p targets priorities loop) r k′ ↔ List·Memᴰ k′ (metRun (forest p) p (way .taken) leaf)
+      priority-recurs k′ =
+          let q = period-recurs (rowStep (p .letters) targets priorities) (rowMeets (p .letters) targets priorities) loop r i (suc k) (omega arith) back k′ in
+          (λ h. subst (List·Memᴰ k′) (way .priorities-are) (q .0 h), λ m. q .1 (subst (List·Memᴰ k′) (sym (way .priorities-are)) m))
 
-        colour-recurs : (c : ℕ) → Recurs (policyRun p targets priorities loop) (policyMet p targets priorities loop) v c ↔ List·Memᴰ c (flat (map (edgeColours p) (way .taken)))
-        colour-recurs c =
-            let q = period-recurs (policyStep p) (policyMeets p) loop v i (suc k) (omega arith) state-back c in
-            (λ h. subst (List·Memᴰ c) (way .colours-are) (q .0 h), λ m. q .1 (subst (List·Memᴰ c) (sym (way .colours-are)) m))
+      colour-recurs : (c : ℕ) → Recurs (policyRun p targets priorities loop) (policyMet p targets priorities loop) v c ↔ List·Memᴰ c (flat (map (edgeColours p) (way .taken)))
+      colour-recurs c =
+          let q = period-recurs (policyStep p) (policyMeets p) loop v i (suc k) (omega arith) state-back c in
+          (λ h. subst (List·Memᴰ c) (way .colours-are) (q .0 h), λ m. q .1 (subst (List·Memᴰ c) (sym (way .colours-are)) m))
 
-        exact : (e : ℕ) → (has X e ≡ true) ↔ List·Memᴰ e (way .taken)
-        unfolding X
-        exact e = set-exact (edges p) (way .taken) taken-lt e
+      exact : (e : ℕ) → (has X e ≡ true) ↔ List·Memᴰ e (way .taken)
+      unfolding X
+      exact e = set-exact (edges p) (way .taken) taken-lt e
 
-        colours-are : (c : ℕ) → (has (coloursOf p X) c ≡ true) ↔ List·Memᴰ c (flat (map (edgeColours p) (way .taken)))
-        colours-are c =
-            (λ t. let e = colours-some p X c t in mem-flat (edgeColours p) (way .taken) (e .0) c (exact (e .0) .0 (e .2)) (e .3),
-              λ m. let e = flat-mem (edgeColours p) (way .taken) c m in some-colours p X (e .0) c (taken-lt (e .0) (e .1)) (exact (e .0) .1 (e .1)) (e .2))
+      colours-are : (c : ℕ) → (has (coloursOf p X) c ≡ true) ↔ List·Memᴰ c (flat (map (edgeColours p) (way .taken)))
+      colours-are c =
+          (λ t. let e = colours-some p X c t in mem-flat (edgeColours p) (way .taken) (e .0) c (exact (e .0) .0 (e .2)) (e .3),
+            λ m. let e = flat-mem (edgeColours p) (way .taken) c m in some-colours p X (e .0) c (taken-lt (e .0) (e .1)) (exact (e .0) .1 (e .1)) (e .2))
 
-        one-way : Settled p targets priorities loop r v
-        one-way = record {
-          least = decided .least;
-          least-recurs = priority-recurs (decided .least) .1 (decided .is-met);
-          least-lowest = λ n h. decided .lowest n (priority-recurs n .0 h);
-          colours = coloursOf p X;
-          colours-recur = λ c. (λ t. colour-recurs c .1 (colours-are c .0 t), λ h. colours-are c .1 (colour-recurs c .0 h));
-          verdict = decided .verdict ∙ accepting-is p X;
-        }
+      one-way : Settled p targets priorities loop r v
+      one-way = record {
+        least = decided .least;
+        least-recurs = priority-recurs (decided .least) .1 (decided .is-met);
+        least-lowest = λ n h. decided .lowest n (priority-recurs n .0 h);
+        colours = coloursOf p X;
+        colours-recur = λ c. (λ t. colour-recurs c .1 (colours-are c .0 t), λ h. colours-are c .1 (colour-recurs c .0 h));
+        verdict = decided .verdict ∙ accepting-is p X;
+      }
 
-      pub settled : Settled p targets priorities loop r v
-      settled = one-way (repeats .0) (repeats .1) (repeats .2)
+    pub settled : Settled p targets priorities loop r v
+    settled = one-way (repeats .0) (repeats .1) (repeats .2)

@@ -13,10 +13,7 @@ use Rattle.recurrence.specs.Runs.{after, window}
 use Rattle.recurrence.proofs.Runs.{recurring-window, numbered-recurring}
 use Rattle.policy.specs.declared.Policy.{Policy}
 use Rattle.policy.specs.Policies.{legal}
-use Rattle.decomposition.specs.Forest.{forest}
-use Rattle.decomposition.specs.Laws.{ForestLaws}
-use Rattle.builder.specs.Automaton.{built, stateAt, number}
-use Rattle.builder.proofs.EdgeRuns.{Good}
+use Rattle.builder.specs.Automaton.{built, stateAt}
 use Rattle.running.specs.declared.Run.{Run}
 use Rattle.running.specs.Running.{policyStep, policyMeets, rowStep, rowMeets}
 use Rattle.running.proofs.Steps.{policy-within}
@@ -55,28 +52,24 @@ pub recurring-colours : (p : Policy) → legal p ≡ true → (targets prioritie
     → (c : ℕ) → RecurringColour p targets priorities stem loop v c ↔ List·Memᴰ c (window (policyStep p) (policyMeets p) (p .states) stem loop v)
 recurring-colours p ok targets priorities stem loop v h c = recurring-window (policyStep p) (policyMeets p) (p .states) (policy-within p ok) stem loop v h c
 
-module _
-    (built-good : (p : Policy) → ForestLaws p (forest p) → (s : ℕ) → s < length (built p) → (stateAt p s .state < p .states) × Good (forest p) p (stateAt p s .state) (stateAt p s .leaf))
-    (number-at : (p : Policy) → ForestLaws p (forest p) → (v l : ℕ) → v < p .states → Good (forest p) p v l → (number p v l < length (built p)) × (stateAt p (number p v l) .state ≡ v) × (stateAt p (number p v l) .leaf ≡ l))
+module _ (p : Policy) (ok : legal p ≡ true) (targets priorities : List ℕ) (rows : Rows p targets priorities) where
+  -- a letter leads from a built state to a built state
+  pub built-step : (r : Run) (a : ℕ) → r .state < length (built p) → rowStep (p .letters) targets priorities r a .state < length (built p)
+  unfolding after
+  built-step r a h = stands-after p ok targets priorities rows (a ∷ []) r (stateAt p (r .state) .state) (record { is-built = h; over = refl }) .is-built
+
+  pub recurring-priorities : (stem loop : List ℕ) (r : Run) → r .state < length (built p)
+      → (k : ℕ) → RecurringPriority p targets priorities stem loop r k ↔ List·Memᴰ k (window (rowStep (p .letters) targets priorities) (rowMeets (p .letters) targets priorities) (length (built p)) stem loop r)
+  recurring-priorities stem loop r h k =
+      numbered-recurring (rowStep (p .letters) targets priorities) (rowMeets (p .letters) targets priorities) (λ (r : Run). r .state) (λ (s : ℕ). record { state = s }) (λ r. refl) (λ s. refl)
+        (length (built p)) built-step stem loop r h k
+
+  -- where some priority of a byte recurs, the least of the window recurs, and nothing below it does
+  pub least-recurring : (stem loop : List ℕ) (r : Run) → r .state < length (built p) → (k : ℕ) → RecurringPriority p targets priorities stem loop r k → k ≤ 255
+      → RecurringPriority p targets priorities stem loop r (leastOf (window (rowStep (p .letters) targets priorities) (rowMeets (p .letters) targets priorities) (length (built p)) stem loop r))
+        × ((j : ℕ) → RecurringPriority p targets priorities stem loop r j → leastOf (window (rowStep (p .letters) targets priorities) (rowMeets (p .letters) targets priorities) (length (built p)) stem loop r) ≤ j)
+  least-recurring stem loop r h k rec low =
+      (recurring-priorities stem loop r h (leastOf held) .1 (least-mem held k (recurring-priorities stem loop r h k .0 rec) low), λ j q. least-le held j (recurring-priorities stem loop r h j .0 q))
     where
-  module _ (p : Policy) (ok : legal p ≡ true) (targets priorities : List ℕ) (rows : Rows p targets priorities) where
-    -- a letter leads from a built state to a built state
-    pub built-step : (r : Run) (a : ℕ) → r .state < length (built p) → rowStep (p .letters) targets priorities r a .state < length (built p)
-    unfolding after
-    built-step r a h = stands-after built-good number-at p ok targets priorities rows (a ∷ []) r (stateAt p (r .state) .state) (record { is-built = h; over = refl }) .is-built
-
-    pub recurring-priorities : (stem loop : List ℕ) (r : Run) → r .state < length (built p)
-        → (k : ℕ) → RecurringPriority p targets priorities stem loop r k ↔ List·Memᴰ k (window (rowStep (p .letters) targets priorities) (rowMeets (p .letters) targets priorities) (length (built p)) stem loop r)
-    recurring-priorities stem loop r h k =
-        numbered-recurring (rowStep (p .letters) targets priorities) (rowMeets (p .letters) targets priorities) (λ (r : Run). r .state) (λ (s : ℕ). record { state = s }) (λ r. refl) (λ s. refl)
-          (length (built p)) built-step stem loop r h k
-
-    -- where some priority of a byte recurs, the least of the window recurs, and nothing below it does
-    pub least-recurring : (stem loop : List ℕ) (r : Run) → r .state < length (built p) → (k : ℕ) → RecurringPriority p targets priorities stem loop r k → k ≤ 255
-        → RecurringPriority p targets priorities stem loop r (leastOf (window (rowStep (p .letters) targets priorities) (rowMeets (p .letters) targets priorities) (length (built p)) stem loop r))
-          × ((j : ℕ) → RecurringPriority p targets priorities stem loop r j → leastOf (window (rowStep (p .letters) targets priorities) (rowMeets (p .letters) targets priorities) (length (built p)) stem loop r) ≤ j)
-    least-recurring stem loop r h k rec low =
-        (recurring-priorities stem loop r h (leastOf held) .1 (least-mem held k (recurring-priorities stem loop r h k .0 rec) low), λ j q. least-le held j (recurring-priorities stem loop r h j .0 q))
-      where
-        held : List ℕ
-        held = window (rowStep (p .letters) targets priorities) (rowMeets (p .letters) targets priorities) (length (built p)) stem loop r
+      held : List ℕ
+      held = window (rowStep (p .letters) targets priorities) (rowMeets (p .letters) targets priorities) (length (built p)) stem loop r
