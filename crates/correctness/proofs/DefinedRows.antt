@@ -5,6 +5,7 @@ use native.Mathlib.Nat.{mul-mod-left, mul-div-cancel}
 use mathlib.Core.Path.{_≡_, sym, ap, _∙_}
 use mathlib.Core.Bool.{true}
 use mathlib.Core.List.{List, map}
+use lib.Dec.{leb}
 use lib.ListN.{length, getD, length-map}
 use borrow.Author.Tests.{le-leb}
 use Rattle.lists.specs.Lists.{flat, below}
@@ -46,15 +47,19 @@ module _ (p : Policy) where
   unfolding shaped
   shape ok few =
       let c = legal-counts p ok in
-      rw (le-leb 1 (p .letters) (c .letters-some), le-leb (p .letters) 8 (c .letters-few), ≡eqb (length (rowTargets p)) (length (rowPriorities p)) (targets-long ∙ sym priorities-long),
-        ≡eqb (length (rowTargets p) % p .letters) 0 (ap (λ (n : ℕ). n % p .letters) targets-long ∙ mul-mod-left (length (built p)) (p .letters)))
-        (ap (λ (n : ℕ). lib.Dec.leb n 65535) (states-are (c .letters-some)) ∙ le-leb (length (built p)) 65535 few)
+      rw (
+        le-leb 1 (p .letters) (c .letters-some),
+        le-leb (p .letters) 8 (c .letters-few),
+        ≡eqb (length (rowTargets p)) (length (rowPriorities p)) (targets-long ∙ sym priorities-long),
+        ≡eqb (length (rowTargets p) % p .letters) 0 (ap (λ (n : ℕ). n % p .letters) targets-long ∙ mul-mod-left (length (built p)) (p .letters)),
+      )
+      (ap (λ (n : ℕ). leb n 65535) (states-are (c .letters-some)) ∙ le-leb (length (built p)) 65535 few)
 
 pub rows-of : (p : Policy) → legal p ≡ true → length (built p) ≤ 65535 → Rows p (rowTargets p) (rowPriorities p)
 unfolding rowTargets rowPriorities
 rows-of p ok few = record {
-    passes = shape p ok few;
-    enough = omega (arith, states-are p (legal-counts p ok .letters-some));
-    targets-are = λ s a h l. place p (rowTarget p) s a h l;
-    priorities-are = λ s a h l. place p (rowPriority p) s a h l;
-  }
+  passes = shape p ok few;
+  enough = omega (arith, states-are p (legal-counts p ok .letters-some));
+  targets-are = λ s a h l. place p (rowTarget p) s a h l;
+  priorities-are = λ s a h l. place p (rowPriority p) s a h l;
+}

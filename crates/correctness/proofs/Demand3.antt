@@ -1,5 +1,5 @@
 -- Demand 3, for every legal policy: the two runs stay together over every list of letters, and on every loop with a letter of the policy the least
--- priority that recurs is even exactly if the set of colours that recurs is in the family.
+-- priority that recurs is even exactly if the set of colours that recurs is in the family. Assumes nothing.
 use Prim.Native.Nat.{ℕ}
 use mathlib.Core.Path.{_≡_}
 use mathlib.Core.Bool.{true}
@@ -18,14 +18,14 @@ use Rattle.correctness.proofs.Period.{Settled, settled}
 pub demand3 : (p : Policy) → legal p ≡ true → (targets priorities : List ℕ) → Rows p targets priorities
     → (stem loop : List ℕ) → any (λ a. ltb a (p .letters)) loop ≡ true → (r : Run) (v : ℕ) → StandsOver p r v → Demand3 p targets priorities stem loop r v
 demand3 p ok targets priorities rows stem loop some r v stands = record {
-    stands = λ n i. together (take i (stem ++ times n loop));
-    least = after-stem .least;
-    least-recurs = after-stem .least-recurs;
-    least-lowest = after-stem .least-lowest;
-    colours = after-stem .colours;
-    colours-recur = after-stem .colours-recur;
-    verdict = after-stem .verdict;
-  }
+  stands = λ n i. together (take i (stem ++ times n loop));
+  least = after-stem .least;
+  least-recurs = after-stem .least-recurs;
+  least-lowest = after-stem .least-lowest;
+  colours = after-stem .colours;
+  colours-recur = after-stem .colours-recur;
+  verdict = after-stem .verdict;
+}
   where
     together : (w : List ℕ) → StandsOver p (builtRun p targets priorities w r) (policyRun p targets priorities w v)
     together w = stands-after p ok targets priorities rows w r v stands

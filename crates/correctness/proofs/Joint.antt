@@ -1,6 +1,7 @@
 -- The two runs side by side: reading letters from a built state (v, l) takes the edges of a path from v, and the leaves, priorities and colours are
--- those of the edges. Refused letters leave both runs where they are.
+-- those of the edges. Refused letters leave both runs where they are. Assumes nothing.
 use Prim.Native.Nat.{ℕ, _<_}
+use native.Mathlib.Omega.{arith}
 use mathlib.Core.Path.{_≡_, refl, sym, ap, ap₂, _∙_, subst}
 use mathlib.Core.Logic.{_⊎_, inl, inr, _≢_}
 use mathlib.Core.Bool.{true, false, false≢true}
@@ -13,13 +14,13 @@ use Rattle.lists.proofs.Lists.{mem-below}
 use Rattle.recurrence.specs.Runs.{after, met}
 use Rattle.policy.specs.declared.Policy.{Policy}
 use Rattle.policy.specs.Policies.{legal, edges, edgeOf, targetOf, edgeColours}
-use Rattle.policy.proofs.Laws.{legal-target, source-edge, edge-lt}
+use Rattle.policy.proofs.Laws.{legal-counts, legal-target, source-edge, edge-lt}
 use Rattle.graph.specs.Cycles.{Path}
 use Rattle.decomposition.specs.Forest.{forest}
 use Rattle.decomposition.proofs.Forest.{forest-laws}
-use Rattle.builder.specs.Automaton.{built, stateAt, number, leafAfter, priorityAfter, rowTarget, rowPriority}
+use Rattle.builder.specs.Automaton.{built, stateAt, number, start, firstLeaf, leafAfter, priorityAfter, rowTarget, rowPriority}
 use Rattle.builder.proofs.EdgeRuns.{Good, leafRun, metRun}
-use Rattle.builder.proofs.Leaves.{leaf-after-good}
+use Rattle.builder.proofs.Leaves.{first-good, leaf-after-good}
 use Rattle.builder.proofs.Tables.{built-good, number-at}
 use Rattle.running.specs.declared.Run.{Run}
 use Rattle.running.specs.Running.{policyStep, policyMeets, rowOf, rowStates, rowStep, rowMeets}
@@ -44,9 +45,10 @@ pub record Read (p : Policy) (targets priorities w : List ℕ) (r : Run) (v l : 
 module _ (p : Policy) (ok : legal p ≡ true) where
   pub in-good : (r : Run) (v l : ℕ) → In p r v l → (v < p .states) × Good (forest p) p v l
   in-good r v l h =
-      let g = built-good p (forest-laws p ok) (r .state) (h .is-built) in
-      (subst (λ (z : ℕ). z < p .states) (h .over) (g .0),
-        subst (λ (z : ℕ). Good (forest p) p v z) (h .leaf-is) (subst (λ (z : ℕ). Good (forest p) p z (stateAt p (r .state) .leaf)) (h .over) (g .1)))
+      let g = built-good p (forest-laws p ok) (r .state) (h .is-built) in (
+        subst (λ (z : ℕ). z < p .states) (h .over) (g .0),
+        subst (λ (z : ℕ). Good (forest p) p v z) (h .leaf-is) (subst (λ (z : ℕ). Good (forest p) p z (stateAt p (r .state) .leaf)) (h .over) (g .1)),
+      )
 
   -- the numbered state (v, l) is it
   in-number : (r : Run) (v l : ℕ) → v < p .states → Good (forest p) p v l → r .state ≡ number p v l → In p r v l
@@ -57,6 +59,13 @@ module _ (p : Policy) (ok : legal p ≡ true) where
         over = ap (λ (s : ℕ). stateAt p s .state) e ∙ n .1;
         leaf-is = ap (λ (s : ℕ). stateAt p s .leaf) e ∙ n .2;
       }
+
+  -- the start stands over the initial state
+  pub start-stands : StandsOver p (record { state = start p }) (p .initial)
+  unfolding start
+  start-stands =
+      let n = number-at p (forest-laws p ok) (p .initial) (firstLeaf (forest p) p (p .initial)) (legal-counts p ok .initial-lt) (first-good p (forest p) (forest-laws p ok) (p .initial)) in
+      record { is-built = n .0; over = n .1 }
 
   module _ (targets priorities : List ℕ) (rows : Rows p targets priorities) where
     abbrev step : Run → ℕ → Run
@@ -69,10 +78,11 @@ module _ (p : Policy) (ok : legal p ≡ true) where
     moves : (r : Run) (v l a : ℕ) → In p r v l → ltb a (p .letters) ≡ true
         → In p (step r a) (policyStep p v a) (leafAfter (forest p) p (edgeOf p v a) l) × (meets r a ≡ priorityAfter (forest p) p (edgeOf p v a) l ∷ [])
     unfolding rowTarget rowPriority
-    moves r v l a h t =
-        (in-number (step r a) (policyStep p v a) (leafAfter (forest p) p e l) (subst (λ (z : ℕ). z < p .states) (sym goes) w-lt) (subst (λ (z : ℕ). Good (forest p) p z (leafAfter (forest p) p e l)) (sym goes) w-good)
+    moves r v l a h t = (
+      in-number (step r a) (policyStep p v a) (leafAfter (forest p) p e l) (subst (λ (z : ℕ). z < p .states) (sym goes) w-lt) (subst (λ (z : ℕ). Good (forest p) p z (leafAfter (forest p) p e l)) (sym goes) w-good)
           (ap (λ (x : Run). x .state) (reads .0) ∙ target ∙ ap (λ (z : ℕ). number p z (leafAfter (forest p) p e l)) (sym goes)),
-          reads .1 ∙ ap (λ (k : ℕ). k ∷ []) priority)
+      reads .1 ∙ ap (λ (k : ℕ). k ∷ []) priority,
+    )
       where
         e : ℕ
         e = edgeOf p v a
@@ -99,11 +109,11 @@ module _ (p : Policy) (ok : legal p ≡ true) where
         priority = rows .priorities-are (r .state) a (h .is-built) lt ∙ ap₂ (λ (v l : ℕ). priorityAfter (forest p) p (edgeOf p v a) l) (h .over) (h .leaf-is)
 
         among : (s : ℕ) → s < length (built p) → s < rowStates (p .letters) targets priorities
-        among s k = omega (native.Mathlib.Omega.arith, rows .enough)
+        among s k = omega (arith, rows .enough)
 
         reads : (step r a ≡ record { state = getD targets (rowOf (p .letters) (r .state) a) 0 }) × (meets r a ≡ getD priorities (rowOf (p .letters) (r .state) a) 0 ∷ [])
         reads = row-moves (p .letters) targets priorities r a (rows .passes) (among (r .state) (h .is-built)) t
-          (among (getD targets (rowOf (p .letters) (r .state) a) 0) (subst (λ (s : ℕ). s < length (built p)) (sym target) (number-at p (forest-laws p ok) (targetOf p e) (leafAfter (forest p) p e l) w-lt w-good .0)))
+            (among (getD targets (rowOf (p .letters) (r .state) a) 0) (subst (λ (s : ℕ). s < length (built p)) (sym target) (number-at p (forest-laws p ok) (targetOf p e) (leafAfter (forest p) p e l) w-lt w-good .0)))
 
     stays : (r : Run) (v l a : ℕ) → In p r v l → ltb a (p .letters) ≡ false → In p (step r a) (policyStep p v a) l
     stays r v l a h f =
@@ -123,8 +133,11 @@ module _ (p : Policy) (ok : legal p ≡ true) where
             let lt = lt-true a (p .letters) t in
             record {
               taken = edgeOf p v a ∷ i .taken;
-              path = (source-edge p ok v a lt, mem-below (edges p) (edgeOf p v a) (edge-lt p v a (in-good r v l h .0) lt),
-                  subst (λ (z : ℕ). Path p (below (edges p)) z (i .taken) (policyRun p targets priorities w (policyStep p v a))) (policy-moves p v a t .0) (i .path));
+              path = (
+                source-edge p ok v a lt,
+                mem-below (edges p) (edgeOf p v a) (edge-lt p v a (in-good r v l h .0) lt),
+                subst (λ (z : ℕ). Path p (below (edges p)) z (i .taken) (policyRun p targets priorities w (policyStep p v a))) (policy-moves p v a t .0) (i .path),
+              );
               ends = i .ends;
               priorities-are = ap₂ (λ (x y : List ℕ). x ++ y) (m .1) (i .priorities-are);
               colours-are = ap₂ (λ (x y : List ℕ). x ++ y) (policy-moves p v a t .1) (i .colours-are);

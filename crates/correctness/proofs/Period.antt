@@ -1,5 +1,5 @@
 -- The joint run comes back: among finitely many built states one is met twice at the rounds' ends. The edges of the rounds between are then a closed
--- path with a closed run of leaves, what recurs is what they meet, and their least priority decides as their set of colours does.
+-- path with a closed run of leaves, what recurs is what they meet, and their least priority decides as their set of colours does. Assumes nothing.
 use Prim.Native.Nat.{ℕ, zero, suc, _+_, _-_, _≤_, _<_}
 use native.Mathlib.Omega.{arith}
 use native.Mathlib.Decide.{decLt}
@@ -69,7 +69,7 @@ module _ (p : Policy) (ok : legal p ≡ true) where
   closed v l [] some path good back = absurd (some refl)
   closed v l (e ∷ es) some path good back =
       closed-run p (forest p) (forest-laws p ok) (legal-target p ok) v e es l path good back (setOf (edges p) (e ∷ es))
-        (set-exact (edges p) (e ∷ es) (λ x m. below-lt (edges p) x (path-mem p (below (edges p)) v (e ∷ es) v path x m)))
+      (set-exact (edges p) (e ∷ es) (λ x m. below-lt (edges p) x (path-mem p (below (edges p)) v (e ∷ es) v path x m)))
 
   module _ (targets priorities : List ℕ) (rows : Rows p targets priorities) (loop : List ℕ) (some : any (λ (a : ℕ). ltb a (p .letters)) loop ≡ true) (r : Run) (v : ℕ) (stands : StandsOver p r v) where
     abbrev runEnd : ℕ → Run
@@ -148,9 +148,10 @@ module _ (p : Policy) (ok : legal p ≡ true) where
       exact e = set-exact (edges p) (way .taken) taken-lt e
 
       colours-are : (c : ℕ) → (has (coloursOf p X) c ≡ true) ↔ List·Memᴰ c (flat (map (edgeColours p) (way .taken)))
-      colours-are c =
-          (λ t. let e = colours-some p X c t in mem-flat (edgeColours p) (way .taken) (e .0) c (exact (e .0) .0 (e .2)) (e .3),
-            λ m. let e = flat-mem (edgeColours p) (way .taken) c m in some-colours p X (e .0) c (taken-lt (e .0) (e .1)) (exact (e .0) .1 (e .1)) (e .2))
+      colours-are c = (
+        λ t. let e = colours-some p X c t in mem-flat (edgeColours p) (way .taken) (e .0) c (exact (e .0) .0 (e .2)) (e .3),
+        λ m. let e = flat-mem (edgeColours p) (way .taken) c m in some-colours p X (e .0) c (taken-lt (e .0) (e .1)) (exact (e .0) .1 (e .1)) (e .2),
+      )
 
       one-way : Settled p targets priorities loop r v
       one-way = record {

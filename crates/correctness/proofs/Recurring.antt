@@ -1,5 +1,5 @@
 -- What recurs can be computed: it is what the window of as many rounds as there are states holds. So the least of the window over the rows is the least
--- recurring priority.
+-- recurring priority. Assumes nothing.
 use Prim.Native.Nat.{ℕ, _≤_, _<_}
 use native.Mathlib.Omega.{arith}
 use mathlib.Core.Path.{_≡_, refl}
@@ -62,12 +62,12 @@ module _ (p : Policy) (ok : legal p ≡ true) (targets priorities : List ℕ) (r
       → (k : ℕ) → RecurringPriority p targets priorities stem loop r k ↔ List·Memᴰ k (window (rowStep (p .letters) targets priorities) (rowMeets (p .letters) targets priorities) (length (built p)) stem loop r)
   recurring-priorities stem loop r h k =
       numbered-recurring (rowStep (p .letters) targets priorities) (rowMeets (p .letters) targets priorities) (λ (r : Run). r .state) (λ (s : ℕ). record { state = s }) (λ r. refl) (λ s. refl)
-        (length (built p)) built-step stem loop r h k
+      (length (built p)) built-step stem loop r h k
 
   -- where some priority of a byte recurs, the least of the window recurs, and nothing below it does
   pub least-recurring : (stem loop : List ℕ) (r : Run) → r .state < length (built p) → (k : ℕ) → RecurringPriority p targets priorities stem loop r k → k ≤ 255
       → RecurringPriority p targets priorities stem loop r (leastOf (window (rowStep (p .letters) targets priorities) (rowMeets (p .letters) targets priorities) (length (built p)) stem loop r))
-        × ((j : ℕ) → RecurringPriority p targets priorities stem loop r j → leastOf (window (rowStep (p .letters) targets priorities) (rowMeets (p .letters) targets priorities) (length (built p)) stem loop r) ≤ j)
+      × ((j : ℕ) → RecurringPriority p targets priorities stem loop r j → leastOf (window (rowStep (p .letters) targets priorities) (rowMeets (p .letters) targets priorities) (length (built p)) stem loop r) ≤ j)
   least-recurring stem loop r h k rec low =
       (recurring-priorities stem loop r h (leastOf held) .1 (least-mem held k (recurring-priorities stem loop r h k .0 rec) low), λ j q. least-le held j (recurring-priorities stem loop r h j .0 q))
     where

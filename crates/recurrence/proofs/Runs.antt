@@ -84,9 +84,10 @@ module _ {A B : Type 0} (f : A → A) (out : A → List B) (code : A → ℕ) (d
 
   pub numbered-window : (n : ℕ) → ((x : A) → code x < n → code (f x) < n) → (x : A) → code x < n → (y : B) → Recurs f out x y ↔ List·Memᴰ y (rounds f out x n n)
   numbered-window n stays x lt y =
-      let w = recurs-window codedRound codedOut (code x) n (λ c h. stays (decode c) (subst (λ (z : ℕ). z < n) (sym (coded c)) h)) lt y in
-      (λ h. subst (List·Memᴰ y) (rounds-coded n n x) (w .0 (λ m. let r = h m in (r .0, r .1, subst (List·Memᴰ y) (sym (out-coded (r .0) x)) (r .2)))),
-        λ m k. let r = w .1 (subst (List·Memᴰ y) (sym (rounds-coded n n x)) m) k in (r .0, r .1, subst (List·Memᴰ y) (out-coded (r .0) x) (r .2)))
+      let w = recurs-window codedRound codedOut (code x) n (λ c h. stays (decode c) (subst (λ (z : ℕ). z < n) (sym (coded c)) h)) lt y in (
+        λ h. subst (List·Memᴰ y) (rounds-coded n n x) (w .0 (λ m. let r = h m in (r .0, r .1, subst (List·Memᴰ y) (sym (out-coded (r .0) x)) (r .2)))),
+        λ m k. let r = w .1 (subst (List·Memᴰ y) (sym (rounds-coded n n x)) m) k in (r .0, r .1, subst (List·Memᴰ y) (out-coded (r .0) x) (r .2)),
+      )
 
 -- ---- runs among n states: what recurs is what the window holds
 module _ {S B : Type 0} (step : S → ℕ → S) (meets : S → ℕ → List B) (code : S → ℕ) (decode : ℕ → S) (decoded : (s : S) → decode (code s) ≡ s) (coded : (c : ℕ) → code (decode c) ≡ c)

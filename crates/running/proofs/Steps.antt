@@ -40,7 +40,7 @@ module _ (letters : ℕ) (targets priorities : List ℕ) where
   pub row-moves : (r : Run) (a : ℕ) → shaped letters targets priorities ≡ true → r .state < rowStates letters targets priorities → ltb a letters ≡ true
       → getD targets (rowOf letters (r .state) a) 0 < rowStates letters targets priorities
       → (rowStep letters targets priorities r a ≡ record { state = getD targets (rowOf letters (r .state) a) 0 })
-        × (rowMeets letters targets priorities r a ≡ getD priorities (rowOf letters (r .state) a) 0 ∷ [])
+      × (rowMeets letters targets priorities r a ≡ getD priorities (rowOf letters (r .state) a) 0 ∷ [])
   unfolding readingOf rowStep rowMeets
   row-moves r a ok s t lt = (rw (ok, lt-ltb _ _ s, t, lt-ltb _ _ lt) refl, rw (ok, lt-ltb _ _ s, t, lt-ltb _ _ lt) refl)
 
