@@ -24,7 +24,8 @@ use Rattle.graph.specs.Cycles.{isCycle, contains}
 use Rattle.graph.specs.Through.{cycleThrough}
 use Rattle.graph.proofs.Cycles.{Targets, some-nonzero, contains-some, contains-inside}
 use Rattle.graph.proofs.Through.{through-cycle, through-largest, through-same}
-use Rattle.decomposition.specs.Forest.{differs, full, inOrder, largest, roots, children}
+use Rattle.decomposition.specs.Forest.{Node, isRoot, node, differs, full, inOrder, largest, roots, children}
+use Rattle.decomposition.specs.Laws.{ForestLaws, maskAt, parentAt}
 use Rattle.decomposition.specs.Candidates.{lowestIs, candidateAt, candidatesOf, candidates, judged, rootAt, rootCandidates, childrenIn}
 use Rattle.decomposition.proofs.Order.{order-mem, mem-order}
 use Rattle.decomposition.proofs.Largest.{largest-order-mem, in-largest-order}
@@ -351,3 +352,17 @@ module _ (p : Policy) where
         apart : (x y : ℕ) → List·Memᴰ x (rootCandidates p) → List·Memᴰ y (rootCandidates p) → (properly x y ≡ true) ⊎ (properly x y ≡ false) → properly x y ≡ false
         apart x y k l (inl t) = absurd (omega (arith, properly-lt x y t, root-candidates-same x y k l (properly-inside x y t)))
         apart x y k l (inr f) = f
+
+    -- ---- every node of the forest
+    node-to : (ns : List Node) → ForestLaws p ns → (k n : ℕ) → n < k → n < length ns → List·Memᴰ (maskAt ns n) (candidates p)
+    node-to ns laws zero n l h = absurd (omega arith)
+    node-to ns laws (suc k) n l h = go (test (isRoot (node ns n))) (node-to ns laws k)
+      where
+        go : (isRoot (node ns n) ≡ true) ⊎ (isRoot (node ns n) ≡ false) → ((j : ℕ) → j < k → j < length ns → List·Memᴰ (maskAt ns j) (candidates p)) → List·Memᴰ (maskAt ns n) (candidates p)
+        go (inl t) ih = root-candidate (maskAt ns n) (laws .root-mask n h t)
+        go (inr f) ih =
+            let lt = laws .parent-lt n h f in
+            child-candidate (maskAt ns (parentAt ns n)) (maskAt ns n) (ih (parentAt ns n) (omega arith) (omega arith)) (laws .child-mask n h f)
+
+    pub node-candidate : (ns : List Node) → ForestLaws p ns → (n : ℕ) → n < length ns → List·Memᴰ (maskAt ns n) (candidates p)
+    node-candidate ns laws n h = node-to ns laws (suc n) n (omega arith) h
