@@ -9,3 +9,4 @@ pub mod Priorities
 pub mod Planted
 pub mod Numbered
 pub mod Forest
+pub mod Following
