@@ -237,6 +237,50 @@ module _ (p : Policy) (ns : List Node) where
         up zero l e d = from-roots zero e (roots p) refl d
         up (suc n) l e d = from-children n (suc n) (omega arith) e (children p (maskAt ns n)) refl d
 
+-- ---- only the nodes written so far are read
+-- ns and ns′ agree on the nodes below i, and the parents of these lie below i. The levels end the chains, so they are wanted too
+module _ (p : Policy) (ns ns′ : List Node) (i : ℕ)
+    (same : (j : ℕ) → j < i → (maskAt ns j ≡ maskAt ns′ j) × (parentAt ns j ≡ parentAt ns′ j) × (node ns j .level ≡ node ns′ j .level))
+    (parent-below : (j : ℕ) → j < i → rootAt ns j ≡ false → parentAt ns j < i)
+    (level-up : (j : ℕ) → j < i → rootAt ns j ≡ false → node ns j .level ≡ node ns (parentAt ns j) .level + 1) where
+  siblings-local : (n : ℕ) → n < i → siblings p ns n ≡ siblings p ns′ n
+  unfolding siblings
+  siblings-local n l = go (test (rootAt ns n))
+    where
+      other : (b : Bool) → rootAt ns n ≡ b → rootAt ns′ n ≡ b
+      other b e = sym (ap (λ (k : ℕ). eqb k 0) (same n l .2)) ∙ e
+
+      go : (rootAt ns n ≡ true) ⊎ (rootAt ns n ≡ false) → cond (rootAt ns n) (roots p) (children p (maskAt ns (parentAt ns n))) ≡ cond (rootAt ns′ n) (roots p) (children p (maskAt ns′ (parentAt ns′ n)))
+      go (inl t) = rw t (rw (other true t) refl)
+      go (inr f) = rw f (rw (other false f) (ap (children p) (same (parentAt ns n) (parent-below n l f) .0 ∙ ap (maskAt ns′) (same n l .1))))
+
+  climb-local : (n : ℕ) (up up′ : List ℕ) → n < i → climb p ns up ≡ climb p ns′ up′ → climb p ns (n ∷ up) ≡ climb p ns′ (n ∷ up′)
+  unfolding climb
+  climb-local n up up′ l e =
+      let s : afterIn (maskAt ns n) (siblings p ns n) ≡ afterIn (maskAt ns′ n) (siblings p ns′ n) = ap₂ afterIn (same n l .0) (siblings-local n l) in
+      λ j. cond (eqb (s j) 0) (e j) (record { mask = s j; parent = same n l .1 j })
+
+  chain-local : (k n : ℕ) → n < i → node ns n .level ≡ k → climb p ns (upFrom ns k n) ≡ climb p ns′ (upFrom ns′ k n)
+  unfolding upFrom climb
+  chain-local zero n l e = climb-local n [] [] l refl
+  chain-local (suc k) n l e =
+      let f : rootAt ns n ≡ false = neqb (node ns n .level) 0 (λ z. omega (arith, z, e)) in
+      let q : ℕ = parentAt ns n in
+      let ih = chain-local k q (parent-below n l f) (omega (arith, e, level-up n l f)) in
+      climb-local n (upFrom ns k q) (upFrom ns′ k (parentAt ns′ n)) l (ih ∙ ap (λ (z : ℕ). climb p ns′ (upFrom ns′ k z)) (same n l .1))
+
+  next-local-to : (k : ℕ) → k ≤ i → nextNode p ns k ≡ nextNode p ns′ k
+  unfolding nextNode nextAfter chain
+  next-local-to zero l = refl
+  next-local-to (suc n) l =
+      let h : n < i = omega arith in
+      let c : firstIn (children p (maskAt ns n)) ≡ firstIn (children p (maskAt ns′ n)) = ap (λ (m : ℕ). firstIn (children p m)) (same n h .0) in
+      let r = chain-local (node ns n .level) n h refl ∙ ap (λ (k : ℕ). climb p ns′ (upFrom ns′ k n)) (same n h .2) in
+      λ j. cond (eqb (c j) 0) (r j) (record { mask = c j; parent = n })
+
+  pub next-local : nextNode p ns i ≡ nextNode p ns′ i
+  next-local = next-local-to i (omega arith)
+
 -- ---- the forest
 module _ (p : Policy) (fewer : (m c : ℕ) → List·Memᴰ c (children p m) → ones c < ones m) (few : (r : ℕ) → List·Memᴰ r (roots p) → ones r ≤ edges p)
     (ordered-children : (m : ℕ) → Ordered (children p m)) (ordered-roots : Ordered (roots p)) where
@@ -334,3 +378,27 @@ module _ (p : Policy) (fewer : (m c : ℕ) → List·Memᴰ c (children p m) →
     pub next-none : nextNode p (forest p) (length (forest p)) .mask ≡ 0
     unfolding nextOf
     next-none = ap (λ (x : Next). x .mask) (next-pending p ns nonzero-children nonzero-roots (length ns) ∙ ap nextOf none-pending)
+
+    -- so the mask found is 0 only there
+    pub node-nonzero : (i : ℕ) → i < length (forest p) → maskAt (forest p) i ≢ 0
+    node-nonzero i l = go (test (rootAt ns i))
+      where
+        go : (rootAt ns i ≡ true) ⊎ (rootAt ns i ≡ false) → maskAt ns i ≢ 0
+        go (inl t) = nonzero-roots (maskAt ns i) (laws .root-mask i l t)
+        go (inr f) = nonzero-children (maskAt ns (parentAt ns i)) (maskAt ns i) (laws .child-mask i l f)
+
+    -- the same, from any nodes that agree with the first i of the forest
+    module _ (written : List Node) (i : ℕ)
+        (same : (j : ℕ) → j < i → (maskAt (forest p) j ≡ maskAt written j) × (parentAt (forest p) j ≡ parentAt written j) × (node (forest p) j .level ≡ node written j .level)) where
+      pub next-same : i ≤ length (forest p) → nextNode p written i ≡ nextNode p (forest p) i
+      next-same l =
+          sym (next-local p ns written i same (λ j h f. omega (arith, laws .parent-lt j (omega arith) f)) (λ j h f. laws .level-up j (omega arith) f))
+
+      pub written-next : i < length (forest p) → (nextNode p written i .mask ≡ node (forest p) i .mask) × (nextNode p written i .parent ≡ node (forest p) i .parent)
+      written-next l =
+          let e = next-same (omega arith) in
+          let r = next-is i l in
+          (ap (λ (x : Next). x .mask) e ∙ r .0, ap (λ (x : Next). x .parent) e ∙ r .1)
+
+      pub written-none : i ≡ length (forest p) → nextNode p written i .mask ≡ 0
+      written-none l = ap (λ (x : Next). x .mask) (next-same (omega (arith, l)) ∙ ap (nextNode p (forest p)) l) ∙ next-none
