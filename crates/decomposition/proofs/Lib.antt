@@ -10,3 +10,4 @@ pub mod Planted
 pub mod Numbered
 pub mod Forest
 pub mod Following
+pub mod Siblings

@@ -2,3 +2,4 @@ pub mod Forest
 pub mod Laws
 pub mod Next
 pub mod Candidates
+pub mod Siblings

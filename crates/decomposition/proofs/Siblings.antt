@@ -1,0 +1,200 @@
+-- A search through a list of masks that keeps the best mask so far ends with the next sibling: the least by the sibling order of the masks that pass is the first
+-- of the ordered list of them. Assumes nothing.
+use Prim.Native.Nat.{ℕ, zero, suc, _+_, _<_}
+use native.Mathlib.Omega.{arith}
+use native.Mathlib.Decide.{ℕ-discrete}
+use native.Mathlib.Numerals.{add-one}
+use mathlib.Core.Path.{_≡_, refl, sym, ap, _∙_, subst}
+use mathlib.Core.Logic.{_⊎_, inl, inr, _≢_}
+use mathlib.Core.Bool.{Bool, true, false, not, _&&_, _||_, cond, true≢false}
+use mathlib.Core.List.{List, [], _∷_, _++_, List·Memᴰ, List·Memᴰ·head, List·Memᴰ·tail, List·Memᴰ·cases-cons, List·Memᴰ·not-nil, List·Memᴰ·append-cases, List·Memᴰ·eq-of-singleton, Memᴰ·append-left, Memᴰ·append-right}
+use lib.Dec.{eqb}
+use lib.ListN.{length, getD, take}
+use lib.Seq.{take-suc}
+use Rattle.lists.specs.Lists.{any, filter, firstOr, Distinct}
+use Rattle.lists.proofs.Bools.{test, ≡eqb, neqb, and-l, and-r, both, not-true}
+use Rattle.lists.proofs.Lists.{none-any, none-true, filter-mem, mem-filter, getD-mem}
+use Rattle.masks.specs.Masks.{properly}
+use Rattle.decomposition.specs.Forest.{before, inOrder, largest}
+use Rattle.decomposition.specs.Laws.{Ordered}
+use Rattle.decomposition.specs.Next.{firstIn, afterIn}
+use Rattle.decomposition.specs.Siblings.{childrenIn, nextIn, around, isLargest, standsAfter, better, rootBetter, childBetter}
+use Rattle.decomposition.proofs.Order.{before-irreflexive, before-transitive, before-total, order-mem, mem-order}
+use Rattle.decomposition.proofs.Distinct.{distinct-filter, distinct-ordered, distinct-largest}
+use Rattle.decomposition.proofs.Largest.{largest-order-mem, mem-largest}
+
+-- ---- the least of the members that pass
+-- r is 0 and none passes, or r is the member that passes and stands before the others
+abbrev pub Least : (ℕ → Bool) → List ℕ → ℕ → Type 0
+Least t l r =
+    ((r ≡ 0) × ((x : ℕ) → List·Memᴰ x l → t x ≡ false))
+    ⊎ ((r ≢ 0) × List·Memᴰ r l × (t r ≡ true) × ((x : ℕ) → List·Memᴰ x l → t x ≡ true → (x ≡ r) ⊎ (before r x ≡ true)))
+
+-- one more member
+least-more : (t : ℕ → Bool) (s : List ℕ) (b m : ℕ) → m ≢ 0 → Least t s b → Least t (s ++ (m ∷ [])) (cond (t m && better b m) m b)
+unfolding better
+least-more t s b m nonzero v = go (test (t m)) v
+  where
+    last : {x : ℕ} → List·Memᴰ x (m ∷ []) → x ≡ m
+    last k = List·Memᴰ·eq-of-singleton k
+
+    cases : {x : ℕ} → List·Memᴰ x (s ++ (m ∷ [])) → List·Memᴰ x s ⊎ List·Memᴰ x (m ∷ [])
+    cases k = List·Memᴰ·append-cases s k
+
+    here : List·Memᴰ m (s ++ (m ∷ []))
+    here = Memᴰ·append-right s (List·Memᴰ·head refl)
+
+    -- m is the first that passes
+    first : t m ≡ true → ((x : ℕ) → List·Memᴰ x s → t x ≡ false) → (x : ℕ) → List·Memᴰ x s ⊎ List·Memᴰ x (m ∷ []) → t x ≡ true → (x ≡ m) ⊎ (before m x ≡ true)
+    first u none x (inl k) w = absurd (true≢false (sym w ∙ none x k))
+    first u none x (inr k) w = inl (last k)
+
+    none-yet : t m ≡ false → ((x : ℕ) → List·Memᴰ x s → t x ≡ false) → (x : ℕ) → List·Memᴰ x s ⊎ List·Memᴰ x (m ∷ []) → t x ≡ false
+    none-yet u none x (inl k) = none x k
+    none-yet u none x (inr k) = ap t (last k) ∙ u
+
+    -- m stands before b
+    sooner : before m b ≡ true → ((x : ℕ) → List·Memᴰ x s → t x ≡ true → (x ≡ b) ⊎ (before b x ≡ true)) → (x : ℕ) → List·Memᴰ x s ⊎ List·Memᴰ x (m ∷ []) → t x ≡ true → (x ≡ m) ⊎ (before m x ≡ true)
+    sooner h least x (inr k) w = inl (last k)
+    sooner h least x (inl k) w = pick (least x k w)
+      where
+        pick : (x ≡ b) ⊎ (before b x ≡ true) → (x ≡ m) ⊎ (before m x ≡ true)
+        pick (inl e) = inr (ap (before m) e ∙ h)
+        pick (inr g) = inr (before-transitive m b x h g)
+
+    -- b stays
+    stays : (t m ≡ true → before m b ≡ false) → ((x : ℕ) → List·Memᴰ x s → t x ≡ true → (x ≡ b) ⊎ (before b x ≡ true)) → (x : ℕ) → List·Memᴰ x s ⊎ List·Memᴰ x (m ∷ []) → t x ≡ true
+        → (x ≡ b) ⊎ (before b x ≡ true)
+    stays h least x (inl k) w = least x k w
+    stays h least x (inr k) w = same (ℕ-discrete m b)
+      where
+        other : (before m b ≡ true) ⊎ (before b m ≡ true) → before b m ≡ true
+        other (inl u) = absurd (true≢false (sym u ∙ h (sym (ap t (last k)) ∙ w)))
+        other (inr u) = u
+
+        same : Dec (m ≡ b) → (x ≡ b) ⊎ (before b x ≡ true)
+        same (yes e) = inl (last k ∙ e)
+        same (no n) = inr (ap (before b) (last k) ∙ other (before-total m b n))
+
+    go : (t m ≡ true) ⊎ (t m ≡ false) → Least t s b → Least t (s ++ (m ∷ [])) (cond (t m && better b m) m b)
+    go (inl u) (inl w) = rw u (rw (≡eqb b 0 (w .0)) (inr (nonzero, here, u, λ x k. first u (w .1) x (cases k))))
+    go (inr u) (inl w) = rw u (inl (w .0, λ x k. none-yet u (w .1) x (cases k)))
+    go (inr u) (inr w) = rw u (inr (w .0, Memᴰ·append-left (m ∷ []) (w .1), w .2, λ x k. stays (λ f. absurd (true≢false (sym f ∙ u))) (w .3) x (cases k)))
+    go (inl u) (inr w) = rw u (rw (neqb b 0 (w .0)) (compare (test (before m b))))
+      where
+        compare : (before m b ≡ true) ⊎ (before m b ≡ false) → Least t (s ++ (m ∷ [])) (cond (before m b) m b)
+        compare (inl h) = rw h (inr (nonzero, here, u, λ x k. sooner h (w .3) x (cases k)))
+        compare (inr h) = rw h (inr (w .0, Memᴰ·append-left (m ∷ []) (w .1), w .2, λ x k. stays (λ _. h) (w .3) x (cases k)))
+
+-- one turn of the search: i members are seen, and b is the best of them
+pub least-turn : (t : ℕ → Bool) (l : List ℕ) (i b m r : ℕ) (u : Bool) → i < length l → ((x : ℕ) → List·Memᴰ x l → x ≢ 0) → Least t (take i l) b → m ≡ getD l i 0 → u ≡ t m && better b m → r ≡ cond u m b → Least t (take (i + 1) l) r
+least-turn t l i b m r u h nonzero v e d c =
+    let s : take (i + 1) l ≡ take i l ++ (m ∷ []) = ap (λ (j : ℕ). take j l) (add-one i) ∙ take-suc l i 0 h ∙ ap (λ (z : ℕ). take i l ++ (z ∷ [])) (sym e) in
+    subst (λ (z : ℕ). Least t (take (i + 1) l) z) (sym (c ∙ ap (λ (z : Bool). cond z m b) d))
+    (subst (λ (z : List ℕ). Least t z (cond (t m && better b m) m b)) (sym s) (least-more t (take i l) b m (λ z. nonzero (getD l i 0) (getD-mem l i 0 h) (sym e ∙ z)) v))
+
+-- the least is the first of the ordered list of those that pass
+least-first : (t : ℕ → Bool) (l o : List ℕ) (r : ℕ) → Ordered o → ((x : ℕ) → List·Memᴰ x o → List·Memᴰ x l × (t x ≡ true)) → ((x : ℕ) → List·Memᴰ x l → t x ≡ true → List·Memᴰ x o) → Least t l r → r ≡ firstOr 0 o
+least-first t l [] r ordered sound complete (inl w) = w .0
+least-first t l [] r ordered sound complete (inr w) = absurd (List·Memᴰ·not-nil (complete r (w .1) (w .2)))
+least-first t l (y ∷ o) r ordered sound complete (inl w) =
+    let k = sound y (List·Memᴰ·head refl) in
+    absurd (true≢false (sym (k .1) ∙ w .1 y (k .0)))
+least-first t l (y ∷ o) r ordered sound complete (inr w) = go (List·Memᴰ·cases-cons (complete r (w .1) (w .2)))
+  where
+    later : before y r ≡ true → (y ≡ r) ⊎ (before r y ≡ true) → r ≡ y
+    later h (inl e) = sym e
+    later h (inr g) = absurd (true≢false (sym (before-transitive y r y h g) ∙ before-irreflexive y))
+
+    go : (r ≡ y) ⊎ List·Memᴰ r o → r ≡ y
+    go (inl e) = e
+    go (inr k) = let q = sound y (List·Memᴰ·head refl) in later (ordered .0 r k) (w .3 y (q .0) (q .1))
+
+-- ---- the first of the siblings after a
+ordered-filter : (t : ℕ → Bool) (l : List ℕ) → Ordered l → Ordered (filter t l)
+ordered-filter t [] o = tt
+ordered-filter t (x ∷ l) o = go (t x) (ordered-filter t l (o .1))
+  where
+    go : (b : Bool) → Ordered (filter t l) → Ordered (cond b (x ∷ filter t l) (filter t l))
+    go true r = (λ y k. o .0 y (filter-mem t l y k .0), r)
+    go false r = r
+
+next-first : (a : ℕ) (o : List ℕ) → nextIn a o ≡ firstOr 0 (filter (standsAfter a) o)
+unfolding nextIn firstIn afterIn standsAfter
+next-first a o = go (test (eqb a 0))
+  where
+    whole : (l : List ℕ) → filter (λ (m : ℕ). true || before a m) l ≡ l
+    whole [] = refl
+    whole (x ∷ l) = ap {B = List ℕ} (λ z. x ∷ z) (whole l)
+
+    go : (eqb a 0 ≡ true) ⊎ (eqb a 0 ≡ false) → cond (eqb a 0) (firstOr 0 o) (firstOr 0 (filter (before a) o)) ≡ firstOr 0 (filter (λ m. eqb a 0 || before a m) o)
+    go (inl t) = rw t (ap (firstOr 0) (sym (whole o)))
+    go (inr f) = rw f refl
+
+-- ---- among roots
+pub least-root : (l : List ℕ) (a r : ℕ) → Distinct l → Least (standsAfter a) l r → r ≡ nextIn a (inOrder l)
+least-root l a r d v =
+    least-first (standsAfter a) l (filter (standsAfter a) (inOrder l)) r (ordered-filter (standsAfter a) (inOrder l) (distinct-ordered l d)) sound
+    (λ x k u. mem-filter (standsAfter a) (inOrder l) x (mem-order l x k) u) v
+    ∙ sym (next-first a (inOrder l))
+  where
+    sound : (x : ℕ) → List·Memᴰ x (filter (standsAfter a) (inOrder l)) → List·Memᴰ x l × (standsAfter a x ≡ true)
+    sound x k = let q = filter-mem (standsAfter a) (inOrder l) x k in (order-mem l x (q .0), q .1)
+
+-- ---- among the children of n
+-- m is one that stands after a
+unfoldable pub childAfter : List ℕ → ℕ → ℕ → ℕ → Bool
+childAfter l n a m = properly m n && (standsAfter a m && isLargest l m n)
+
+pub child-better : (l : List ℕ) (n a b m : ℕ) → childBetter l n a b m ≡ childAfter l n a m && better b m
+unfolding childBetter childAfter rootBetter
+child-better l n a b m = go (properly m n) (standsAfter a m) (better b m) (isLargest l m n)
+  where
+    go : (x y z w : Bool) → x && ((y && z) && w) ≡ (x && (y && w)) && z
+    go false y z w = refl
+    go true false z w = refl
+    go true true false false = refl
+    go true true false true = refl
+    go true true true false = refl
+    go true true true true = refl
+
+module _ (l : List ℕ) (n : ℕ) where
+  abbrev within : List ℕ
+  within = filter (λ (m : ℕ). properly m n) l
+
+  children-mem : (x : ℕ) → List·Memᴰ x (childrenIn l n) → List·Memᴰ x l × (properly x n ≡ true) × (isLargest l x n ≡ true)
+  unfolding childrenIn isLargest around
+  children-mem x k =
+      let q = largest-order-mem within x k in
+      let w = filter-mem (λ (m : ℕ). properly m n) l x (q .0) in
+      (w .0, w .1, ap not (none-true (λ (y : ℕ). around y x n) l (λ y m. outside (q .1) y m (test (properly y n)))))
+    where
+      outside : ((y : ℕ) → List·Memᴰ y within → properly x y ≡ false) → (y : ℕ) → List·Memᴰ y l → (properly y n ≡ true) ⊎ (properly y n ≡ false) → properly y n && properly x y ≡ false
+      outside h y m (inl t) = rw t (h y (mem-filter (λ (z : ℕ). properly z n) l y m t))
+      outside h y m (inr f) = rw f refl
+
+  mem-children : (x : ℕ) → List·Memᴰ x l → properly x n ≡ true → isLargest l x n ≡ true → List·Memᴰ x (childrenIn l n)
+  unfolding childrenIn isLargest around
+  mem-children x k t h =
+      mem-order (largest within) x
+      (mem-largest within x (mem-filter (λ (m : ℕ). properly m n) l x k t)
+      (λ y m. let w = filter-mem (λ (m : ℕ). properly m n) l y m in let q = none-any (λ (y : ℕ). around y x n) l (not-true (any (λ (y : ℕ). around y x n) l) h) y (w .0) in (rw (w .1) at q)))
+
+  pub least-child : (a r : ℕ) → Distinct l → Least (childAfter l n a) l r → r ≡ nextIn a (childrenIn l n)
+  unfolding childrenIn childAfter
+  least-child a r d v =
+      least-first (childAfter l n a) l (filter (standsAfter a) (childrenIn l n)) r
+      (ordered-filter (standsAfter a) (childrenIn l n) (distinct-ordered (largest within) (distinct-largest within (distinct-filter (λ (m : ℕ). properly m n) l d)))) sound complete v
+      ∙ sym (next-first a (childrenIn l n))
+    where
+      sound : (x : ℕ) → List·Memᴰ x (filter (standsAfter a) (childrenIn l n)) → List·Memᴰ x l × (childAfter l n a x ≡ true)
+      sound x k =
+          let q = filter-mem (standsAfter a) (childrenIn l n) x k in
+          let w = children-mem x (q .0) in
+          (w .0, both (properly x n) (standsAfter a x && isLargest l x n) (w .1) (both (standsAfter a x) (isLargest l x n) (q .1) (w .2)))
+
+      complete : (x : ℕ) → List·Memᴰ x l → childAfter l n a x ≡ true → List·Memᴰ x (filter (standsAfter a) (childrenIn l n))
+      complete x k t =
+          let u : standsAfter a x && isLargest l x n ≡ true = and-r (properly x n) (standsAfter a x && isLargest l x n) t in
+          mem-filter (standsAfter a) (childrenIn l n) x (mem-children x k (and-l (properly x n) (standsAfter a x && isLargest l x n) t) (and-r (standsAfter a x) (isLargest l x n) u))
+          (and-l (standsAfter a x) (isLargest l x n) u)

@@ -1,0 +1,41 @@
+-- Siblings found in a list of masks that need not be in order: the children of a node among them, and the first that stands after a given one. No mask is 0, so
+-- 0 stands for none.
+use Prim.Native.Nat.{ℕ}
+use mathlib.Core.Bool.{Bool, not, _&&_, _||_, cond}
+use mathlib.Core.List.{List}
+use lib.Dec.{eqb}
+use Rattle.lists.specs.Lists.{any, filter}
+use Rattle.masks.specs.Masks.{properly}
+use Rattle.decomposition.specs.Forest.{before, inOrder, largest}
+use Rattle.decomposition.specs.Next.{firstIn, afterIn}
+
+-- the largest of l properly inside n, in sibling order
+unfoldable pub childrenIn : List ℕ → ℕ → List ℕ
+childrenIn l n = inOrder (largest (filter (λ m. properly m n) l))
+
+-- the first of some siblings where a is 0, else the first that stands after a
+unfoldable pub nextIn : ℕ → List ℕ → ℕ
+nextIn a l = let r = afterIn a l in cond (eqb a 0) (firstIn l) r
+
+-- ---- what a search for it asks of a mask m
+-- x lies around m, and properly inside n
+unfoldable pub around : ℕ → ℕ → ℕ → Bool
+around x m n = properly x n && properly m x
+
+-- no member of l properly inside n lies around m
+unfoldable pub isLargest : List ℕ → ℕ → ℕ → Bool
+isLargest l m n = not (any (λ x. around x m n) l)
+
+-- m stands after a, the sibling left
+unfoldable pub standsAfter : ℕ → ℕ → Bool
+standsAfter a m = eqb a 0 || before a m
+
+-- m stands before b, the best found so far
+unfoldable pub better : ℕ → ℕ → Bool
+better b m = eqb b 0 || before m b
+
+unfoldable pub rootBetter : ℕ → ℕ → ℕ → Bool
+rootBetter a b m = standsAfter a m && better b m
+
+unfoldable pub childBetter : List ℕ → ℕ → ℕ → ℕ → ℕ → Bool
+childBetter l n a b m = properly m n && (rootBetter a b m && isLargest l m n)
