@@ -1,4 +1,4 @@
--- The laws of `has`: of and, or, difference, one bit, inclusion; two masks with the same bits are equal; counts. Assumes nothing.
+-- The laws of `has`: of and, or, difference, one bit, inclusion, the full set; two masks with the same bits are equal; counts; a shifted 1. Assumes nothing.
 use Prim.Native.Nat.{ℕ, zero, suc, _+_, _*_, _-_, _/_, _%_, _^_, _≤_, _<_, min, max}
 use native.Mathlib.Nat.{one-mul, pow-suc, mod-lt, div-add-mod', div-one, add-comm}
 use native.Mathlib.Omega.{arith}
