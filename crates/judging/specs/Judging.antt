@@ -1,0 +1,94 @@
+-- Judging (document 01, the questions of judging): what a stem and then a loop without end comes to, by definitions that can be computed. proofs/ has the
+-- theorems that they have the meaning of "recurs".
+use Prim.Native.Nat.{ℕ}
+use mathlib.Core.Bool.{Bool, true, false, _&&_, _||_, cond}
+use mathlib.Core.List.{List, [], _∷_}
+use lib.Dec.{eqb, ltb}
+use Rattle.lists.specs.Lists.{all}
+use Rattle.masks.specs.Masks.{insert}
+use Rattle.recurrence.specs.Recurs.{rounds}
+use Rattle.recurrence.specs.Runs.{after, met, window}
+use Rattle.policy.specs.declared.Policy.{Policy}
+use Rattle.policy.specs.Policies.{inFamily, legal}
+use Rattle.running.specs.declared.Run.{Run}
+use Rattle.running.specs.declared.Reading.{Reading}
+use Rattle.running.specs.declared.Reading.the-variants.{Moved, Refused as NotRead}
+use Rattle.running.specs.Running.{policyStep, policyMeets, rowStates, shaped, readingOf, rowStep, rowMeets}
+use Rattle.judging.specs.declared.PolicyVerdict.{PolicyVerdict}
+use Rattle.judging.specs.declared.PolicyVerdict.the-variants.{Judged, Refused as RefusedPolicy}
+use Rattle.judging.specs.declared.RowsVerdict.{RowsVerdict}
+use Rattle.judging.specs.declared.RowsVerdict.the-variants.{Least, Refused as RefusedRows}
+
+-- ---- lists of letters, colours, priorities
+abbrev pub nonEmpty : {A : Type 0} → List A → Bool
+nonEmpty [] = false
+nonEmpty (x ∷ xs) = true
+
+-- every letter is below the number of letters
+unfoldable pub inRange : ℕ → List ℕ → Bool
+inRange letters w = all (λ a. ltb a letters) w
+
+-- the set of some colours
+unfoldable pub setOf : List ℕ → ℕ
+setOf [] = 0
+setOf (c ∷ cs) = insert (setOf cs) c
+
+-- the least of some priorities; 255 of none
+unfoldable pub leastOf : List ℕ → ℕ
+leastOf [] = 255
+leastOf (x ∷ xs) = let r = leastOf xs in cond (ltb x r) x r
+
+-- ---- judging a policy from a state: 7, 11, 14, 12; then the recurring colours and their verdict
+module _ (p : Policy) (v : ℕ) (stem loop : List ℕ) where
+  -- among the policy's states, the window is what recurs
+  unfoldable pub recurringColours : ℕ
+  recurringColours = setOf (window (policyStep p) (policyMeets p) (p .states) stem loop v)
+
+  unfoldable pub policyVerdict : PolicyVerdict
+  policyVerdict =
+      let s = recurringColours in
+      cond (legal p)
+      (cond (ltb v (p .states))
+      (cond (nonEmpty loop)
+      (cond (inRange (p .letters) stem && inRange (p .letters) loop) (Judged s (inFamily p s)) (RefusedPolicy 12))
+      (RefusedPolicy 14))
+      (RefusedPolicy 11))
+      (RefusedPolicy 7)
+
+-- ---- judging rows from a state: running's 8 and 11, then 14, 12, 13; then the least recurring priority
+-- reading met a row whose target is no state
+abbrev pub noState : Reading → Bool
+noState (Moved r k) = false
+noState (NotRead n r) = eqb n 13
+
+module _ (letters : ℕ) (targets priorities : List ℕ) where
+  -- what a letter meets, if only such rows are looked for
+  unfoldable pub strayMeets : Run → ℕ → List ℕ
+  strayMeets r a = cond (noState (readingOf letters targets priorities r a)) (a ∷ []) []
+
+  module _ (r : Run) (stem loop : List ℕ) where
+    abbrev pub step : Run → ℕ → Run
+    step = rowStep letters targets priorities
+
+    -- such a row is read in the stem, or in one of the first rounds, as many as there are states
+    unfoldable pub everStray : Bool
+    everStray =
+        nonEmpty (met step strayMeets stem r)
+        || nonEmpty (rounds (after step strayMeets loop) (met step strayMeets loop) (after step strayMeets stem r) 0 (rowStates letters targets priorities))
+
+    unfoldable pub leastRecurring : ℕ
+    leastRecurring = leastOf (window step (rowMeets letters targets priorities) (rowStates letters targets priorities) stem loop r)
+
+    unfoldable pub rowsVerdict : RowsVerdict
+    rowsVerdict =
+        let k = leastRecurring in
+        let stray = everStray in
+        cond (shaped letters targets priorities)
+        (cond (ltb (r .state) (rowStates letters targets priorities))
+        (cond (nonEmpty loop)
+        (cond (inRange letters stem && inRange letters loop)
+        (cond stray (RefusedRows 13) (Least k))
+        (RefusedRows 12))
+        (RefusedRows 14))
+        (RefusedRows 11))
+        (RefusedRows 8)
