@@ -3,24 +3,25 @@
 use Prim.Native.Nat.{ℕ, zero, suc, _+_, _*_, _%_, _≤_, _<_}
 use native.Mathlib.Omega.{arith}
 use native.Mathlib.Decide.{ℕ-discrete}
-use native.Mathlib.Nat.{mod-lt, div-add-mod'}
+use native.Mathlib.Nat.{mod-lt, div-add-mod', mul-le-mul-right, suc-mul}
 use native.Mathlib.Numerals.{add-one}
 use mathlib.Core.Path.{_≡_, refl, sym, ap, _∙_, subst}
 use mathlib.Core.Logic.{_⊎_, inl, inr, _≢_}
 use mathlib.Core.Bool.{Bool, true, false, _&&_, _||_, cond, false≢true}
 use mathlib.Core.List.{List, [], _∷_, List·Memᴰ}
 use lib.Dec.{eqb}
+use lib.Arith.{digits-div, lt-of-le-ne}
 use lib.Bits.{bitOr}
 use lib.ListN.{length, getD, set, replicate, length-set, length-replicate}
 use lib.Seq.{getD-set-same, getD-set-other}
 use Rattle.lists.proofs.Bools.{test, or-cases, or-left, or-right, eqb≡, ≡eqb, bool-ext}
-use Rattle.masks.specs.Masks.{has, insert, members}
+use Rattle.masks.specs.Masks.{has, insert, gather, members}
 use Rattle.masks.proofs.Bits.{has-none, has-or, has-insert, mask-ext}
 use Rattle.policy.specs.declared.Policy.{Policy}
 use Rattle.policy.specs.Policies.{edges, edgeOf, source, targetOf, legal}
-use Rattle.policy.proofs.Laws.{Counts, legal-counts, legal-target, source-edge, edge-lt}
+use Rattle.policy.proofs.Laws.{Counts, legal-counts, edges-le, legal-target, source-edge, edge-lt, source-lt}
 use Rattle.graph.specs.Cycles.{Path, reach}
-use Rattle.graph.specs.Through.{Rows, withEdge, edgeRow, edgeRows, joinRow, joinRows, joinedRows}
+use Rattle.graph.specs.Through.{cycleThrough, Rows, withEdge, edgeRow, edgeRows, joinRow, joinRows, joinedRows}
 use Rattle.graph.proofs.Paths.{members-has, members-lt, reach-sound, reach-complete}
 use Rattle.graph.proofs.Through.{Leads, leads-join, leads-edge}
 
@@ -257,7 +258,7 @@ module _ (p : Policy) (m : ℕ) where
         let lt : targetOf p e < p .states = legal-target p ok e le in
         let ls : source p e < p .states = subst (λ (z : ℕ). z < p .states) (sym (a .0)) l in
         let one : has (row (p .states) u) (targetOf p e) ≡ true = subst (λ (z : ℕ). has (row (p .states) z) (targetOf p e) ≡ true) (a .0)
-            (turns-keep (p .states) row next (p .states) (source p e) (targetOf p e) (omega arith) ls (first-edge e ls (members-has (edges p) m e (a .1)))) in
+        (turns-keep (p .states) row next (p .states) (source p e) (targetOf p e) (omega arith) ls (first-edge e ls (members-has (edges p) m e (a .1)))) in
         turns-closed (p .states) row next (p .states) (targetOf p e) u x (omega arith) lt l one (last-path (targetOf p e) w x lt (a .2))
 
     pub rows-reach : Rows p m (joinedRows (edgeRows p m (p .states)) (p .states) (p .states))
@@ -271,3 +272,84 @@ module _ (p : Policy) (m : ℕ) where
 
         complete : (x : ℕ) → has (reach p (members (edges p) m) v) x ≡ true → has (row (p .states) v) x ≡ true
         complete x h = let w = reach-sound p (members (edges p) m) v x h in last-path v (w .0) x l (w .1)
+
+-- ---- what the code asks of a legal policy
+module _ (p : Policy) where
+  pub edge-few : legal p ≡ true → (e : ℕ) → e < edges p → e < 64
+  edge-few ok e l = omega (arith, edges-le p ok)
+
+  pub target-few : legal p ≡ true → (e : ℕ) → e < edges p → targetOf p e < 16
+  target-few ok e l = omega (arith, legal-target p ok e l, legal-counts p ok .states-few)
+
+  pub state-few : legal p ≡ true → (v : ℕ) → v < p .states → v < 16
+  state-few ok v l = omega (arith, legal-counts p ok .states-few)
+
+  pub edge-number-few : legal p ≡ true → (v a : ℕ) → v < p .states → a ≤ p .letters → v * p .letters + a ≤ 64
+  edge-number-few ok v a l la = let q = legal-counts p ok in omega (arith, q .edges-few, mul-le-mul-right (p .letters) l, suc-mul v (p .letters))
+
+  pub edge-within : (v a : ℕ) → v < p .states → a < p .letters → v * p .letters + a < edges p
+  unfolding edgeOf
+  edge-within v a l la = edge-lt p v a l la
+
+  -- ---- one turn of each loop
+  pub edge-row-none : (m v : ℕ) → edgeRow p m v 0 ≡ insert 0 v
+  unfolding edgeRow
+  edge-row-none m v = refl
+
+  pub edge-row-more : (m v a : ℕ) → edgeRow p m v (a + 1) ≡ withEdge p m (edgeRow p m v a) (v * p .letters + a)
+  unfolding edgeRow edgeOf
+  edge-row-more m v a = rw add-one
+
+  pub edge-rows-none : (m : ℕ) → edgeRows p m 0 ≡ replicate 16 0
+  unfolding edgeRows
+  edge-rows-none m = refl
+
+  pub edge-rows-more : (m n : ℕ) → edgeRows p m (n + 1) ≡ set (edgeRows p m n) n (edgeRow p m n (p .letters))
+  unfolding edgeRows
+  edge-rows-more m n = rw add-one
+
+pub join-none : (rows : List ℕ) (k pivot : ℕ) → joinRows rows k pivot 0 ≡ rows
+unfolding joinRows
+join-none rows k pivot = refl
+
+pub join-more : (rows : List ℕ) (k pivot n : ℕ) → joinRows rows k pivot (n + 1) ≡ set (joinRows rows k pivot n) n (joinRow (getD (joinRows rows k pivot n) n 0) k pivot)
+unfolding joinRows
+join-more rows k pivot n = rw add-one
+
+pub joined-none : (rows : List ℕ) (n : ℕ) → joinedRows rows n 0 ≡ rows
+unfolding joinedRows
+joined-none rows n = refl
+
+pub joined-more : (rows : List ℕ) (n k : ℕ) → joinedRows rows n (k + 1) ≡ joinRows (joinedRows rows n k) k (getD (joinedRows rows n k) k 0) n
+unfolding joinedRows
+joined-more rows n k = rw add-one
+
+-- ---- the edges of the largest cycle through v
+module _ (p : Policy) (m v : ℕ) where
+  -- the test that cycleThrough gathers by
+  pub onThrough : ℕ → Bool
+  onThrough e = let es = members (edges p) m in has m e && has (reach p es v) (source p e) && has (reach p es (targetOf p e)) v
+
+  pub through-all : gather onThrough (edges p) ≡ cycleThrough p m v
+  unfolding cycleThrough onThrough
+  through-all = refl
+
+  pub through-test : legal p ≡ true → (rows : List ℕ) → Rows p m rows → v < p .states → (e u t : ℕ) → e < edges p → source p e ≡ u → t ≡ targetOf p e
+      → has m e && has (getD rows v 0) u && has (getD rows t 0) v ≡ onThrough e
+  unfolding onThrough
+  through-test ok rows is l e u t le su tt = rw (← su, tt, is v l, is (targetOf p e) (legal-target p ok e le))
+
+module _ (p : Policy) (ok : legal p ≡ true) (e u a : ℕ) (is : e ≡ u * p .letters + a) where
+  pub source-is : a < p .letters → source p e ≡ u
+  unfolding source
+  source-is l = rw is (digits-div u l)
+
+  pub source-few : e < edges p → a < p .letters → u < 16
+  source-few le l = state-few p ok u (subst (λ (x : ℕ). x < p .states) (source-is l) (source-lt p ok e le))
+
+  -- the next edge is the next of the same state, or the first of the next state
+  pub turn-same : (u′ a′ : ℕ) → u′ ≡ u → a′ ≡ a + 1 → a < p .letters → a + 1 ≢ p .letters → (e + 1 ≡ u′ * p .letters + a′) × (a′ < p .letters)
+  turn-same u′ a′ qu qa l n = (rw (qu, qa) (omega arith), omega (arith, lt-of-le-ne l (λ q. n (add-one a ∙ q))))
+
+  pub turn-next : (u′ a′ : ℕ) → u′ ≡ u + 1 → a′ ≡ 0 → a + 1 ≡ p .letters → (e + 1 ≡ u′ * p .letters + a′) × (a′ < p .letters)
+  turn-next u′ a′ qu qa q = (rw (qu, qa, add-one u, suc-mul u (p .letters)) (omega arith), omega (arith, legal-counts p ok .letters-some))

@@ -1,0 +1,74 @@
+-- `graph::join_rows` meets its contract. The invariant: the rows below u are joined. Assumes nothing.
+use mathlib.Core.Path.{_≡_, sym, _∙_}
+use Prim.Native.Nat.{ℕ, _+_, _-_, _≤_}
+use native.Mathlib.Nat.{le-antisymm}
+use native.Mathlib.Omega.{arith}
+use borrow.Author.Needs.{needs}
+use Rattle.graph.specs.Through.{joinRow, joinRows}
+use Rattle.graph.proofs.CodeLaws.{join-none, join-more}
+use Rattle.graph.proofs.join_rows.Statement.{statement}
+use Rattle.graph.proofs.join_rows.Tie as tie
+use Rattle.graph.proofs.join_rows.Reads as reads
+use Rattle.graph.proofs.join_rows.Lts as lts
+use Rattle.graph.proofs.join_row.Reads as join-row-reads
+
+abbrev Inv-loop : tie.InvT-loop
+Inv-loop k n pivot joined₀ u₀ joined u = (u ≤ n) × (joined ≡ joinRows joined₀ k pivot u)
+
+abbrev μ-loop : tie.MeasureT-loop
+μ-loop k n pivot joined₀ u₀ joined u = n - u
+
+mul-pivot : tie.Need-mul-pivot Inv-loop μ-loop
+mul-pivot c = omega arith
+
+array-read-pivot : tie.Need-array-read-pivot Inv-loop μ-loop
+array-read-pivot c = omega arith
+
+loop-holds : tie.Need-loop-holds Inv-loop μ-loop
+loop-holds c = (omega arith, sym (join-none _ _ _))
+
+mul-join-row : tie.Need-mul-join-row Inv-loop μ-loop
+mul-join-row c = omega arith
+
+array-read-join-row : tie.Need-array-read-join-row Inv-loop μ-loop
+array-read-join-row c = omega arith
+
+join-row-requires : tie.Need-join-row-requires Inv-loop μ-loop
+join-row-requires c κs = omega arith
+
+mul-joined : tie.Need-mul-joined Inv-loop μ-loop
+mul-joined c = omega arith
+
+array-write-joined : tie.Need-array-write-joined Inv-loop μ-loop
+array-write-joined c = omega arith
+
+add-u : tie.Need-add-u Inv-loop μ-loop
+add-u c = omega arith
+
+loop-less : tie.Need-loop-less Inv-loop μ-loop
+loop-less c = omega arith
+
+loop-again : tie.Need-loop-again Inv-loop μ-loop
+loop-again c = (omega arith, cc (join-more _ _ _ _))
+
+returns : tie.Need-returns Inv-loop μ-loop
+returns c = cc (le-antisymm (c .before .loop .inv .0) (c .loop-test .left))
+
+pub join-rows-spec : {M : Type 1} → statement M
+join-rows-spec =
+    tie.close
+    (tie.spec
+    Inv-loop
+    μ-loop
+    mul-pivot
+    array-read-pivot
+    loop-holds
+    mul-join-row
+    array-read-join-row
+    join-row-requires
+    mul-joined
+    array-write-joined
+    add-u
+    loop-less
+    loop-again
+    returns)
