@@ -1,6 +1,6 @@
 -- A search through a list of masks that keeps the best mask so far ends with the next sibling: the least by the sibling order of the masks that pass is the first
 -- of the ordered list of them. Assumes nothing.
-use Prim.Native.Nat.{ℕ, zero, suc, _+_, _<_}
+use Prim.Native.Nat.{ℕ, _+_, _≤_, _<_}
 use native.Mathlib.Omega.{arith}
 use native.Mathlib.Decide.{ℕ-discrete}
 use native.Mathlib.Numerals.{add-one}
@@ -10,10 +10,10 @@ use mathlib.Core.Bool.{Bool, true, false, not, _&&_, _||_, cond, true≢false}
 use mathlib.Core.List.{List, [], _∷_, _++_, List·Memᴰ, List·Memᴰ·head, List·Memᴰ·tail, List·Memᴰ·cases-cons, List·Memᴰ·not-nil, List·Memᴰ·append-cases, List·Memᴰ·eq-of-singleton, Memᴰ·append-left, Memᴰ·append-right}
 use lib.Dec.{eqb}
 use lib.ListN.{length, getD, take}
-use lib.Seq.{take-suc}
+use lib.Seq.{take-suc, take-all}
 use Rattle.lists.specs.Lists.{any, filter, firstOr, Distinct}
 use Rattle.lists.proofs.Bools.{test, ≡eqb, neqb, and-l, and-r, both, not-true}
-use Rattle.lists.proofs.Lists.{none-any, none-true, filter-mem, mem-filter, getD-mem}
+use Rattle.lists.proofs.Lists.{some-any, mem-at, none-any, none-true, filter-mem, mem-filter, getD-mem}
 use Rattle.masks.specs.Masks.{properly}
 use Rattle.decomposition.specs.Forest.{before, inOrder, largest}
 use Rattle.decomposition.specs.Laws.{Ordered}
@@ -29,6 +29,10 @@ abbrev pub Least : (ℕ → Bool) → List ℕ → ℕ → Type 0
 Least t l r =
     ((r ≡ 0) × ((x : ℕ) → List·Memᴰ x l → t x ≡ false))
     ⊎ ((r ≢ 0) × List·Memᴰ r l × (t r ≡ true) × ((x : ℕ) → List·Memᴰ x l → t x ≡ true → (x ≡ r) ⊎ (before r x ≡ true)))
+
+-- none is seen yet
+pub least-none : (t : ℕ → Bool) → Least t [] 0
+least-none t = inl (refl, λ x k. absurd (List·Memᴰ·not-nil k))
 
 -- one more member
 least-more : (t : ℕ → Bool) (s : List ℕ) (b m : ℕ) → m ≢ 0 → Least t s b → Least t (s ++ (m ∷ [])) (cond (t m && better b m) m b)
@@ -92,6 +96,10 @@ least-turn t l i b m r u h nonzero v e d c =
     let s : take (i + 1) l ≡ take i l ++ (m ∷ []) = ap (λ (j : ℕ). take j l) (add-one i) ∙ take-suc l i 0 h ∙ ap (λ (z : ℕ). take i l ++ (z ∷ [])) (sym e) in
     subst (λ (z : ℕ). Least t (take (i + 1) l) z) (sym (c ∙ ap (λ (z : Bool). cond z m b) d))
     (subst (λ (z : List ℕ). Least t z (cond (t m && better b m) m b)) (sym s) (least-more t (take i l) b m (λ z. nonzero (getD l i 0) (getD-mem l i 0 h) (sym e ∙ z)) v))
+
+-- all are seen
+pub least-all : (t : ℕ → Bool) (l : List ℕ) (i b : ℕ) → length l ≤ i → Least t (take i l) b → Least t l b
+least-all t l i b h v = subst (λ (z : List ℕ). Least t z b) (take-all i l h) v
 
 -- the least is the first of the ordered list of those that pass
 least-first : (t : ℕ → Bool) (l o : List ℕ) (r : ℕ) → Ordered o → ((x : ℕ) → List·Memᴰ x o → List·Memᴰ x l × (t x ≡ true)) → ((x : ℕ) → List·Memᴰ x l → t x ≡ true → List·Memᴰ x o) → Least t l r → r ≡ firstOr 0 o
@@ -198,3 +206,19 @@ module _ (l : List ℕ) (n : ℕ) where
           let u : standsAfter a x && isLargest l x n ≡ true = and-r (properly x n) (standsAfter a x && isLargest l x n) t in
           mem-filter (standsAfter a) (childrenIn l n) x (mem-children x k (and-l (properly x n) (standsAfter a x && isLargest l x n) t) (and-r (standsAfter a x) (isLargest l x n) u))
           (and-l (standsAfter a x) (isLargest l x n) u)
+
+-- ---- one is around m, or none
+pub none-more : (t : ℕ → Bool) (i : ℕ) → ((j : ℕ) → j < i → t j ≡ false) → t i ≡ false → (j : ℕ) → j < i + 1 → t j ≡ false
+none-more t i h f j l = go (ℕ-discrete j i)
+  where
+    go : Dec (j ≡ i) → t j ≡ false
+    go (yes e) = ap t e ∙ f
+    go (no k) = h j (omega arith)
+
+pub largest-not : (l : List ℕ) (m n i : ℕ) → i < length l → around (getD l i 0) m n ≡ true → isLargest l m n ≡ false
+unfolding isLargest
+largest-not l m n i h t = ap not (some-any (λ (x : ℕ). around x m n) l (getD l i 0) (getD-mem l i 0 h) t)
+
+pub largest-is : (l : List ℕ) (m n : ℕ) → ((j : ℕ) → j < length l → around (getD l j 0) m n ≡ false) → isLargest l m n ≡ true
+unfolding isLargest
+largest-is l m n h = ap not (none-true (λ (x : ℕ). around x m n) l (λ x k. let q = mem-at l 0 x k in sym (ap (λ (z : ℕ). around z m n) (q .2)) ∙ h (q .0) (q .1)))
