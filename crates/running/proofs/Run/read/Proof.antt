@@ -38,7 +38,9 @@ returns-2 c = simp (shape (c .before .before), le-ltb _ _ (c .if2 .taken))
 
 returns-3 : tie.Need-returns-3
 unfolding readingOf rowStates
-returns-3 c = simp (shape (c .before .before .before), lt-ltb _ _ (c .before .if2 .left), le-ltb _ _ (c .if3 .taken))
+returns-3 c =
+    let a = c .before .before .before .before .before .before .before .args in
+    simp (shape (c .before .before .before), lt-ltb _ _ (c .before .if2 .left), le-ltb (a .letter) (a .letters) (omega (arith, c .if3 .taken)))
 
 -- past question 12 the row is in the target table
 row : (c : tie.Else3) → let a = c .before .before .before .before .before .before .before .args in
