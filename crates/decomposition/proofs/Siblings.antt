@@ -7,7 +7,7 @@ use native.Mathlib.Numerals.{add-one}
 use mathlib.Core.Path.{_≡_, refl, sym, ap, _∙_, subst}
 use mathlib.Core.Logic.{_⊎_, inl, inr, _≢_}
 use mathlib.Core.Bool.{Bool, true, false, not, _&&_, _||_, cond, true≢false}
-use mathlib.Core.List.{List, [], _∷_, _++_, List·Memᴰ, List·Memᴰ·head, List·Memᴰ·tail, List·Memᴰ·cases-cons, List·Memᴰ·not-nil, List·Memᴰ·append-cases, List·Memᴰ·eq-of-singleton, Memᴰ·append-left, Memᴰ·append-right}
+use mathlib.Core.List.{List, [], _∷_, _++_, List·Memᴰ, List·Memᴰ·head, List·Memᴰ·cases-cons, List·Memᴰ·not-nil, List·Memᴰ·append-cases, List·Memᴰ·eq-of-singleton, Memᴰ·append-left, Memᴰ·append-right}
 use lib.Dec.{eqb}
 use lib.ListN.{length, getD, take}
 use lib.Seq.{take-suc, take-all}
@@ -91,15 +91,13 @@ least-more t s b m nonzero v = go (test (t m)) v
         compare (inr h) = rw h (inr (w .0, Memᴰ·append-left (m ∷ []) (w .1), w .2, λ x k. stays (λ _. h) (w .3) x (cases k)))
 
 -- one turn of the search: i members are seen, and b is the best of them
-pub least-turn : (t : ℕ → Bool) (l : List ℕ) (i b m r : ℕ) (u : Bool) → i < length l → ((x : ℕ) → List·Memᴰ x l → x ≢ 0) → Least t (take i l) b → m ≡ getD l i 0 → u ≡ t m && better b m → r ≡ cond u m b → Least t (take (i + 1) l) r
-least-turn t l i b m r u h nonzero v e d c =
-    let s : take (i + 1) l ≡ take i l ++ (m ∷ []) = ap (λ (j : ℕ). take j l) (add-one i) ∙ take-suc l i 0 h ∙ ap (λ (z : ℕ). take i l ++ (z ∷ [])) (sym e) in
+least-turn : (t : ℕ → Bool) (l : List ℕ) (i b r : ℕ) (u : Bool) → i < length l → ((x : ℕ) → List·Memᴰ x l → x ≢ 0) → u ≡ t (getD l i 0) && better b (getD l i 0) → r ≡ cond u (getD l i 0) b → Least t (take i l) b
+    → Least t (take (i + 1) l) r
+least-turn t l i b r u h nonzero d c v =
+    let m : ℕ = getD l i 0 in
+    let s : take (i + 1) l ≡ take i l ++ (m ∷ []) = ap (λ (j : ℕ). take j l) (add-one i) ∙ take-suc l i 0 h in
     subst (λ (z : ℕ). Least t (take (i + 1) l) z) (sym (c ∙ ap (λ (z : Bool). cond z m b) d))
-    (subst (λ (z : List ℕ). Least t z (cond (t m && better b m) m b)) (sym s) (least-more t (take i l) b m (λ z. nonzero (getD l i 0) (getD-mem l i 0 h) (sym e ∙ z)) v))
-
--- all are seen
-pub least-all : (t : ℕ → Bool) (l : List ℕ) (i b : ℕ) → length l ≤ i → Least t (take i l) b → Least t l b
-least-all t l i b h v = subst (λ (z : List ℕ). Least t z b) (take-all i l h) v
+    (subst (λ (z : List ℕ). Least t z (cond (t m && better b m) m b)) (sym s) (least-more t (take i l) b m (nonzero m (getD-mem l i 0 h)) v))
 
 -- the least is the first of the ordered list of those that pass
 least-first : (t : ℕ → Bool) (l o : List ℕ) (r : ℕ) → Ordered o → ((x : ℕ) → List·Memᴰ x o → List·Memᴰ x l × (t x ≡ true)) → ((x : ℕ) → List·Memᴰ x l → t x ≡ true → List·Memᴰ x o) → Least t l r → r ≡ firstOr 0 o
@@ -139,22 +137,28 @@ next-first a o = go (test (eqb a 0))
     go (inl t) = rw t (ap (firstOr 0) (sym (whole o)))
     go (inr f) = rw f refl
 
--- ---- among roots
-pub least-root : (l : List ℕ) (a r : ℕ) → Distinct l → Least (standsAfter a) l r → r ≡ nextIn a (inOrder l)
-least-root l a r d v =
+-- ---- the search among roots
+pub root-turn : (l : List ℕ) (a i b r : ℕ) (u : Bool) → i < length l → ((x : ℕ) → List·Memᴰ x l → x ≢ 0) → u ≡ rootBetter a b (getD l i 0) → r ≡ cond u (getD l i 0) b → Least (standsAfter a) (take i l) b
+    → Least (standsAfter a) (take (i + 1) l) r
+unfolding rootBetter
+root-turn l a i b r u h nonzero d c v = least-turn (standsAfter a) l i b r u h nonzero d c v
+
+-- all are seen
+pub root-end : (l : List ℕ) (a i r : ℕ) → Distinct l → length l ≤ i → Least (standsAfter a) (take i l) r → r ≡ nextIn a (inOrder l)
+root-end l a i r d h v =
     least-first (standsAfter a) l (filter (standsAfter a) (inOrder l)) r (ordered-filter (standsAfter a) (inOrder l) (distinct-ordered l d)) sound
-    (λ x k u. mem-filter (standsAfter a) (inOrder l) x (mem-order l x k) u) v
+    (λ x k u. mem-filter (standsAfter a) (inOrder l) x (mem-order l x k) u) (subst (λ (z : List ℕ). Least (standsAfter a) z r) (take-all i l h) v)
     ∙ sym (next-first a (inOrder l))
   where
     sound : (x : ℕ) → List·Memᴰ x (filter (standsAfter a) (inOrder l)) → List·Memᴰ x l × (standsAfter a x ≡ true)
     sound x k = let q = filter-mem (standsAfter a) (inOrder l) x k in (order-mem l x (q .0), q .1)
 
--- ---- among the children of n
+-- ---- the search among the children of n
 -- m is one that stands after a
 unfoldable pub childAfter : List ℕ → ℕ → ℕ → ℕ → Bool
 childAfter l n a m = properly m n && (standsAfter a m && isLargest l m n)
 
-pub child-better : (l : List ℕ) (n a b m : ℕ) → childBetter l n a b m ≡ childAfter l n a m && better b m
+child-better : (l : List ℕ) (n a b m : ℕ) → childBetter l n a b m ≡ childAfter l n a m && better b m
 unfolding childBetter childAfter rootBetter
 child-better l n a b m = go (properly m n) (standsAfter a m) (better b m) (isLargest l m n)
   where
@@ -188,11 +192,17 @@ module _ (l : List ℕ) (n : ℕ) where
       (mem-largest within x (mem-filter (λ (m : ℕ). properly m n) l x k t)
       (λ y m. let w = filter-mem (λ (m : ℕ). properly m n) l y m in let q = none-any (λ (y : ℕ). around y x n) l (not-true (any (λ (y : ℕ). around y x n) l) h) y (w .0) in (rw (w .1) at q)))
 
-  pub least-child : (a r : ℕ) → Distinct l → Least (childAfter l n a) l r → r ≡ nextIn a (childrenIn l n)
+  pub child-turn : (a i b r : ℕ) (u : Bool) → i < length l → ((x : ℕ) → List·Memᴰ x l → x ≢ 0) → u ≡ childBetter l n a b (getD l i 0) → r ≡ cond u (getD l i 0) b → Least (childAfter l n a) (take i l) b
+      → Least (childAfter l n a) (take (i + 1) l) r
+  child-turn a i b r u h nonzero d c v = least-turn (childAfter l n a) l i b r u h nonzero (d ∙ child-better l n a b (getD l i 0)) c v
+
+  -- all are seen
+  pub child-end : (a i r : ℕ) → Distinct l → length l ≤ i → Least (childAfter l n a) (take i l) r → r ≡ nextIn a (childrenIn l n)
   unfolding childrenIn childAfter
-  least-child a r d v =
+  child-end a i r d h v =
       least-first (childAfter l n a) l (filter (standsAfter a) (childrenIn l n)) r
-      (ordered-filter (standsAfter a) (childrenIn l n) (distinct-ordered (largest within) (distinct-largest within (distinct-filter (λ (m : ℕ). properly m n) l d)))) sound complete v
+      (ordered-filter (standsAfter a) (childrenIn l n) (distinct-ordered (largest within) (distinct-largest within (distinct-filter (λ (m : ℕ). properly m n) l d)))) sound complete
+      (subst (λ (z : List ℕ). Least (childAfter l n a) z r) (take-all i l h) v)
       ∙ sym (next-first a (childrenIn l n))
     where
       sound : (x : ℕ) → List·Memᴰ x (filter (standsAfter a) (childrenIn l n)) → List·Memᴰ x l × (childAfter l n a x ≡ true)
@@ -207,7 +217,8 @@ module _ (l : List ℕ) (n : ℕ) where
           mem-filter (standsAfter a) (childrenIn l n) x (mem-children x k (and-l (properly x n) (standsAfter a x && isLargest l x n) t) (and-r (standsAfter a x) (isLargest l x n) u))
           (and-l (standsAfter a x) (isLargest l x n) u)
 
--- ---- one is around m, or none
+-- ---- whether one lies around m
+-- one more place
 pub none-more : (t : ℕ → Bool) (i : ℕ) → ((j : ℕ) → j < i → t j ≡ false) → t i ≡ false → (j : ℕ) → j < i + 1 → t j ≡ false
 none-more t i h f j l = go (ℕ-discrete j i)
   where

@@ -1,32 +1,23 @@
+-- `is_better_root` meets its contract. Assumes nothing.
 use mathlib.Core.Path.{sym, _∙_}
-use Rattle.decomposition.specs.Siblings.{rootBetter}
-use native.Mathlib.Omega.{arith}
 use borrow.Author.Needs.{needs}
+use Rattle.decomposition.specs.Siblings.{rootBetter}
 use Rattle.decomposition.proofs.is_better_root.Statement.{statement}
 use Rattle.decomposition.proofs.is_better_root.Tie as tie
-use Rattle.decomposition.proofs.is_better_root.Reads as reads
-use Rattle.decomposition.proofs.is_better_root.Lts as lts
-use Rattle.decomposition.proofs.is_better.Reads as is-better-reads
-use Rattle.decomposition.proofs.stands_after.Reads as stands-after-reads
 
--- src/lib.rt:55:5
 stands-after-requires : tie.Need-stands-after-requires
 stands-after-requires c κs = search needs
 
--- src/lib.rt:55:31
 is-better-requires : tie.Need-is-better-requires
 is-better-requires c κs = search needs
 
--- src/lib.rt:52:1
 returns : tie.Need-returns
 unfolding rootBetter
 returns c = rw (sym (c .before .before .stands-after .ensures) ∙ c .before .if1 .taken) (c .is-better .ensures)
 
--- src/lib.rt:52:1
 returns-2 : tie.Need-returns-2
 unfolding rootBetter
 returns-2 c = rw (sym (c .before .stands-after .ensures) ∙ c .if1 .left) (c .if1 .left)
 
 pub is-better-root-spec : {M : Type 1} → statement M
-is-better-root-spec =
-    tie.close (tie.spec stands-after-requires is-better-requires returns returns-2)
+is-better-root-spec = tie.close (tie.spec stands-after-requires is-better-requires returns returns-2)
