@@ -321,8 +321,12 @@ module _ (p : Policy) (fewer : (m c : ℕ) → List·Memᴰ c (children p m) →
       go (x ∷ xs) d = record {
         rest = xs;
         first = d ∙ ap {B = List Node} (λ z. z ∷ xs) (sym here);
-        then = record { s = v .s ++ (x ∷ []); whole = whole ∙ sym (append-assoc (v .s) (x ∷ []) after) ∙ ap (λ (z : List Node). (v .s ++ (x ∷ [])) ++ planted p (suc (edges p)) (suc i) z) (sym turn);
-          long = length-append (v .s) (x ∷ []) ∙ omega (arith, v .long); small = λ z k. now-small z (List·Memᴰ·append-cases (pendingChildren p i x) (subst (λ (l : List Node). List·Memᴰ z l) turn k)) };
+        then = record {
+          s = v .s ++ (x ∷ []);
+          whole = whole ∙ sym (append-assoc (v .s) (x ∷ []) after) ∙ ap (λ (z : List Node). (v .s ++ (x ∷ [])) ++ planted p (suc (edges p)) (suc i) z) (sym turn);
+          long = length-append (v .s) (x ∷ []) ∙ omega (arith, v .long);
+          small = λ z k. now-small z (List·Memᴰ·append-cases (pendingChildren p i x) (subst (λ (l : List Node). List·Memᴰ z l) turn k));
+        };
       }
         where
           x-small : ones (x .mask) ≤ edges p
