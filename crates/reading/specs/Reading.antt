@@ -1,0 +1,207 @@
+-- Reading a policy from command bytes (document 01, "A policy", and "The gatekeeper's questions", paragraph "Reading").
+-- `bytes` are the caller's, `at` is the offset of a command's first byte, a draft is the policy so far with the edges given so far.
+use Prim.Native.Nat.{ℕ, zero, suc, _+_, _-_, _*_, _^_, _≤_}
+use mathlib.Core.Bool.{Bool, true, false, not, _&&_, cond}
+use mathlib.Core.List.{List, []}
+use lib.Dec.{eqb, ltb, leb}
+use lib.ListN.{length, getD, set, drop, replicate}
+use Rattle.lists.specs.Lists.{all, below}
+use Rattle.masks.specs.Masks.{has, insert}
+use Rattle.policy.specs.declared.Policy.{Policy}
+use Rattle.policy.specs.Policies.{edges, edgeOf, inFamily, legalCounts}
+use Rattle.reading.specs.declared.Draft.{Draft}
+use Rattle.reading.specs.declared.Answer.{Answer}
+use Rattle.reading.specs.declared.Outcome.{Outcome}
+use Rattle.reading.specs.declared.Outcome.the-variants.{Read, Refused}
+use Rattle.reading.specs.declared.Command.{Command}
+use Rattle.reading.specs.declared.Command.the-variants.{End, Shape, Edge, Accept}
+
+-- ---- policies
+-- the policy of these counts, with edges and family all zero
+unfoldable pub counted : ℕ → ℕ → ℕ → ℕ → Policy
+counted states letters colours initial = record {
+  states = states;
+  letters = letters;
+  colours = colours;
+  initial = initial;
+  target = replicate 64 0;
+  colour = replicate 64 0;
+  family = replicate 256 false;
+}
+
+-- the all-zero policy
+unfoldable pub zeroPolicy : Policy
+zeroPolicy = counted 0 0 0 0
+
+-- p with a target and a colour at edge e
+unfoldable pub withEdge : Policy → ℕ → ℕ → ℕ → Policy
+withEdge p e target colour = record {
+  states = p .states;
+  letters = p .letters;
+  colours = p .colours;
+  initial = p .initial;
+  target = set (p .target) e target;
+  colour = set (p .colour) e colour;
+  family = p .family;
+}
+
+-- p with a colour set in its family
+unfoldable pub withSet : Policy → ℕ → Policy
+withSet p s = record {
+  states = p .states;
+  letters = p .letters;
+  colours = p .colours;
+  initial = p .initial;
+  target = p .target;
+  colour = p .colour;
+  family = set (p .family) s true;
+}
+
+-- ---- commands
+-- 0x00 end, 0x01 shape, 0x02 edge, 0x03 accept
+abbrev pub commandKnown : ℕ → Bool
+commandKnown code = leb code 3
+
+unfoldable pub operandCount : ℕ → ℕ
+operandCount code = cond (eqb code 1) 4 (cond (eqb code 2) 4 (cond (eqb code 3) 1 0))
+
+-- the command at an offset, with its operands
+unfoldable pub commandAt : List ℕ → ℕ → Command
+commandAt bytes at =
+    let code = getD bytes at 0 in
+    let operand : ℕ → ℕ = λ (i : ℕ). getD bytes (at + i) 0 in
+    cond (eqb code 1) (Shape (operand 1) (operand 2) (operand 3) (operand 4))
+    (cond (eqb code 2) (Edge (operand 1) (operand 2) (operand 3) (operand 4))
+    (cond (eqb code 3) (Accept (operand 1)) End))
+
+unfoldable pub isShape : Command → Bool
+isShape End = false
+isShape (Shape states letters colours initial) = true
+isShape (Edge state letter target colour) = false
+isShape (Accept s) = false
+
+unfoldable pub isEnd : Command → Bool
+isEnd End = true
+isEnd (Shape states letters colours initial) = false
+isEnd (Edge state letter target colour) = false
+isEnd (Accept s) = false
+
+-- ---- the questions
+-- Is there another byte?
+abbrev pub anotherByte : List ℕ → ℕ → Bool
+anotherByte bytes at = ltb at (length bytes)
+
+-- Are its operands all there?
+unfoldable pub operandsThere : List ℕ → ℕ → Bool
+operandsThere bytes at = leb (operandCount (getD bytes at 0)) (length bytes - (at + 1))
+
+-- Is it shape if first, and not shape if later?
+unfoldable pub inPlace : ℕ → Command → Bool
+inPlace at c = cond (eqb at 0) (isShape c) (not (isShape c))
+
+-- Are the operands within the limits and the declared counts, and an accepted set non-empty?
+unfoldable pub withinLimits : Policy → Command → Bool
+withinLimits p End = true
+withinLimits p (Shape states letters colours initial) = legalCounts (counted states letters colours initial)
+withinLimits p (Edge state letter target colour) = ltb state (p .states) && ltb letter (p .letters) && ltb target (p .states) && ltb colour (p .colours)
+withinLimits p (Accept s) = ltb 0 s && ltb s (2 ^ p .colours)
+
+-- Is this edge, or this set, given for the first time?
+unfoldable pub firstTime : Draft → Command → Bool
+firstTime d End = true
+firstTime d (Shape states letters colours initial) = true
+firstTime d (Edge state letter target colour) = not (has (d .given) (edgeOf (d .policy) state letter))
+firstTime d (Accept s) = not (inFamily (d .policy) s)
+
+-- every edge below n has been given
+unfoldable pub allGiven : ℕ → ℕ → Bool
+allGiven given n = all (has given) (below n)
+
+-- At end: has every edge been given?
+unfoldable pub completeAtEnd : Draft → Command → Bool
+completeAtEnd d End = allGiven (d .given) (edges (d .policy))
+completeAtEnd d (Shape states letters colours initial) = true
+completeAtEnd d (Edge state letter target colour) = true
+completeAtEnd d (Accept s) = true
+
+-- a question, its number, and what comes after a "yes"
+abbrev pub ask : Bool → ℕ → ℕ → ℕ
+ask answer number next = cond answer next number
+
+-- the number of the first question that is answered "no"; 0 where there is none
+unfoldable pub refusalOf : List ℕ → ℕ → Draft → ℕ
+refusalOf bytes at d =
+    let c = commandAt bytes at in
+    ask (anotherByte bytes at) 1
+    (ask (commandKnown (getD bytes at 0)) 2
+    (ask (operandsThere bytes at) 1
+    (ask (inPlace at c) 3
+    (ask (withinLimits (d .policy) c) 4
+    (ask (firstTime d c) 5
+    (ask (completeAtEnd d c) 6 0))))))
+
+-- ---- the reading
+-- before the first command
+unfoldable pub emptyDraft : Draft
+emptyDraft = record { policy = zeroPolicy; given = 0 }
+
+-- the draft after a command that was not refused
+unfoldable pub after : Draft → Command → Draft
+after d End = d
+after d (Shape states letters colours initial) = record { policy = counted states letters colours initial; given = 0 }
+after d (Edge state letter target colour) =
+    let e = edgeOf (d .policy) state letter in
+    record { policy = withEdge (d .policy) e target colour; given = insert (d .given) e }
+after d (Accept s) = record { policy = withSet (d .policy) s; given = d .given }
+
+-- where the next command begins
+unfoldable pub nextOffset : List ℕ → ℕ → ℕ
+nextOffset bytes at = at + 1 + operandCount (getD bytes at 0)
+
+-- after a refusal the policy is all zero
+unfoldable pub refusedAt : ℕ → ℕ → Answer
+refusedAt number at = record { outcome = Refused number at; policy = zeroPolicy }
+
+-- after the end command: the offset just past it, and the policy
+unfoldable pub readUpTo : ℕ → Policy → Answer
+readUpTo end p = record { outcome = Read end; policy = p }
+
+-- the commands from an offset on, at most n of them
+unfoldable pub readMost : ℕ → List ℕ → ℕ → Draft → Answer
+readMost zero bytes at d = refusedAt 1 at
+readMost (suc n) bytes at d =
+    let number = refusalOf bytes at d in
+    let c = commandAt bytes at in
+    let later = readMost n bytes (nextOffset bytes at) (after d c) in
+    cond (eqb number 0) (cond (isEnd c) (readUpTo (at + 1) (d .policy)) later) (refusedAt number at)
+
+-- the same with no bound: a command takes a byte or more, so there are at most as many as bytes, and one that is missing
+unfoldable pub readingFrom : List ℕ → ℕ → Draft → Answer
+readingFrom bytes at d = readMost (length bytes + 1 - at) bytes at d
+
+unfoldable pub readingOf : List ℕ → Answer
+readingOf bytes = readingFrom bytes 0 emptyDraft
+
+-- ---- document 01's values for each outcome
+-- the number of the refusal; 0 where the policy was read
+abbrev pub numberOf : Outcome → ℕ
+numberOf (Read end) = 0
+numberOf (Refused number at) = number
+
+-- the offset of the refused command's first byte; 0 where the policy was read
+abbrev pub offsetOf : Outcome → ℕ
+offsetOf (Read end) = 0
+offsetOf (Refused number at) = at
+
+-- what follows the end command; empty after a refusal
+abbrev pub partAfter : List ℕ → Outcome → List ℕ
+partAfter bytes (Read end) = drop end bytes
+partAfter bytes (Refused number at) = []
+
+unfoldable pub restOf : List ℕ → List ℕ
+restOf bytes = partAfter bytes (readingOf bytes .outcome)
+
+-- ---- what holds of every draft: an edge number is a bit of a 64-bit mask, a colour set is one of 8 bits
+pub record Bounded (p : Policy) : Type 0 where
+  pub few-edges : p .states * p .letters ≤ 64
+  pub few-colours : p .colours ≤ 8

@@ -1,0 +1,326 @@
+// Reading a policy from command bytes: each command is asked document 01's questions in order, and then taken into the draft.
+ghost use mathlib.Core.Path.{_≡_};
+ghost use mathlib.Core.Bool.{true};
+ghost use Prim.Native.Nat.{ℕ, _+_, _-_, _*_, _<_, _≤_, _^_};
+ghost use lib.ListN.{getD, length};
+ghost use Rattle.policy.specs.Policies.{edgeOf, legalCounts};
+ghost use Rattle.reading.specs.Reading.{Bounded, after, allGiven, commandAt, commandKnown, completeAtEnd, counted, emptyDraft, firstTime, inPlace, isEnd, nextOffset, operandCount, operandsThere, readUpTo, readingOf, refusalOf, refusedAt, restOf, withEdge, withSet, withinLimits, zeroPolicy};
+
+// A command with its operands.
+pub enum Command {
+    End,
+    // states, letters, colours, initial state
+    Shape(u8, u8, u8, u8),
+    // state, letter, target, colour
+    Edge(u8, u8, u8, u8),
+    // colour set
+    Accept(u8),
+}
+
+// The policy so far, and the set of the edges given so far.
+pub struct Draft {
+    pub policy: policy::Policy,
+    pub given: u64,
+}
+
+pub enum Outcome {
+    // The offset just past the end command.
+    Read(usize),
+    // Document 01's number, and the offset of the refused command.
+    Refused(u8, usize),
+}
+
+// The policy is all zero after a refusal.
+pub struct Answer {
+    pub outcome: Outcome,
+    pub policy: policy::Policy,
+}
+
+fn wide(x: u8) -> usize
+    ensures { λ r. ⌜ (r ≡ x) × (r < 256) ⌝ }
+{
+    x as usize
+}
+
+fn counted_policy(states: u8, letters: u8, colours: u8, initial: u8) -> policy::Policy
+    ensures { λ r. ⌜ r ≡ counted states letters colours initial ⌝ }
+{
+    policy::Policy {
+        states,
+        letters,
+        colours,
+        initial,
+        target: [0; 64],
+        colour: [0; 64],
+        family: [false; 256],
+    }
+}
+
+// ---- commands
+fn is_known(code: u8) -> bool
+    ensures { λ r. ⌜ r ≡ commandKnown code ⌝ }
+{
+    code <= 3
+}
+
+fn operand_count(code: u8) -> usize
+    ensures { λ r. ⌜ r ≡ operandCount code ⌝ }
+{
+    match code {
+        1 => 4,
+        2 => 4,
+        3 => 1,
+        _ => 0,
+    }
+}
+
+fn command_at(bytes: &[u8], at: usize) -> Command
+    requires { ⌜ (at < length (now bytes)) × (operandsThere (now bytes) at ≡ true) ⌝ }
+    ensures { λ r. ⌜ r ≡ commandAt (now (bytes .entry)) at ⌝ }
+{
+    let code = bytes[at];
+    if code == 1 {
+        return Command::Shape(bytes[at + 1], bytes[at + 2], bytes[at + 3], bytes[at + 4]);
+    }
+    if code == 2 {
+        return Command::Edge(bytes[at + 1], bytes[at + 2], bytes[at + 3], bytes[at + 4]);
+    }
+    if code == 3 {
+        return Command::Accept(bytes[at + 1]);
+    }
+    Command::End
+}
+
+fn is_end(c: Command) -> bool
+    ensures { λ r. ⌜ r ≡ isEnd c ⌝ }
+{
+    match c {
+        Command::End => true,
+        Command::Shape(_, _, _, _) => false,
+        Command::Edge(_, _, _, _) => false,
+        Command::Accept(_) => false,
+    }
+}
+
+// ---- the questions
+fn is_in_place(at: usize, c: Command) -> bool
+    ensures { λ r. ⌜ r ≡ inPlace at c ⌝ }
+{
+    match c {
+        Command::End => at != 0,
+        Command::Shape(_, _, _, _) => at == 0,
+        Command::Edge(_, _, _, _) => at != 0,
+        Command::Accept(_) => at != 0,
+    }
+}
+
+fn counts_fit(states: u8, letters: u8, colours: u8, initial: u8) -> bool
+    ensures { λ r. ⌜ r ≡ legalCounts (counted states letters colours initial) ⌝ }
+{
+    let edges = wide(states) * wide(letters);
+    (1 <= states)
+        & (states <= 16)
+        & (1 <= letters)
+        & (letters <= 8)
+        & (1 <= colours)
+        & (colours <= 8)
+        & (edges <= 64)
+        & (initial < states)
+}
+
+// How many colour sets there are.
+fn sets_of(colours: u8) -> usize
+    requires { ⌜ colours ≤ 8 ⌝ }
+    ensures { λ r. ⌜ r ≡ 2 ^ colours ⌝ }
+{
+    1 << colours
+}
+
+fn is_within_limits(p: policy::Policy, c: Command) -> bool
+    requires { ⌜ Bounded p ⌝ }
+    ensures { λ r. ⌜ r ≡ withinLimits p c ⌝ }
+{
+    match c {
+        Command::End => true,
+        Command::Shape(states, letters, colours, initial) => {
+            counts_fit(states, letters, colours, initial)
+        }
+        Command::Edge(state, letter, target, colour) => {
+            (state < p.states) & (letter < p.letters) & (target < p.states) & (colour < p.colours)
+        }
+        Command::Accept(set) => (0 < set) & (wide(set) < sets_of(p.colours)),
+    }
+}
+
+fn edge_of(p: policy::Policy, state: u8, letter: u8) -> usize
+    ensures { λ r. ⌜ r ≡ edgeOf p state letter ⌝ }
+{
+    wide(state) * wide(p.letters) + wide(letter)
+}
+
+fn is_first_time(d: Draft, c: Command) -> bool
+    requires { ⌜ (Bounded (d .policy)) × (withinLimits (d .policy) c ≡ true) ⌝ }
+    ensures { λ r. ⌜ r ≡ firstTime d c ⌝ }
+{
+    let p = d.policy;
+    match c {
+        Command::End => true,
+        Command::Shape(_, _, _, _) => true,
+        Command::Edge(state, letter, _, _) => !masks::has(d.given, edge_of(p, state, letter)),
+        Command::Accept(set) => {
+            let i = wide(set);
+            !p.family[i]
+        }
+    }
+}
+
+fn all_given(given: u64, edges: usize) -> bool
+    requires { ⌜ edges ≤ 64 ⌝ }
+    ensures { λ r. ⌜ r ≡ allGiven given edges ⌝ }
+{
+    let mut e = 0;
+    while e < edges {
+        if !masks::has(given, e) {
+            return false;
+        }
+        e += 1;
+    }
+    true
+}
+
+fn is_complete_at_end(d: Draft, c: Command) -> bool
+    requires { ⌜ Bounded (d .policy) ⌝ }
+    ensures { λ r. ⌜ r ≡ completeAtEnd d c ⌝ }
+{
+    let p = d.policy;
+    match c {
+        Command::End => all_given(d.given, wide(p.states) * wide(p.letters)),
+        Command::Shape(_, _, _, _) => true,
+        Command::Edge(_, _, _, _) => true,
+        Command::Accept(_) => true,
+    }
+}
+
+// The number of the first question that is answered no; 0 where there is none.
+fn refusal(bytes: &[u8], at: usize, d: Draft) -> u8
+    requires { ⌜ Bounded (d .policy) ⌝ }
+    ensures { λ r. ⌜ r ≡ refusalOf (now (bytes .entry)) at d ⌝ }
+{
+    if bytes.len() <= at {
+        return 1;
+    }
+    let code = bytes[at];
+    if !is_known(code) {
+        return 2;
+    }
+    if bytes.len() - (at + 1) < operand_count(code) {
+        return 1;
+    }
+    let c = command_at(bytes, at);
+    if !is_in_place(at, c) {
+        return 3;
+    }
+    let p = d.policy;
+    if !is_within_limits(p, c) {
+        return 4;
+    }
+    if !is_first_time(d, c) {
+        return 5;
+    }
+    if !is_complete_at_end(d, c) {
+        return 6;
+    }
+    0
+}
+
+// ---- the draft
+fn with_edge(p: policy::Policy, e: usize, target: u8, colour: u8) -> policy::Policy
+    requires { ⌜ e < 64 ⌝ }
+    ensures { λ r. ⌜ r ≡ withEdge p e target colour ⌝ }
+{
+    let mut q = p;
+    q.target[e] = target;
+    q.colour[e] = colour;
+    q
+}
+
+fn with_set(p: policy::Policy, set: u8) -> policy::Policy
+    ensures { λ r. ⌜ r ≡ withSet p set ⌝ }
+{
+    let i = wide(set);
+    let mut q = p;
+    q.family[i] = true;
+    q
+}
+
+// The draft after a command that was not refused.
+fn draft_after(d: Draft, c: Command) -> Draft
+    requires { ⌜ (Bounded (d .policy)) × (withinLimits (d .policy) c ≡ true) ⌝ }
+    ensures { λ r. ⌜ r ≡ after d c ⌝ }
+{
+    let p = d.policy;
+    match c {
+        Command::End => d,
+        Command::Shape(states, letters, colours, initial) => Draft {
+            policy: counted_policy(states, letters, colours, initial),
+            given: 0,
+        },
+        Command::Edge(state, letter, target, colour) => {
+            let e = edge_of(p, state, letter);
+            Draft {
+                policy: with_edge(p, e, target, colour),
+                given: masks::with(d.given, e),
+            }
+        }
+        Command::Accept(set) => Draft {
+            policy: with_set(p, set),
+            given: d.given,
+        },
+    }
+}
+
+// ---- reading
+// The policy of the commands up to the end command, or the first refusal.
+pub fn read(bytes: &[u8]) -> Answer
+    ensures { λ r. ⌜ r ≡ readingOf (now (bytes .entry)) ⌝ }
+{
+    let mut d = Draft {
+        policy: counted_policy(0, 0, 0, 0),
+        given: 0,
+    };
+    let mut at = 0;
+    loop {
+        let number = refusal(bytes, at, d);
+        if number != 0 {
+            return Answer {
+                outcome: Outcome::Refused(number, at),
+                policy: counted_policy(0, 0, 0, 0),
+            };
+        }
+        let c = command_at(bytes, at);
+        if is_end(c) {
+            let p = d.policy;
+            return Answer {
+                outcome: Outcome::Read(at + 1),
+                policy: p,
+            };
+        }
+        d = draft_after(d, c);
+        at = at + 1 + operand_count(bytes[at]);
+    }
+}
+
+// What follows the end command, as a part of the caller's bytes; empty after a refusal.
+pub fn rest(bytes: &[u8]) -> &[u8]
+    ensures { λ r. ⌜ now r ≡ restOf (now (bytes .entry)) ⌝ }
+{
+    let a = read(bytes);
+    let o = a.outcome;
+    match o {
+        Outcome::Read(end) => &bytes[end..],
+        Outcome::Refused(_, _) => {
+            let end = bytes.len();
+            &bytes[end..]
+        }
+    }
+}
