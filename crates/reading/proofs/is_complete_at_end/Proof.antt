@@ -1,64 +1,50 @@
-use mathlib.Core.Path.{sym, ap}
-use Rattle.reading.specs.Reading.{completeAtEnd}
-use Rattle.policy.specs.Policies.{edges}
-use Rattle.reading.proofs.Questions.{product-lt}
+-- `reading::is_complete_at_end` meets its contract: each command's case.
+-- Assumes nothing.
 use native.Mathlib.Omega.{arith}
+use mathlib.Core.Path.{sym, ap}
 use borrow.Author.Needs.{needs}
+use Rattle.policy.specs.Policies.{edges}
+use Rattle.reading.specs.Reading.{completeAtEnd}
+use Rattle.reading.proofs.Questions.{product-lt}
 use Rattle.reading.proofs.is_complete_at_end.Statement.{statement}
 use Rattle.reading.proofs.is_complete_at_end.Tie as tie
-use Rattle.reading.proofs.is_complete_at_end.Reads as reads
-use Rattle.reading.proofs.is_complete_at_end.Lts as lts
-use Rattle.reading.proofs.all_given.Reads as all-given-reads
-use Rattle.reading.proofs.wide.Reads as wide-reads
 
--- src/lib.rt:197:44
 enum-told : tie.Need-enum-told
 enum-told c = search needs
 
--- src/lib.rt:197:44
 wide-requires : tie.Need-wide-requires
 wide-requires c κs = search needs
 
--- src/lib.rt:197:61
 wide-requires-2 : tie.Need-wide-requires-2
 wide-requires-2 c κs = search needs
 
--- src/lib.rt:197:44
 mul-all-given : tie.Need-mul-all-given
 mul-all-given c = omega (arith, product-lt (c .before .wide .ensures .1) (c .wide2 .ensures .1))
 
--- src/lib.rt:197:25
 all-given-requires : tie.Need-all-given-requires
 all-given-requires c κs = rw (c .before .wide .ensures .0, c .wide2 .ensures .0) (c .before .before .before .before .before .pre .few-edges)
 
--- src/lib.rt:198:39
 enum-told-2 : tie.Need-enum-told-2
 enum-told-2 c = search needs
 
--- src/lib.rt:199:38
 enum-told-3 : tie.Need-enum-told-3
 enum-told-3 c = search needs
 
--- src/lib.rt:200:31
 enum-told-4 : tie.Need-enum-told-4
 enum-told-4 c = search needs
 
--- src/lib.rt:191:1
 returns : tie.Need-returns
 unfolding completeAtEnd edges
 returns c = rw (c .all-given .ensures, c .before .before .wide .ensures .0, c .before .wide2 .ensures .0) (sym (ap (completeAtEnd (c .before .before .before .before .before .before .args .d)) (c .before .before .before .enum-told .given .1)))
 
--- src/lib.rt:191:1
 returns-2 : tie.Need-returns-2
 unfolding completeAtEnd
 returns-2 c = sym (ap (completeAtEnd (c .before .before .before .args .d)) (c .enum-told2 .given .1))
 
--- src/lib.rt:191:1
 returns-3 : tie.Need-returns-3
 unfolding completeAtEnd
 returns-3 c = sym (ap (completeAtEnd (c .before .before .before .args .d)) (c .enum-told3 .given .1))
 
--- src/lib.rt:191:1
 returns-4 : tie.Need-returns-4
 unfolding completeAtEnd
 returns-4 c = sym (ap (completeAtEnd (c .before .before .before .args .d)) (c .enum-told4 .given .1))

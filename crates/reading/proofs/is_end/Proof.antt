@@ -1,44 +1,35 @@
+-- `reading::is_end` meets its contract: each command's case.
+-- Assumes nothing.
 use mathlib.Core.Path.{sym, ap}
-use Rattle.reading.specs.Reading.{isEnd}
-use native.Mathlib.Omega.{arith}
 use borrow.Author.Needs.{needs}
+use Rattle.reading.specs.Reading.{isEnd}
 use Rattle.reading.proofs.is_end.Statement.{statement}
 use Rattle.reading.proofs.is_end.Tie as tie
-use Rattle.reading.proofs.is_end.Reads as reads
-use Rattle.reading.proofs.is_end.Lts as lts
 
--- src/lib.rt:98:25
 enum-told : tie.Need-enum-told
 enum-told c = search needs
 
--- src/lib.rt:99:39
 enum-told-2 : tie.Need-enum-told-2
 enum-told-2 c = search needs
 
--- src/lib.rt:100:38
 enum-told-3 : tie.Need-enum-told-3
 enum-told-3 c = search needs
 
--- src/lib.rt:101:31
 enum-told-4 : tie.Need-enum-told-4
 enum-told-4 c = search needs
 
--- src/lib.rt:94:1
 returns : tie.Need-returns
 unfolding isEnd
 returns c = sym (ap isEnd (c .enum-told .given .1))
 
--- src/lib.rt:94:1
 returns-2 : tie.Need-returns-2
 unfolding isEnd
 returns-2 c = sym (ap isEnd (c .enum-told2 .given .1))
 
--- src/lib.rt:94:1
 returns-3 : tie.Need-returns-3
 unfolding isEnd
 returns-3 c = sym (ap isEnd (c .enum-told3 .given .1))
 
--- src/lib.rt:94:1
 returns-4 : tie.Need-returns-4
 unfolding isEnd
 returns-4 c = sym (ap isEnd (c .enum-told4 .given .1))

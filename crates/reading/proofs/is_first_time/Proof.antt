@@ -1,65 +1,49 @@
-use mathlib.Core.Path.{_≡_, sym, ap, _∙_}
-use Rattle.reading.specs.Reading.{firstTime, withinLimits}
-use Rattle.policy.specs.Policies.{inFamily}
-use Rattle.reading.proofs.Questions.{edge-within}
-use native.Mathlib.Omega.{arith}
+-- `reading::is_first_time` meets its contract: each command's case; the edge within the limits has a bit of the mask.
+-- Assumes nothing.
+use mathlib.Core.Path.{sym, ap, _∙_}
 use borrow.Author.Needs.{needs}
+use Rattle.policy.specs.Policies.{inFamily}
+use Rattle.reading.specs.Reading.{firstTime, withinLimits}
+use Rattle.reading.proofs.Questions.{edge-within}
 use Rattle.reading.proofs.is_first_time.Statement.{statement}
 use Rattle.reading.proofs.is_first_time.Tie as tie
-use Rattle.reading.proofs.is_first_time.Reads as reads
-use Rattle.reading.proofs.is_first_time.Lts as lts
-use Rattle.masks.proofs.has.Reads as has-reads
-use Rattle.reading.proofs.edge_of.Reads as edge-of-reads
-use Rattle.reading.proofs.wide.Reads as wide-reads
 
--- src/lib.rt:167:25
 enum-told : tie.Need-enum-told
 enum-told c = search needs
 
--- src/lib.rt:168:39
 enum-told-2 : tie.Need-enum-told-2
 enum-told-2 c = search needs
 
--- src/lib.rt:169:23
 enum-known-c : tie.Need-enum-known-c
 enum-known-c c = search needs
 
--- src/lib.rt:169:68
 edge-of-requires : tie.Need-edge-of-requires
 edge-of-requires c κs = search needs
 
--- src/lib.rt:169:48
 has-requires : tie.Need-has-requires
 has-requires c κs = rw (c .edge-of .ensures) (edge-within (c .before .before .before .before .before .args .d .policy) (c .before .before .before .before .before .pre .0) _ _ _ _ (sym (ap (withinLimits (c .before .before .before .before .before .args .d .policy)) (c .before .before .c .given .1)) ∙ c .before .before .before .before .before .pre .1))
 
--- src/lib.rt:170:25
 enum-known-c-2 : tie.Need-enum-known-c-2
 enum-known-c-2 c = search needs
 
--- src/lib.rt:171:17
 wide-requires : tie.Need-wide-requires
 wide-requires c κs = search needs
 
--- src/lib.rt:172:14
 element-copy-out-result : tie.Need-element-copy-out-result
 element-copy-out-result c = search needs
 
--- src/lib.rt:161:1
 returns : tie.Need-returns
 unfolding firstTime
 returns c = sym (ap (firstTime (c .before .before .before .args .d)) (c .enum-told .given .1))
 
--- src/lib.rt:161:1
 returns-2 : tie.Need-returns-2
 unfolding firstTime
 returns-2 c = sym (ap (firstTime (c .before .before .before .args .d)) (c .enum-told2 .given .1))
 
--- src/lib.rt:161:1
 returns-3 : tie.Need-returns-3
 unfolding firstTime
 returns-3 c = rw (c .has .ensures, c .before .edge-of .ensures) (sym (ap (firstTime (c .before .before .before .before .before .before .args .d)) (c .before .before .before .c .given .1)))
 
--- src/lib.rt:161:1
 returns-4 : tie.Need-returns-4
 unfolding firstTime inFamily
 returns-4 c = rw (c .before .wide .ensures .0) (sym (ap (firstTime (c .before .before .before .before .before .before .args .d)) (c .before .before .before .c2 .given .1)))

@@ -1,45 +1,36 @@
+-- `reading::is_in_place` meets its contract: each command's case.
+-- Assumes nothing.
 use lib.Dec.{eqb}
+use borrow.Author.Needs.{needs}
 use Rattle.reading.specs.Reading.{inPlace, isShape}
 use Rattle.reading.proofs.Questions.{later-not, first-is}
-use native.Mathlib.Omega.{arith}
-use borrow.Author.Needs.{needs}
 use Rattle.reading.proofs.is_in_place.Statement.{statement}
 use Rattle.reading.proofs.is_in_place.Tie as tie
-use Rattle.reading.proofs.is_in_place.Reads as reads
-use Rattle.reading.proofs.is_in_place.Lts as lts
 
--- src/lib.rt:110:25
 enum-told : tie.Need-enum-told
 enum-told c = search needs
 
--- src/lib.rt:111:39
 enum-told-2 : tie.Need-enum-told-2
 enum-told-2 c = search needs
 
--- src/lib.rt:112:38
 enum-told-3 : tie.Need-enum-told-3
 enum-told-3 c = search needs
 
--- src/lib.rt:113:31
 enum-told-4 : tie.Need-enum-told-4
 enum-told-4 c = search needs
 
--- src/lib.rt:106:1
 returns : tie.Need-returns
 unfolding inPlace isShape
 returns c = rw (c .enum-told .given .1) (later-not (eqb (c .before .before .args .at) 0))
 
--- src/lib.rt:106:1
 returns-2 : tie.Need-returns-2
 unfolding inPlace isShape
 returns-2 c = rw (c .enum-told2 .given .1) (first-is (eqb (c .before .before .args .at) 0))
 
--- src/lib.rt:106:1
 returns-3 : tie.Need-returns-3
 unfolding inPlace isShape
 returns-3 c = rw (c .enum-told3 .given .1) (later-not (eqb (c .before .before .args .at) 0))
 
--- src/lib.rt:106:1
 returns-4 : tie.Need-returns-4
 unfolding inPlace isShape
 returns-4 c = rw (c .enum-told4 .given .1) (later-not (eqb (c .before .before .args .at) 0))

@@ -1,59 +1,44 @@
-use mathlib.Core.Path.{_≡_, sym, ap, _∙_}
-use Rattle.reading.specs.Reading.{withinLimits}
-use native.Mathlib.Omega.{arith}
+-- `reading::is_within_limits` meets its contract: each command's case.
+-- Assumes nothing.
+use mathlib.Core.Path.{sym, ap, _∙_}
 use borrow.Author.Needs.{needs}
+use Rattle.reading.specs.Reading.{withinLimits}
 use Rattle.reading.proofs.is_within_limits.Statement.{statement}
 use Rattle.reading.proofs.is_within_limits.Tie as tie
-use Rattle.reading.proofs.is_within_limits.Reads as reads
-use Rattle.reading.proofs.is_within_limits.Lts as lts
-use Rattle.reading.proofs.counts_fit.Reads as counts-fit-reads
-use Rattle.reading.proofs.sets_of.Reads as sets-of-reads
-use Rattle.reading.proofs.wide.Reads as wide-reads
 
--- src/lib.rt:144:25
 enum-told : tie.Need-enum-told
 enum-told c = search needs
 
--- src/lib.rt:145:24
 enum-known-c : tie.Need-enum-known-c
 enum-known-c c = search needs
 
--- src/lib.rt:146:13
 counts-fit-requires : tie.Need-counts-fit-requires
 counts-fit-requires c κs = search needs
 
--- src/lib.rt:148:23
 enum-known-c-2 : tie.Need-enum-known-c-2
 enum-known-c-2 c = search needs
 
--- src/lib.rt:151:25
 enum-known-c-3 : tie.Need-enum-known-c-3
 enum-known-c-3 c = search needs
 
--- src/lib.rt:151:46
 wide-requires : tie.Need-wide-requires
 wide-requires c κs = search needs
 
--- src/lib.rt:151:58
 sets-of-requires : tie.Need-sets-of-requires
 sets-of-requires c κs = search needs
 
--- src/lib.rt:139:1
 returns : tie.Need-returns
 unfolding withinLimits
 returns c = sym (ap (withinLimits (c .before .before .args .p)) (c .enum-told .given .1))
 
--- src/lib.rt:139:1
 returns-2 : tie.Need-returns-2
 unfolding withinLimits
 returns-2 c = c .counts-fit .ensures ∙ sym (ap (withinLimits (c .before .before .before .before .args .p)) (c .before .before .c .given .1))
 
--- src/lib.rt:139:1
 returns-3 : tie.Need-returns-3
 unfolding withinLimits
 returns-3 c = sym (ap (withinLimits (c .before .before .before .before .before .before .before .args .p)) (c .before .before .before .before .before .c2 .given .1))
 
--- src/lib.rt:139:1
 returns-4 : tie.Need-returns-4
 unfolding withinLimits
 returns-4 c = rw (c .before .wide .ensures .0, c .sets-of .ensures) (sym (ap (withinLimits (c .before .before .before .before .before .args .p)) (c .before .before .before .c3 .given .1)))

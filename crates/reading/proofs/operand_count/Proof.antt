@@ -1,28 +1,22 @@
-use Rattle.reading.specs.Reading.{operandCount}
+-- `reading::operand_count` meets its contract: each command's number.
+-- Assumes nothing.
 use borrow.Author.Tests.{ne-eqb}
-use native.Mathlib.Omega.{arith}
-use borrow.Author.Needs.{needs}
+use Rattle.reading.specs.Reading.{operandCount}
 use Rattle.reading.proofs.operand_count.Statement.{statement}
 use Rattle.reading.proofs.operand_count.Tie as tie
-use Rattle.reading.proofs.operand_count.Reads as reads
-use Rattle.reading.proofs.operand_count.Lts as lts
 
--- src/lib.rt:66:1
 returns : tie.Need-returns
 unfolding operandCount
 returns c = rw (c .match .keys1)
 
--- src/lib.rt:66:1
 returns-2 : tie.Need-returns-2
 unfolding operandCount
 returns-2 c = rw (c .match .keys2)
 
--- src/lib.rt:66:1
 returns-3 : tie.Need-returns-3
 unfolding operandCount
 returns-3 c = rw (c .match .keys3)
 
--- src/lib.rt:66:1
 returns-4 : tie.Need-returns-4
 unfolding operandCount
 returns-4 c = rw (ne-eqb (c .before .args .code) 1 (c .match .rest .0 .0 .1), ne-eqb (c .before .args .code) 2 (c .match .rest .0 .1), ne-eqb (c .before .args .code) 3 (c .match .rest .1))

@@ -1,20 +1,14 @@
+-- `reading::read` meets its contract: the loop is on the way: what is left to read makes the whole reading. The measure is the bytes left.
+-- Assumes nothing.
 use Prim.Native.Nat.{_-_}
-use mathlib.Core.Path.{_≡_, sym, _∙_}
+use native.Mathlib.Omega.{arith}
+use mathlib.Core.Path.{sym, _∙_}
 use lib.ListN.{length}
+use borrow.Author.Needs.{needs}
 use Rattle.reading.proofs.Questions.{passed}
 use Rattle.reading.proofs.Turns.{Onway, onway-start, onway-refused, onway-end, onway-on}
-use native.Mathlib.Omega.{arith}
-use borrow.Author.Needs.{needs}
 use Rattle.reading.proofs.read.Statement.{statement}
 use Rattle.reading.proofs.read.Tie as tie
-use Rattle.reading.proofs.read.Reads as reads
-use Rattle.reading.proofs.read.Lts as lts
-use Rattle.reading.proofs.command_at.Reads as command-at-reads
-use Rattle.reading.proofs.counted_policy.Reads as counted-policy-reads
-use Rattle.reading.proofs.draft_after.Reads as draft-after-reads
-use Rattle.reading.proofs.is_end.Reads as is-end-reads
-use Rattle.reading.proofs.operand_count.Reads as operand-count-reads
-use Rattle.reading.proofs.refusal.Reads as refusal-reads
 
 abbrev Inv-loop : tie.InvT-loop
 Inv-loop bytes d₀ at₀ d at = Onway bytes at d
@@ -22,67 +16,51 @@ Inv-loop bytes d₀ at₀ d at = Onway bytes at d
 abbrev μ-loop : tie.MeasureT-loop
 μ-loop bytes d₀ at₀ d at = length bytes - at
 
--- src/lib.rt:288:17
 counted-policy-requires : tie.Need-counted-policy-requires Inv-loop μ-loop
 counted-policy-requires c κs = search needs
 
--- src/lib.rt:292:5
 loop-holds : tie.Need-loop-holds Inv-loop μ-loop
 loop-holds c = onway-start (c .before .before .args .bytes .now) (c .counted-policy .result) (c .counted-policy .ensures)
 
--- src/lib.rt:293:13
 refusal-requires : tie.Need-refusal-requires Inv-loop μ-loop
 refusal-requires c κs = c .loop .inv .bounded
 
--- src/lib.rt:297:25
 counted-policy-requires-2 : tie.Need-counted-policy-requires-2 Inv-loop μ-loop
 counted-policy-requires-2 c κs = search needs
 
--- src/lib.rt:295:13
 returns : tie.Need-returns Inv-loop μ-loop
 returns c = onway-refused (c .before .before .before .before .before .before .args .bytes .now) (c .before .before .before .loop .at) (c .before .before .before .loop .d) (c .before .before .before .loop .inv) (c .before .before .refusal .result) (c .counted-policy2 .result) (c .before .before .refusal .ensures) (c .before .if1 .taken) (c .counted-policy2 .ensures)
 
--- src/lib.rt:300:13
 command-at-requires : tie.Need-command-at-requires Inv-loop μ-loop
 command-at-requires c κs = let w = passed (c .before .before .before .before .before .args .bytes .now) (c .before .before .loop .at) (c .before .before .loop .d) (sym (c .before .refusal .ensures) ∙ c .if1 .left) in (w .byte, w .there)
 
--- src/lib.rt:301:12
 is-end-requires : tie.Need-is-end-requires Inv-loop μ-loop
 is-end-requires c κs = search needs
 
--- src/lib.rt:304:40
 add-t12 : tie.Need-add-t12 Inv-loop μ-loop
 add-t12 c = omega (arith, passed (c .before .before .before .before .before .before .before .before .before .args .bytes .now) (c .before .before .before .before .before .before .loop .at) (c .before .before .before .before .before .before .loop .d) (sym (c .before .before .before .before .before .refusal .ensures) ∙ c .before .before .before .before .if1 .left) .byte)
 
--- src/lib.rt:303:13
 returns-2 : tie.Need-returns-2 Inv-loop μ-loop
 returns-2 c = onway-end (c .before .before .before .before .before .before .before .before .before .args .bytes .now) (c .before .before .before .before .before .before .loop .at) (c .before .before .before .before .before .before .loop .d) (c .before .before .before .before .before .before .loop .inv) (sym (c .before .before .before .before .before .refusal .ensures) ∙ c .before .before .before .before .if1 .left) (c .before .before .before .command-at .result) (c .before .before .before .command-at .ensures) (sym (c .before .before .is-end .ensures) ∙ c .before .if2 .taken)
 
--- src/lib.rt:308:9
 draft-after-requires : tie.Need-draft-after-requires Inv-loop μ-loop
 draft-after-requires c κs = (c .before .before .before .before .before .loop .inv .bounded, rw (c .before .before .command-at .ensures) (passed (c .before .before .before .before .before .before .before .before .args .bytes .now) (c .before .before .before .before .before .loop .at) (c .before .before .before .before .before .loop .d) (sym (c .before .before .before .before .refusal .ensures) ∙ c .before .before .before .if1 .left) .within))
 
--- src/lib.rt:309:14
 add-at : tie.Need-add-at Inv-loop μ-loop
 add-at c = omega (arith, passed (c .before .before .before .before .before .before .before .before .before .args .bytes .now) (c .before .before .before .before .before .before .loop .at) (c .before .before .before .before .before .before .loop .d) (sym (c .before .before .before .before .before .refusal .ensures) ∙ c .before .before .before .before .if1 .left) .byte)
 
--- src/lib.rt:309:37
 shared-slice-read-operand-count : tie.Need-shared-slice-read-operand-count Inv-loop μ-loop
 shared-slice-read-operand-count c = omega (arith, passed (c .before .before .before .before .before .before .before .before .before .before .args .bytes .now) (c .before .before .before .before .before .before .before .loop .at) (c .before .before .before .before .before .before .before .loop .d) (sym (c .before .before .before .before .before .before .refusal .ensures) ∙ c .before .before .before .before .before .if1 .left) .byte)
 
--- src/lib.rt:309:23
 operand-count-requires : tie.Need-operand-count-requires Inv-loop μ-loop
 operand-count-requires c κs = search needs
 
--- src/lib.rt:309:14
 add-at-2 : tie.Need-add-at-2 Inv-loop μ-loop
 add-at-2 c = omega (arith, onway-on (c .before .before .before .before .before .before .before .before .before .before .before .args .bytes .now) (c .before .before .before .before .before .before .before .before .loop .at) (c .before .before .before .before .before .before .before .before .loop .d) (c .before .before .before .before .before .before .before .before .loop .inv) (sym (c .before .before .before .before .before .before .before .refusal .ensures) ∙ c .before .before .before .before .before .before .if1 .left) (c .before .before .before .before .before .command-at .result) (c .before .before .before .before .before .command-at .ensures) (sym (c .before .before .before .before .is-end .ensures) ∙ c .before .before .before .if2 .left) (c .before .before .draft-after .result) (c .before .before .draft-after .ensures) (c .operand-count .result) (c .operand-count .ensures) .within)
 
--- src/lib.rt:292:5
 loop-less : tie.Need-loop-less Inv-loop μ-loop
 loop-less c = omega (arith, passed (c .before .before .before .before .before .before .before .before .before .before .before .args .bytes .now) (c .before .before .before .before .before .before .before .before .loop .at) (c .before .before .before .before .before .before .before .before .loop .d) (sym (c .before .before .before .before .before .before .before .refusal .ensures) ∙ c .before .before .before .before .before .before .if1 .left) .byte)
 
--- src/lib.rt:292:5
 loop-again : tie.Need-loop-again Inv-loop μ-loop
 loop-again c = onway-on (c .before .before .before .before .before .before .before .before .before .before .before .args .bytes .now) (c .before .before .before .before .before .before .before .before .loop .at) (c .before .before .before .before .before .before .before .before .loop .d) (c .before .before .before .before .before .before .before .before .loop .inv) (sym (c .before .before .before .before .before .before .before .refusal .ensures) ∙ c .before .before .before .before .before .before .if1 .left) (c .before .before .before .before .before .command-at .result) (c .before .before .before .before .before .command-at .ensures) (sym (c .before .before .before .before .is-end .ensures) ∙ c .before .before .before .if2 .left) (c .before .before .draft-after .result) (c .before .before .draft-after .ensures) (c .operand-count .result) (c .operand-count .ensures)
 

@@ -1,21 +1,17 @@
+-- `reading::with_edge` meets its contract: the definition, opened.
+-- Assumes nothing.
 use mathlib.Core.Path.{refl}
-use Rattle.reading.specs.Reading.{withEdge}
-use native.Mathlib.Omega.{arith}
 use borrow.Author.Needs.{needs}
+use Rattle.reading.specs.Reading.{withEdge}
 use Rattle.reading.proofs.with_edge.Statement.{statement}
 use Rattle.reading.proofs.with_edge.Tie as tie
-use Rattle.reading.proofs.with_edge.Reads as reads
-use Rattle.reading.proofs.with_edge.Lts as lts
 
--- src/lib.rt:242:5
 element-write-q : tie.Need-element-write-q
 element-write-q c = search needs
 
--- src/lib.rt:243:5
 element-write-q-2 : tie.Need-element-write-q-2
 element-write-q-2 c = search needs
 
--- src/lib.rt:237:1
 returns : tie.Need-returns
 unfolding withEdge
 returns c = refl
