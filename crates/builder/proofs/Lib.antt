@@ -4,3 +4,4 @@ pub mod EdgeRuns
 pub mod Leaves
 pub mod Next
 pub mod Tables
+pub mod Ends
