@@ -92,7 +92,7 @@ module _ (ns : List Node) (p : Policy) where
       some-any (λ x. isRoot x && has (x .mask) e) ns (node ns r) (getD-mem ns r (record { mask = 0; parent = 0; level = 0; accepted = false }) h) (both (rootAt ns r) (has (maskAt ns r) e) t u)
 
   -- ---- the edge e from the leaf l, case by case
-  entered-kid : (w n l j : ℕ) → List·Memᴰ j (kids ns p w n) → List·Memᴰ (entered ns p w n l) (kids ns p w n)
+  pub entered-kid : (w n l j : ℕ) → List·Memᴰ j (kids ns p w n) → List·Memᴰ (entered ns p w n l) (kids ns p w n)
   unfolding entered
   entered-kid w n l j m = go (eqb l n)
     where
@@ -104,15 +104,15 @@ module _ (ns : List Node) (p : Policy) where
   unfolding entered
   entered-next w n l f = rw f
 
-  after-out : (e l : ℕ) → inRoot ns e ≡ false → leafAfter ns p e l ≡ firstLeaf ns p (targetOf p e)
+  pub after-out : (e l : ℕ) → inRoot ns e ≡ false → leafAfter ns p e l ≡ firstLeaf ns p (targetOf p e)
   unfolding leafAfter
   after-out e l f = rw f
 
-  after-at : (e l : ℕ) → inRoot ns e ≡ true → isLeaf ns p (targetOf p e) (deepest ns e l) ≡ true → leafAfter ns p e l ≡ deepest ns e l
+  pub after-at : (e l : ℕ) → inRoot ns e ≡ true → isLeaf ns p (targetOf p e) (deepest ns e l) ≡ true → leafAfter ns p e l ≡ deepest ns e l
   unfolding leafAfter
   after-at e l t u = rw (t, u)
 
-  after-in : (e l : ℕ) → inRoot ns e ≡ true → isLeaf ns p (targetOf p e) (deepest ns e l) ≡ false
+  pub after-in : (e l : ℕ) → inRoot ns e ≡ true → isLeaf ns p (targetOf p e) (deepest ns e l) ≡ false
       → leafAfter ns p e l ≡ firstLeafBelow ns p (targetOf p e) (entered ns p (targetOf p e) (deepest ns e l) l)
   unfolding leafAfter
   after-in e l t u = rw (t, u)

@@ -5,3 +5,4 @@ pub mod Leaves
 pub mod Next
 pub mod Tables
 pub mod Ends
+pub mod Search

@@ -41,7 +41,7 @@ next-cases c l = go (first-cases (firstOr c l) (filter (ltb c) l))
         let r = filter-mem (ltb c) l (firstOr (firstOr c l) (filter (ltb c) l)) m in
         inr (r .0, lt-true c (firstOr (firstOr c l) (filter (ltb c) l)) (r .1))
 
-next-above : (c : ℕ) (l : List ℕ) → Ascending l → (y : ℕ) → List·Memᴰ y l → c < y → (c < next c l) × (next c l ≤ y)
+pub next-above : (c : ℕ) (l : List ℕ) → Ascending l → (y : ℕ) → List·Memᴰ y l → c < y → (c < next c l) × (next c l ≤ y)
 unfolding next
 next-above c l s y m h =
     let k = mem-filter (ltb c) l y m (above c y h) in
