@@ -51,6 +51,13 @@ interval-count d n end (suc k) h t =
 abbrev pub Reaches : List Node → ℕ → ℕ → Type 0
 Reaches ns n end = (n < end) × (end ≤ length ns) × ((j : ℕ) → j < length ns → List·Memᴰ n (chain ns j) ↔ ((n ≤ j) × (j < end)))
 
+-- each node of number i and above has raised the end of its parent to its own
+pub record Raised (ns : List Node) (ends : List ℕ) (i : ℕ) : Type 0 where
+  pub long : length ns ≤ length ends
+  pub own : (n : ℕ) → n < length ns → n < getD ends n 0
+  pub most : (n : ℕ) → n < length ns → getD ends n 0 ≤ endOf ns n
+  pub by-child : (n j : ℕ) → j < length ns → i ≤ j → childOf ns n j ≡ true → endOf ns j ≤ getD ends n 0
+
 module _ (p : Policy) (ns : List Node) (laws : ForestLaws p ns) where
   open ForestLaws laws using (parent-lt, level-up)
 
@@ -98,15 +105,8 @@ module _ (p : Policy) (ns : List Node) (laws : ForestLaws p ns) where
       go (no q) = omega arith
 
   -- ---- the loop from the last node down
-  -- each node of number i and above has raised the end of its parent to its own
-  pub record Raised (ends : List ℕ) (i : ℕ) : Type 0 where
-    pub long : length ns ≤ length ends
-    pub own : (n : ℕ) → n < length ns → n < getD ends n 0
-    pub most : (n : ℕ) → n < length ns → getD ends n 0 ≤ endOf ns n
-    pub by-child : (n j : ℕ) → j < length ns → i ≤ j → childOf ns n j ≡ true → endOf ns j ≤ getD ends n 0
-
   -- at first each node ends right after itself
-  pub raised-none : (ends : List ℕ) → length ns ≤ length ends → ((n : ℕ) → n < length ns → getD ends n 0 ≡ n + 1) → Raised ends (length ns)
+  pub raised-none : (ends : List ℕ) → length ns ≤ length ends → ((n : ℕ) → n < length ns → getD ends n 0 ≡ n + 1) → Raised ns ends (length ns)
   raised-none ends long own = record {
     long = long;
     own = λ n l. omega (arith, own n l);
@@ -115,7 +115,7 @@ module _ (p : Policy) (ns : List Node) (laws : ForestLaws p ns) where
   }
 
   -- where all children of n have raised it, it has its end
-  pub raised-end : (ends : List ℕ) (i n : ℕ) → Raised ends i → i ≤ n + 1 → n < length ns → getD ends n 0 ≡ endOf ns n
+  pub raised-end : (ends : List ℕ) (i n : ℕ) → Raised ns ends i → i ≤ n + 1 → n < length ns → getD ends n 0 ≡ endOf ns n
   raised-end ends i n r q l = go (child-between p ns laws n last h (end-under n last l (omega (arith, gt)) (omega (arith, gt))))
     where
       last : ℕ
@@ -134,11 +134,11 @@ module _ (p : Policy) (ns : List Node) (laws : ForestLaws p ns) where
           let hd : d < length ns = chain-lt ns parent-lt level-up last d h (s .2) in
           omega (arith, r .most n l, r .by-child n d hd (omega (arith, child-lt p ns laws n d hd (s .1))) (s .1), under-end d last hd h (s .2) .1)
 
-  pub raised-all : (ends : List ℕ) → Raised ends 0 → (n : ℕ) → n < length ns → getD ends n 0 ≡ endOf ns n
+  pub raised-all : (ends : List ℕ) → Raised ns ends 0 → (n : ℕ) → n < length ns → getD ends n 0 ≡ endOf ns n
   raised-all ends r n l = raised-end ends 0 n r (omega arith) l
 
   -- the children of a number i and above, those of i being known
-  by-one : (ends : List ℕ) (i : ℕ) → Raised ends (i + 1) → ((n : ℕ) → i < length ns → childOf ns n i ≡ true → endOf ns i ≤ getD ends n 0) → Raised ends i
+  by-one : (ends : List ℕ) (i : ℕ) → Raised ns ends (i + 1) → ((n : ℕ) → i < length ns → childOf ns n i ≡ true → endOf ns i ≤ getD ends n 0) → Raised ns ends i
   by-one ends i r at = record { long = r .long; own = r .own; most = r .most; by-child = λ n j h q k. go n j h q k (ℕ-discrete i j) }
     where
       go : (n j : ℕ) → j < length ns → i ≤ j → childOf ns n j ≡ true → Dec (i ≡ j) → endOf ns j ≤ getD ends n 0
@@ -146,16 +146,16 @@ module _ (p : Policy) (ns : List Node) (laws : ForestLaws p ns) where
       go n j h q k (no e) = r .by-child n j h (omega arith) k
 
   -- a root raises nothing
-  pub raised-root : (ends : List ℕ) (i : ℕ) → Raised ends (i + 1) → rootAt ns i ≡ true → Raised ends i
+  pub raised-root : (ends : List ℕ) (i : ℕ) → Raised ns ends (i + 1) → rootAt ns i ≡ true → Raised ns ends i
   raised-root ends i r t = by-one ends i r (λ n h k. absurd (true≢false (sym t ∙ child-of ns n i k .0)))
 
   -- the parent ends no earlier already
-  pub raised-kept : (ends : List ℕ) (i : ℕ) → Raised ends (i + 1) → i < length ns → getD ends i 0 ≤ getD ends (parentAt ns i) 0 → Raised ends i
+  pub raised-kept : (ends : List ℕ) (i : ℕ) → Raised ns ends (i + 1) → i < length ns → getD ends i 0 ≤ getD ends (parentAt ns i) 0 → Raised ns ends i
   raised-kept ends i r l q = by-one ends i r (λ n h k. let z = child-of ns n i k .1 in subst (λ (x : ℕ). endOf ns i ≤ getD ends x 0) z (omega (arith, raised-end ends (i + 1) i r (omega arith) l)))
 
   -- it ends earlier, and is raised
-  pub raised-more : (ends : List ℕ) (i : ℕ) → Raised ends (i + 1) → i < length ns → rootAt ns i ≡ false → getD ends (parentAt ns i) 0 ≤ getD ends i 0
-      → Raised (set ends (parentAt ns i) (getD ends i 0)) i
+  pub raised-more : (ends : List ℕ) (i : ℕ) → Raised ns ends (i + 1) → i < length ns → rootAt ns i ≡ false → getD ends (parentAt ns i) 0 ≤ getD ends i 0
+      → Raised ns (set ends (parentAt ns i) (getD ends i 0)) i
   raised-more ends i r l f q =
       by-one ends′ i
       (record {

@@ -6,3 +6,4 @@ pub mod Next
 pub mod Tables
 pub mod Ends
 pub mod Search
+pub mod RowLaws

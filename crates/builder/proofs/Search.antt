@@ -12,20 +12,23 @@ use lib.Dec.{eqb, ltb, lt→ltb}
 use lib.ListN.{length, getD}
 use Rattle.lists.specs.Lists.{any, filter, firstOr}
 use Rattle.lists.proofs.Bools.{test, T→≡, ≡eqb, neqb, lt-true}
-use Rattle.lists.proofs.Lists.{some-any, filter-mem, mem-filter, ascending-filter}
+use Rattle.lists.proofs.Lists.{some-any, filter-mem, mem-filter, mem-at, ascending-filter}
 use Rattle.masks.specs.Masks.{has}
 use Rattle.policy.specs.declared.Policy.{Policy}
 use Rattle.policy.specs.Policies.{targetOf}
 use Rattle.graph.specs.Cycles.{contains}
 use Rattle.graph.proofs.Cycles.{contains-inside}
-use Rattle.decomposition.specs.Forest.{Node, node, chain, childOf, inRoot}
+use Rattle.decomposition.specs.Forest.{Node, forest, chain, childOf, inRoot}
 use Rattle.decomposition.specs.Laws.{ForestLaws, maskAt, parentAt, rootAt}
 use Rattle.decomposition.proofs.Chains.{chain-self, chain-le, chain-lt}
-use Rattle.builder.specs.Automaton.{next, deepest, lead, kids, isLeaf, leaves, entered, firstLeafBelow, leafAfter}
-use Rattle.builder.specs.Stages.{endOf}
+use Rattle.builder.specs.Automaton.{Built, next, deepest, lead, kids, isLeaf, leaves, firstLeaf, entered, firstLeafBelow, leafAfter, built, stateAt, number}
+use Rattle.builder.specs.Stages.{endOf, firstOver}
+use Rattle.builder.specs.Rows.{LeafColumn, AscendsIn, LowerBound}
+use Rattle.builder.proofs.EdgeRuns.{Good}
 use Rattle.builder.proofs.Next.{first-le, next-above}
 use Rattle.builder.proofs.Branch.{chain-inside, child-above, child-lt, child-between, lead-is}
-use Rattle.builder.proofs.Leaves.{LeafUnder, Meets, kid, is-kid, kids-ascend, leaf-contains, leaf-childless, leaf-of, of-leaf, leaves-ascend, entered-next, entered-kid, inner-kid, after-at, after-in, leaf-under, first-below}
+use Rattle.builder.proofs.Leaves.{LeafUnder, Meets, kid, is-kid, kids-ascend, leaf-contains, leaf-childless, leaf-of, of-leaf, leaves-ascend, entered-next, entered-kid, inner-kid, after-at, after-in, leaf-under, first-below, first-good}
+use Rattle.builder.proofs.Tables.{Earlier, built-ordered, built-good, number-at}
 use Rattle.builder.proofs.Ends.{end-gt, end-le, under-end, end-under, end-mono, child-ends}
 
 -- y is the first of l from x on
@@ -201,3 +204,176 @@ module _ (p : Policy) (ns : List Node) (laws : ForestLaws p ns) where
           go : (isLeaf ns p w n ≡ true) ⊎ (isLeaf ns p w n ≡ false) → FirstFrom (leaves ns p w) n (leafAfter ns p e l)
           go (inl u) = itself u
           go (inr u) = first-kid u c (sym (entered-next ns p w n l (neqb l n off) ∙ next-first c (kids ns p w n) later))
+
+-- ---- runs of the table of built states
+-- a test that each entry passes where a later one does: those that pass are the first ones
+passing : (t : Built → Bool) (d : Built) (l : List Built) → ((i j : ℕ) → i < j → j < length l → t (getD l j d) ≡ true → t (getD l i d) ≡ true)
+    → (i : ℕ) → i < length l → (t (getD l i d) ≡ true) ↔ (i < length (filter t l))
+passing t d [] h i q = absurd (omega arith)
+passing t d (x ∷ l) h i q = go (test (t x)) (passing t d l (λ i j a b. h (suc i) (suc j) (omega arith) (omega arith))) i q
+  where
+    none : t x ≡ false → (ys : List Built) → filter t l ≡ ys → length ys ≡ 0
+    none u [] e = refl
+    none u (y ∷ ys) e =
+        let r = filter-mem t l y (subst (List·Memᴰ y) (sym e) (List·Memᴰ·head refl)) in
+        let k = mem-at l d y (r .0) in
+        absurd (true≢false (sym (h 0 (suc (k .0)) (omega arith) (omega (arith, k .1)) (ap t (k .2) ∙ r .1)) ∙ u))
+
+    go : (t x ≡ true) ⊎ (t x ≡ false) → ((i : ℕ) → i < length l → (t (getD l i d) ≡ true) ↔ (i < length (filter t l))) → (i : ℕ) → i < length (x ∷ l) → (t (getD (x ∷ l) i d) ≡ true) ↔ (i < length (filter t (x ∷ l)))
+    go (inl u) ih zero q = rw u (λ z. omega arith, λ z. refl)
+    go (inl u) ih (suc i) q = rw u (λ z. omega (arith, ih i (omega arith) .0 z), λ z. ih i (omega arith) .1 (omega arith))
+    go (inr u) ih zero q = rw u (λ z. absurd (true≢false (sym z)), λ z. absurd (omega (arith, none u (filter t l) refl)))
+    go (inr u) ih (suc i) q = rw u (λ z. absurd (true≢false (sym (h 0 (suc i) (omega arith) q z) ∙ u)), λ z. absurd (omega (arith, none u (filter t l) refl)))
+
+filter-le : (t : Built → Bool) (l : List Built) → length (filter t l) ≤ length l
+filter-le t [] = omega arith
+filter-le t (x ∷ l) = go (t x) (filter-le t l)
+  where
+    go : (b : Bool) → length (filter t l) ≤ length l → length (cond b (x ∷ filter t l) (filter t l)) ≤ length (x ∷ l)
+    go true ih = omega arith
+    go false ih = omega arith
+
+module _ (p : Policy) where
+  state-lt : (v s : ℕ) → s < length (built p) → (ltb (stateAt p s .state) v ≡ true) ↔ (s < firstOver p v)
+  unfolding stateAt firstOver
+  state-lt v s h = passing (λ (b : Built). ltb (b .state) v) (record { state = 0; leaf = 0 }) (built p) (λ i j a b u. T→≡ (ltb (stateAt p i .state) v) (lt→ltb (stateAt p i .state) v (mono i j (lt-true (stateAt p j .state) v u) (built-ordered p i j a b)))) s h
+    where
+      mono : (i j : ℕ) → stateAt p j .state < v → Earlier (stateAt p i) (stateAt p j) → stateAt p i .state < v
+      mono i j q (inl r) = omega arith
+      mono i j q (inr r) = omega (arith, r .0)
+
+  -- the states over policy states below v are the first ones
+  pub over-below : (v s : ℕ) → s < length (built p) → s < firstOver p v → stateAt p s .state < v
+  over-below v s h q = lt-true (stateAt p s .state) v (state-lt v s h .1 q)
+
+  pub below-over : (v s : ℕ) → s < length (built p) → stateAt p s .state < v → s < firstOver p v
+  below-over v s h q = state-lt v s h .0 (T→≡ (ltb (stateAt p s .state) v) (lt→ltb (stateAt p s .state) v q))
+
+  pub over-le : (v : ℕ) → firstOver p v ≤ length (built p)
+  unfolding firstOver
+  over-le v = filter-le (λ (b : Built). ltb (b .state) v) (built p)
+
+  pub over-mono : (v : ℕ) → firstOver p v ≤ firstOver p (v + 1)
+  over-mono v = go (decLt (firstOver p (v + 1)) (firstOver p v))
+    where
+      go : Dec (firstOver p (v + 1) < firstOver p v) → firstOver p v ≤ firstOver p (v + 1)
+      go (yes q) =
+          let h : firstOver p (v + 1) < length (built p) = omega (arith, over-le v) in
+          absurd (omega (arith, below-over (v + 1) (firstOver p (v + 1)) h (omega (arith, over-below v (firstOver p (v + 1)) h q))))
+      go (no q) = omega arith
+
+  -- the states over v are those from the first over v up to the first over v + 1
+  pub in-run : (v s : ℕ) → firstOver p v ≤ s → s < firstOver p (v + 1) → (s < length (built p)) × (stateAt p s .state ≡ v)
+  in-run v s a b =
+      let h : s < length (built p) = omega (arith, over-le (v + 1)) in
+      (h, go (over-below (v + 1) s h b) (decLt (stateAt p s .state) v))
+    where
+      go : stateAt p s .state < v + 1 → Dec (stateAt p s .state < v) → stateAt p s .state ≡ v
+      go q (yes r) = absurd (omega (arith, below-over v s (omega (arith, over-le (v + 1))) r))
+      go q (no r) = omega arith
+
+  pub run-has : (v s : ℕ) → s < length (built p) → stateAt p s .state ≡ v → (firstOver p v ≤ s) × (s < firstOver p (v + 1))
+  run-has v s h e = (go (decLt s (firstOver p v)), below-over (v + 1) s h (omega (arith, e)))
+    where
+      go : Dec (s < firstOver p v) → firstOver p v ≤ s
+      go (yes q) = absurd (omega (arith, over-below v s h q, e))
+      go (no q) = omega arith
+
+  -- in a run leaves ascend
+  run-ascends : (v i j : ℕ) → firstOver p v ≤ i → i < j → j < firstOver p (v + 1) → stateAt p i .leaf < stateAt p j .leaf
+  run-ascends v i j a b c = go (built-ordered p i j b (in-run v j (omega arith) c .0)) (in-run v i a (omega arith) .1) (in-run v j (omega arith) c .1)
+    where
+      go : Earlier (stateAt p i) (stateAt p j) → stateAt p i .state ≡ v → stateAt p j .state ≡ v → stateAt p i .leaf < stateAt p j .leaf
+      go (inl q) x y = absurd (omega arith)
+      go (inr q) x y = q .1
+
+  pub leaves-ascend-in : (ls : List ℕ) → LeafColumn p ls → (v : ℕ) → AscendsIn ls (firstOver p v) (firstOver p (v + 1))
+  leaves-ascend-in ls col v i j a b c =
+      omega (arith, run-ascends v i j a b c, col .are i (in-run v i a (omega arith) .0), col .are j (in-run v j (omega arith) c .0))
+
+  module _ (laws : ForestLaws p (forest p)) (ls : List ℕ) (col : LeafColumn p ls) (w : ℕ) (hw : w < p .states) where
+    -- where w has a leaf, each state over w has one
+    pub over-leaf : (z : ℕ) → List·Memᴰ z (leaves (forest p) p w) → (s : ℕ) → firstOver p w ≤ s → s < firstOver p (w + 1) → List·Memᴰ (getD ls s 0) (leaves (forest p) p w)
+    over-leaf z m s a b =
+        let r = in-run w s a b in
+        subst (λ (x : ℕ). List·Memᴰ x (leaves (forest p) p w)) (sym (col .are s (r .0))) (go (subst (λ (v : ℕ). Good (forest p) p v (stateAt p s .leaf)) (r .1) (built-good p laws s (r .0) .1)))
+      where
+        go : Good (forest p) p w (stateAt p s .leaf) → List·Memᴰ (stateAt p s .leaf) (leaves (forest p) p w)
+        go (inl g) = of-leaf (forest p) p w (stateAt p s .leaf) (g .0) (g .1)
+        go (inr g) = let y = leaf-of (forest p) p w z m in absurd (true≢false (sym (leaf-contains (forest p) p w z (y .1)) ∙ g .1 z (y .0)))
+
+    -- the place of a leaf
+    record Placed (z s : ℕ) : Type 0 where
+      from : firstOver p w ≤ s
+      to : s < firstOver p (w + 1)
+      is : getD ls s 0 ≡ z
+
+    placed : (z : ℕ) → Good (forest p) p w z → Placed z (number p w z)
+    placed z g =
+        let r = number-at p laws w z hw g in
+        let q = run-has w (number p w z) (r .0) (r .1) in
+        record { from = q .0; to = q .1; is = col .are (number p w z) (r .0) ∙ r .2 }
+
+    -- the first leaf from x on stands at the lower bound of x
+    pub bound-number : (x y r : ℕ) → FirstFrom (leaves (forest p) p w) x y → LowerBound ls (firstOver p w) (firstOver p (w + 1)) x r → number p w y ≡ r
+    bound-number x y r f b = go (decLt r k) (decLt k r)
+      where
+        k : ℕ
+        k = number p w y
+
+        at : Placed y k
+        at = placed y (inl (leaf-of (forest p) p w y (f .member)))
+
+        go : Dec (r < k) → Dec (k < r) → k ≡ r
+        go (yes q) d =
+            let a : r < firstOver p (w + 1) = omega (arith, at .to) in
+            absurd (omega (arith, at .is, leaves-ascend-in ls col w r k (b .low) q (at .to), f .first (getD ls r 0) (over-leaf y (f .member) r (b .low) a) (b .after r (omega arith) a)))
+        go (no q) (yes d) = absurd (omega (arith, at .is, f .from, b .before k (at .from) d))
+        go (no q) (no d) = omega arith
+
+    -- no leaf from x up to e, where the one at the lower bound of x is no such leaf
+    pub bound-none : (x e r : ℕ) → LowerBound ls (firstOver p w) (firstOver p (w + 1)) x r → (r < firstOver p (w + 1) → getD ls r 0 < e → ⊥)
+        → (z : ℕ) → List·Memᴰ z (leaves (forest p) p w) → x ≤ z → z < e → ⊥
+    bound-none x e r b no-leaf z m i j = go (decLt k r) (decLt r k)
+      where
+        k : ℕ
+        k = number p w z
+
+        at : Placed z k
+        at = placed z (inl (leaf-of (forest p) p w z m))
+
+        go : Dec (k < r) → Dec (r < k) → ⊥
+        go (yes q) d = omega (arith, at .is, b .before k (at .from) q)
+        go (no q) (yes d) = no-leaf (omega (arith, at .to)) (omega (arith, at .is, leaves-ascend-in ls col w r k (b .low) d (at .to)))
+        go (no q) (no d) = let e : r ≡ k = omega arith in no-leaf (omega (arith, at .to)) (omega (arith, at .is, ap (λ (s : ℕ). getD ls s 0) e))
+
+    -- no leaf of w comes before its first
+    first-least : (z : ℕ) → Good (forest p) p w z → firstLeaf (forest p) p w ≤ z
+    unfolding firstLeaf
+    first-least z (inl g) = first-le 65535 (leaves (forest p) p w) (leaves-ascend (forest p) p w) z (of-leaf (forest p) p w z (g .0) (g .1))
+    first-least z (inr g) = omega (arith, g .0, no-leaf (leaves (forest p) p w) refl)
+      where
+        no-leaf : (l : List ℕ) → leaves (forest p) p w ≡ l → firstOr 65535 l ≤ 65535
+        no-leaf [] e = le-refl 65535
+        no-leaf (x ∷ l) e =
+            let y = leaf-of (forest p) p w x (subst (List·Memᴰ x) (sym e) (List·Memᴰ·head refl)) in
+            absurd (true≢false (sym (leaf-contains (forest p) p w x (y .1)) ∙ g .1 x (y .0)))
+
+    -- the first state over w has its first leaf
+    pub first-number : number p w (firstLeaf (forest p) p w) ≡ firstOver p w
+    first-number = go (decLt r k)
+      where
+        r : ℕ
+        r = firstOver p w
+
+        k : ℕ
+        k = number p w (firstLeaf (forest p) p w)
+
+        at : Placed (firstLeaf (forest p) p w) k
+        at = placed (firstLeaf (forest p) p w) (first-good p (forest p) laws w)
+
+        go : Dec (r < k) → k ≡ r
+        go (yes q) =
+            let o = in-run w r (le-refl r) (omega (arith, at .to)) in
+            absurd (omega (arith, at .is, col .are r (o .0), leaves-ascend-in ls col w r k (le-refl r) q (at .to), first-least (stateAt p r .leaf) (subst (λ (v : ℕ). Good (forest p) p v (stateAt p r .leaf)) (o .1) (built-good p laws r (o .0) .1))))
+        go (no q) = omega (arith, at .from)

@@ -1,3 +1,4 @@
 pub mod Automaton
+pub mod Rows
 pub mod Stages
 pub mod Tables

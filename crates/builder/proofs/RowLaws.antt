@@ -1,0 +1,239 @@
+-- The laws that the functions of a row are proved by: the walk up from a leaf to the deepest node with an edge, the two searches, and the loop that
+-- raises ends. Over plain lists and numbers. Assumes nothing.
+use Prim.Native.Nat.{ℕ, zero, suc, _+_, _≤_, _<_}
+use native.Mathlib.Omega.{arith}
+use native.Mathlib.Nat.{le-refl}
+use native.Mathlib.Decide.{ℕ-discrete}
+use mathlib.Core.Path.{_≡_, refl, sym, ap, _∙_, subst}
+use mathlib.Core.Logic.{_⊎_, inl, inr, _≢_}
+use mathlib.Core.Bool.{Bool, true, false, cond, true≢false, false≢true}
+use mathlib.Core.List.{List, [], _∷_, List·Memᴰ, Memᴰ·cast}
+use lib.Dec.{eqb, ltb}
+use lib.ListN.{length, getD, set, length-set}
+use Rattle.lists.specs.Lists.{filter, firstOr}
+use Rattle.lists.proofs.Lists.{filter-mem}
+use Rattle.lists.proofs.Bools.{test, eqb≡, ≡eqb, neqb, lt-true, lt-false}
+use Rattle.masks.specs.Masks.{has}
+use Rattle.masks.proofs.Bits.{inside-all}
+use Rattle.policy.specs.declared.Policy.{Policy}
+use Rattle.policy.specs.Policies.{edges, edgeOf, source, targetOf, legal}
+use Rattle.policy.proofs.Laws.{legal-target, source-edge, edge-lt}
+use Rattle.graph.proofs.Cycles.{some-contains}
+use Rattle.decomposition.specs.Forest.{Node, forest, priority, transientPriority, node, chain, childOf, inRoot}
+use Rattle.decomposition.specs.Laws.{ForestLaws, maskAt, parentAt, rootAt}
+use Rattle.decomposition.proofs.Chains.{chain-self, chain-le, chain-lt, chain-parent, chain-trans, chain-linear, chain-top}
+use Rattle.decomposition.proofs.Forest.{forest-laws}
+use Rattle.builder.specs.Automaton.{orElse, deepest, lead, isLeaf, leaves, firstLeaf, leafAfter, priorityAfter, built, stateAt, number, rowTarget, rowPriority}
+use Rattle.builder.specs.Stages.{endOf, firstOver}
+use Rattle.builder.specs.Rows.{ParentColumn, LeafColumn, LowerBound, Met, raisedTo}
+use Rattle.builder.proofs.EdgeRuns.{Good}
+use Rattle.builder.proofs.Next.{first-cases}
+use Rattle.builder.proofs.Branch.{of-child, chain-inside, child-above, child-lt, child-between, lead-is, deepest-mem, deepest-under, deepest-at}
+use Rattle.builder.proofs.Leaves.{LeafUnder, Meets, of-leaf, leaf-under, leaves-good, meets, root-with, with-root, after-out}
+use Rattle.builder.proofs.Tables.{built-good}
+use Rattle.builder.proofs.Ends.{Raised, raised-root, raised-kept, raised-more, root-parent}
+use Rattle.builder.proofs.Search.{FirstFrom, leaf-after-self, leaf-after-next, leaf-after-first, bound-number, bound-none, over-leaf, first-number}
+
+-- ---- whether a child leads to a leaf
+module _ (p : Policy) (ns : List Node) (laws : ForestLaws p ns) where
+  open ForestLaws laws using (parent-lt, level-up)
+
+  lead-self : (l : ℕ) → l < length ns → lead ns l l ≡ l
+  unfolding lead
+  lead-self l h = go (first-cases l (filter (childOf ns l) (chain ns l)))
+    where
+      x : ℕ
+      x = firstOr l (filter (childOf ns l) (chain ns l))
+
+      go : (filter (childOf ns l) (chain ns l) ≡ []) ⊎ List·Memᴰ x (filter (childOf ns l) (chain ns l)) → x ≡ l
+      go (inl q) = ap (firstOr l) q
+      go (inr m) =
+          let r = filter-mem (childOf ns l) (chain ns l) x m in
+          let a = chain-le ns parent-lt level-up l x h (r .0) in
+          absurd (omega (arith, a, child-lt p ns laws l x (omega (arith, a)) (r .1)))
+
+  lead-off : (n l : ℕ) → l < length ns → List·Memᴰ n (chain ns l) → l ≢ n → n < lead ns n l
+  lead-off n l h m off = go (child-between p ns laws n l h m)
+    where
+      go : (n ≡ l) ⊎ ((d : ℕ) × (childOf ns n d ≡ true) × List·Memᴰ d (chain ns l)) → n < lead ns n l
+      go (inl q) = absurd (off (sym q))
+      go (inr s) = omega (arith, lead-is p ns laws n (s .0) l h (s .1) (s .2), child-lt p ns laws n (s .0) (chain-lt ns parent-lt level-up l (s .0) h (s .2)) (s .1))
+
+-- ---- the walk up from a leaf
+-- what is left of the walk at n: 0 past the root
+abbrev pub left : ℕ → ℕ
+left n = cond (eqb n 65535) 0 (n + 1)
+
+module _ (p : Policy) where
+  -- at node n, where c is the child of n that leads to l, and l itself where l is n; no node passed has e. Or past the root, and no root has e
+  abbrev pub Climbing : ℕ → ℕ → ℕ → ℕ → Type 0
+  Climbing e l n c =
+      ((n ≡ 65535) × (inRoot (forest p) e ≡ false))
+      ⊎ ((n < length (forest p)) × (l < length (forest p)) × List·Memᴰ n (chain (forest p) l)
+      × (((n ≡ l) × (c ≡ l)) ⊎ ((childOf (forest p) n c ≡ true) × List·Memᴰ c (chain (forest p) l) × (has (maskAt (forest p) c) e ≡ false))))
+
+  module _ (ok : legal p ≡ true) (few : length (forest p) ≤ 65535) (e : ℕ) (he : e < edges p) (l : ℕ) (good : Good (forest p) p (source p e) l) where
+    abbrev ns : List Node
+    ns = forest p
+
+    laws : ForestLaws p (forest p)
+    laws = forest-laws p ok
+
+    no-root : ((n : ℕ) → n < length ns → rootAt ns n ≡ true → has (maskAt ns n) e ≡ true → ⊥) → inRoot ns e ≡ false
+    no-root h = go (test (inRoot ns e))
+      where
+        go : (inRoot ns e ≡ true) ⊎ (inRoot ns e ≡ false) → inRoot ns e ≡ false
+        go (inl t) = let r = root-with ns p e t in absurd (h (r .0) (r .1) (r .2) (r .3))
+        go (inr f) = f
+
+    pub climb-start : Climbing e l l l
+    climb-start = go good
+      where
+        go : Good ns p (source p e) l → Climbing e l l l
+        go (inl g) = inr (g .0, g .0, chain-self ns l, inl (refl, refl))
+        go (inr g) = inl (g .0, no-root (λ n h t u. true≢false (sym (some-contains p (source p e) (maskAt ns n) e he u refl) ∙ g .1 n h)))
+
+    -- a number that is a node's
+    pub climb-in : (n c : ℕ) → Climbing e l n c → n ≢ 65535 → n < length (forest p)
+    climb-in n c (inl k) h = absurd (h (k .0))
+    climb-in n c (inr k) h = k .0
+
+    -- from a node without e to its parent
+    pub climb-up : (n c : ℕ) → Climbing e l n c → n ≢ 65535 → has (maskAt (forest p) n) e ≡ false → Climbing e l (parentAt (forest p) n) n
+    climb-up n c (inl k) h f = absurd (h (k .0))
+    climb-up n c (inr k) h f = go (test (rootAt ns n))
+      where
+        past : rootAt ns n ≡ true → (inRoot ns e ≡ true) ⊎ (inRoot ns e ≡ false) → inRoot ns e ≡ false
+        past t (inl i) =
+            let g = meets p ns laws e l he i good in
+            let u = chain-linear ns (laws .parent-lt) (laws .level-up) l n (deepest ns e l) (k .1) (k .2) (g .node-above) (omega (arith, eqb≡ (node ns n .level) 0 t)) in
+            absurd (true≢false (sym (inside-all (maskAt ns (deepest ns e l)) (maskAt ns n) (chain-inside p ns laws n (deepest ns e l) (g .node-range) u) e (g .node-has)) ∙ f))
+        past t (inr i) = i
+
+        go : (rootAt ns n ≡ true) ⊎ (rootAt ns n ≡ false) → Climbing e l (parentAt ns n) n
+        go (inl t) = inl (root-parent p n (k .0) t, past t (test (inRoot ns e)))
+        go (inr t) =
+            inr (omega (arith, laws .parent-lt n (k .0) t, k .0), k .1, chain-trans ns (laws .parent-lt) (laws .level-up) l n (parentAt ns n) (k .1) (k .2) (chain-parent ns (laws .parent-lt) (laws .level-up) n (k .0) t),
+            inr (of-child ns (parentAt ns n) n t refl, k .2, f))
+
+    -- the walk ends: its measure
+    pub climb-less : (n c : ℕ) → Climbing e l n c → n ≢ 65535 → left (parentAt (forest p) n) < left n
+    climb-less n c k h = rw (neqb n 65535 h) (go (test (rootAt ns n)))
+      where
+        i : n < length ns
+        i = climb-in n c k h
+
+        go : (rootAt ns n ≡ true) ⊎ (rootAt ns n ≡ false) → left (parentAt ns n) < n + 1
+        go (inl t) = rw (≡eqb (parentAt ns n) 65535 (root-parent p n i t)) (omega arith)
+        go (inr t) = let q = laws .parent-lt n i t in rw (neqb (parentAt ns n) 65535 (λ z. omega (arith, z, i, few))) (omega arith)
+
+    -- a node with e: it is the deepest one
+    pub climb-met : (n c : ℕ) → Climbing e l n c → n ≢ 65535 → has (maskAt (forest p) n) e ≡ true → Met p e l true n c (priority p (node (forest p) n))
+    unfolding priorityAfter
+    climb-met n c (inl k) h t = absurd (h (k .0))
+    climb-met n c (inr k) h t = record {
+      in-root = sym rooted;
+      node-is = λ _. sym (is (k .3));
+      child-is = λ _. sym (ap (λ (x : ℕ). lead ns x l) (is (k .3)) ∙ leads (k .3));
+      priority-is = rw rooted (ap (λ (x : ℕ). priority p (node ns x)) (sym (is (k .3))));
+    }
+      where
+        rooted : inRoot ns e ≡ true
+        rooted =
+            let r = chain-top ns (laws .parent-lt) (laws .level-up) n (k .0) in
+            with-root ns p e (r .0) (chain-lt ns (laws .parent-lt) (laws .level-up) n (r .0) (k .0) (r .1)) (r .2) (inside-all (maskAt ns n) (maskAt ns (r .0)) (chain-inside p ns laws (r .0) n (k .0) (r .1)) e t)
+
+        is : ((n ≡ l) × (c ≡ l)) ⊎ ((childOf ns n c ≡ true) × List·Memᴰ c (chain ns l) × (has (maskAt ns c) e ≡ false)) → deepest ns e l ≡ n
+        is (inl q) =
+            let u = deepest-under p ns laws e n l (k .1) t (k .2) in
+            let d = deepest-mem p ns laws e l in
+            let i = chain-le ns (laws .parent-lt) (laws .level-up) l (deepest ns e l) (k .1) d in
+            omega (arith, q .0, i, chain-le ns (laws .parent-lt) (laws .level-up) (deepest ns e l) n (omega (arith, i, k .1)) u)
+        is (inr q) = deepest-at p ns laws e n c l (k .1) (q .0) (q .1) (q .2) t
+
+        leads : ((n ≡ l) × (c ≡ l)) ⊎ ((childOf ns n c ≡ true) × List·Memᴰ c (chain ns l) × (has (maskAt ns c) e ≡ false)) → lead ns n l ≡ c
+        leads (inl q) = ap (λ (x : ℕ). lead ns x l) (q .0) ∙ lead-self p ns laws l (k .1) ∙ sym (q .1)
+        leads (inr q) = lead-is p ns laws n c l (k .1) (q .0) (q .1)
+
+    -- past the root
+    pub climb-none : (n c at child : ℕ) → Climbing e l n c → n ≡ 65535 → Met p e l false at child 0
+    unfolding priorityAfter transientPriority
+    climb-none n c at child (inl k) h = record {
+      in-root = sym (k .1);
+      node-is = λ z. absurd (false≢true z);
+      child-is = λ z. absurd (false≢true z);
+      priority-is = rw (k .1) refl;
+    }
+    climb-none n c at child (inr k) h = absurd (omega (arith, k .0))
+
+-- ---- the searches
+module _ (p : Policy) (ok : legal p ≡ true) (ls : List ℕ) (col : LeafColumn p ls) (e : ℕ) (he : e < edges p) (l : ℕ) (good : Good (forest p) p (source p e) l)
+    (met : Bool) (at child priority : ℕ) (m : Met p e l met at child priority) where
+  abbrev w : ℕ
+  w = targetOf p e
+
+  hw : w < p .states
+  hw = legal-target p ok e he
+
+  -- no root has e: the first state over the target
+  pub target-out : met ≡ false → number p (targetOf p e) (leafAfter (forest p) p e l) ≡ firstOver p (targetOf p e)
+  target-out f = ap (number p w) (after-out (forest p) p e l (sym (m .in-root) ∙ f)) ∙ first-number p (forest-laws p ok) ls col w hw
+
+  module _ (t : met ≡ true) where
+    rooted : inRoot (forest p) e ≡ true
+    rooted = sym (m .in-root) ∙ t
+
+    g : Meets (forest p) p e l
+    g = meets p (forest p) (forest-laws p ok) e l he rooted good
+
+    n≡ : at ≡ deepest (forest p) e l
+    n≡ = m .node-is t
+
+    c≡ : child ≡ lead (forest p) (deepest (forest p) e l) l
+    c≡ = m .child-is t
+
+    -- the leaf is the node met exactly if no child leads to it
+    self : child ≡ at → l ≡ deepest (forest p) e l
+    self q = go (ℕ-discrete l (deepest (forest p) e l))
+      where
+        go : Dec (l ≡ deepest (forest p) e l) → l ≡ deepest (forest p) e l
+        go (yes z) = z
+        go (no z) = absurd (omega (arith, q, n≡, c≡, lead-off p (forest p) (forest-laws p ok) (deepest (forest p) e l) l (g .leaf-range) (g .node-above) z))
+
+    off : child ≢ at → l ≢ deepest (forest p) e l
+    off q z = q (c≡ ∙ ap (λ (x : ℕ). lead (forest p) x l) (sym z) ∙ lead-self p (forest p) (forest-laws p ok) l (g .leaf-range) ∙ z ∙ sym n≡)
+
+    -- the state found is the one where the first leaf from x on stands
+    at-bound : (x r : ℕ) → FirstFrom (leaves (forest p) p w) x (leafAfter (forest p) p e l) → LowerBound ls (firstOver p w) (firstOver p (w + 1)) x r
+        → number p w (leafAfter (forest p) p e l) ≡ r
+    at-bound x r f b = bound-number p (forest-laws p ok) ls col w hw x (leafAfter (forest p) p e l) r f b
+
+    -- the leaf is the node met
+    pub target-at : (r : ℕ) → child ≡ at → LowerBound ls (firstOver p (targetOf p e)) (firstOver p (targetOf p e + 1)) at r
+        → number p (targetOf p e) (leafAfter (forest p) p e l) ≡ r
+    target-at r q b = at-bound at r (subst (λ (x : ℕ). FirstFrom (leaves (forest p) p w) x (leafAfter (forest p) p e l)) (sym n≡) (leaf-after-self p (forest p) (forest-laws p ok) e l rooted g (self q))) b
+
+    -- the target has a leaf
+    some : (z : ℕ) × List·Memᴰ z (leaves (forest p) p w)
+    some =
+        let y = leaf-under p (forest p) (forest-laws p ok) w (deepest (forest p) e l) (g .node-range) (g .node-target) in
+        (y .0, of-leaf (forest p) p w (y .0) (y .1 .in-range) (y .1 .is-leaf))
+
+    -- a state over the target below a child after the one that leads to l
+    pub target-next : (r : ℕ) → child ≢ at → LowerBound ls (firstOver p (targetOf p e)) (firstOver p (targetOf p e + 1)) (endOf (forest p) child) r
+        → r < firstOver p (targetOf p e + 1) → getD ls r 0 < endOf (forest p) at → number p (targetOf p e) (leafAfter (forest p) p e l) ≡ r
+    target-next r q b i j =
+        at-bound (endOf (forest p) child) r
+        (subst (λ (x : ℕ). FirstFrom (leaves (forest p) p w) (endOf (forest p) x) (leafAfter (forest p) p e l)) (sym c≡)
+        (leaf-after-next p (forest p) (forest-laws p ok) e l rooted g (off q) (getD ls r 0) (over-leaf p (forest-laws p ok) ls col w hw (some .0) (some .1) r (b .low) i)
+        (subst (λ (x : ℕ). endOf (forest p) x ≤ getD ls r 0) c≡ (b .after r (le-refl r) i)) (subst (λ (x : ℕ). getD ls r 0 < endOf (forest p) x) n≡ j))) b
+
+    -- no such state
+    pub target-first : (r₀ r : ℕ) → child ≢ at → LowerBound ls (firstOver p (targetOf p e)) (firstOver p (targetOf p e + 1)) (endOf (forest p) child) r₀
+        → (r₀ < firstOver p (targetOf p e + 1) → getD ls r₀ 0 < endOf (forest p) at → ⊥) → LowerBound ls (firstOver p (targetOf p e)) (firstOver p (targetOf p e + 1)) at r
+        → number p (targetOf p e) (leafAfter (forest p) p e l) ≡ r
+    target-first r₀ r q b₀ no-leaf b =
+        at-bound at r
+        (subst (λ (x : ℕ). FirstFrom (leaves (forest p) p w) x (leafAfter (forest p) p e l)) (sym n≡)
+        (leaf-after-first p (forest p) (forest-laws p ok) e l rooted g (off q)
+        (λ z k i j. bound-none p (forest-laws p ok) ls col w hw (endOf (forest p) child) (endOf (forest p) at) r₀ b₀ no-leaf z k (subst (λ (x : ℕ). endOf (forest p) x ≤ z) (sym c≡) i) (subst (λ (x : ℕ). z < endOf (forest p) x) (sym n≡) j)))) b

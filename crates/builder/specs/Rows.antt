@@ -1,0 +1,45 @@
+-- What the functions that fill in a row hand to one another: columns of the tables, a lower bound in a run of a column, where an edge meets the branch of a
+-- leaf.
+use Prim.Native.Nat.{ℕ, _≤_, _<_}
+use mathlib.Core.Path.{_≡_}
+use mathlib.Core.Bool.{Bool, true, cond}
+use mathlib.Core.List.{List}
+use lib.Dec.{ltb}
+use lib.ListN.{length, getD, set}
+use Rattle.policy.specs.declared.Policy.{Policy}
+use Rattle.decomposition.specs.Forest.{forest, node, inRoot}
+use Rattle.builder.specs.Automaton.{built, stateAt, deepest, lead, priorityAfter}
+
+-- a table that begins with the parents of the nodes
+pub record ParentColumn (p : Policy) (parents : List ℕ) : Type 0 where
+  pub few : length (forest p) ≤ 65535
+  pub long : length (forest p) ≤ length parents
+  pub are : (n : ℕ) → n < length (forest p) → getD parents n 0 ≡ node (forest p) n .parent
+
+-- a table that begins with the leaves of the built states
+pub record LeafColumn (p : Policy) (leaves : List ℕ) : Type 0 where
+  pub few : length (built p) ≤ 65535
+  pub long : length (built p) ≤ length leaves
+  pub are : (s : ℕ) → s < length (built p) → getD leaves s 0 ≡ stateAt p s .leaf
+
+-- the entries from `from` up to `to` ascend
+abbrev pub AscendsIn : List ℕ → ℕ → ℕ → Type 0
+AscendsIn l from to = (i j : ℕ) → from ≤ i → i < j → j < to → getD l i 0 < getD l j 0
+
+-- r is the first place from `from` up to `to` whose entry is x or more, and `to` where there is none
+pub record LowerBound (l : List ℕ) (from to x r : ℕ) : Type 0 where
+  pub low : from ≤ r
+  pub high : r ≤ to
+  pub before : (i : ℕ) → from ≤ i → i < r → getD l i 0 < x
+  pub after : (i : ℕ) → r ≤ i → i < to → x ≤ getD l i 0
+
+-- what stands at `up`, raised to what stands at n
+unfoldable pub raisedTo : List ℕ → ℕ → ℕ → List ℕ
+raisedTo l up n = cond (ltb (getD l up 0) (getD l n 0)) (set l up (getD l n 0)) l
+
+-- where e meets the branch of l: whether it does, the deepest node with e, the child of it that leads to l, the priority met
+pub record Met (p : Policy) (e l : ℕ) (met : Bool) (at child priority : ℕ) : Type 0 where
+  pub in-root : met ≡ inRoot (forest p) e
+  pub node-is : met ≡ true → at ≡ deepest (forest p) e l
+  pub child-is : met ≡ true → child ≡ lead (forest p) (deepest (forest p) e l) l
+  pub priority-is : priority ≡ priorityAfter (forest p) p e l
