@@ -25,7 +25,7 @@ use Rattle.decomposition.proofs.Chains.{chain-self, chain-le, chain-lt, chain-p
 use Rattle.decomposition.proofs.Forest.{forest-laws}
 use Rattle.builder.specs.Automaton.{orElse, deepest, lead, isLeaf, leaves, firstLeaf, leafAfter, priorityAfter, built, stateAt, number, rowTarget, rowPriority}
 use Rattle.builder.specs.Stages.{endOf, firstOver}
-use Rattle.builder.specs.Rows.{ParentColumn, LeafColumn, LowerBound, Met, raisedTo}
+use Rattle.builder.specs.Rows.{ParentColumn, LeafColumn, AscendsIn, LowerBound, Met, raisedTo}
 use Rattle.builder.proofs.EdgeRuns.{Good}
 use Rattle.builder.proofs.Next.{first-cases}
 use Rattle.builder.proofs.Branch.{of-child, chain-inside, child-above, child-lt, child-between, lead-is, deepest-mem, deepest-under, deepest-at}
@@ -237,3 +237,33 @@ module _ (p : Policy) (ok : legal p ≡ true) (ls : List ℕ) (col : LeafColumn 
         (subst (λ (x : ℕ). FirstFrom (leaves (forest p) p w) x (leafAfter (forest p) p e l)) (sym n≡)
         (leaf-after-first p (forest p) (forest-laws p ok) e l rooted g (off q)
         (λ z k i j. bound-none p (forest-laws p ok) ls col w hw (endOf (forest p) child) (endOf (forest p) at) r₀ b₀ no-leaf z k (subst (λ (x : ℕ). endOf (forest p) x ≤ z) (sym c≡) i) (subst (λ (x : ℕ). z < endOf (forest p) x) (sym n≡) j)))) b
+
+-- ---- binary search
+-- what is sought lies from low up to high
+pub record Narrowed (l : List ℕ) (from to x low high : ℕ) : Type 0 where
+  pub from-low : from ≤ low
+  pub low-high : low ≤ high
+  pub high-to : high ≤ to
+  pub before : (i : ℕ) → from ≤ i → i < low → getD l i 0 < x
+  pub after : (i : ℕ) → high ≤ i → i < to → x ≤ getD l i 0
+
+module _ (l : List ℕ) (from to x : ℕ) where
+  pub narrowed-start : from ≤ to → Narrowed l from to x from to
+  narrowed-start h = record { from-low = le-refl from; low-high = h; high-to = le-refl to; before = λ i a b. absurd (omega arith); after = λ i a b. absurd (omega arith) }
+
+  pub narrowed-up : (low high m : ℕ) → AscendsIn l from to → Narrowed l from to x low high → low ≤ m → m < high → getD l m 0 < x → Narrowed l from to x (m + 1) high
+  narrowed-up low high m s r a b q = record { from-low = omega (arith, r .from-low); low-high = omega arith; high-to = r .high-to; before = λ i j k. go i j (ℕ-discrete i m) k; after = r .after }
+    where
+      go : (i : ℕ) → from ≤ i → Dec (i ≡ m) → i < m + 1 → getD l i 0 < x
+      go i j (yes e) k = omega (arith, ap (λ (z : ℕ). getD l z 0) e)
+      go i j (no e) k = omega (arith, s i m j (omega arith) (omega (arith, r .high-to)))
+
+  pub narrowed-down : (low high m : ℕ) → AscendsIn l from to → Narrowed l from to x low high → low ≤ m → m < high → x ≤ getD l m 0 → Narrowed l from to x low m
+  narrowed-down low high m s r a b q = record { from-low = r .from-low; low-high = a; high-to = omega (arith, r .high-to); before = r .before; after = λ i j k. go i j k (ℕ-discrete i m) }
+    where
+      go : (i : ℕ) → m ≤ i → i < to → Dec (i ≡ m) → x ≤ getD l i 0
+      go i j k (yes e) = omega (arith, ap (λ (z : ℕ). getD l z 0) e)
+      go i j k (no e) = omega (arith, s m i (omega (arith, r .from-low)) (omega arith) k)
+
+  pub narrowed-done : (low high : ℕ) → Narrowed l from to x low high → high ≤ low → LowerBound l from to x low
+  narrowed-done low high r h = record { low = r .from-low; high = omega (arith, r .low-high, r .high-to); before = r .before; after = λ i a b. r .after i (omega arith) b }

@@ -1,1 +1,3 @@
 // The parity automaton built from the forest.
+
+pub mod rows;
