@@ -26,7 +26,8 @@ use Rattle.graph.proofs.Cycles.{Targets, some-nonzero, contains-some, contains-
 use Rattle.graph.proofs.Through.{through-cycle, through-largest, through-same}
 use Rattle.decomposition.specs.Forest.{Node, isRoot, node, differs, full, inOrder, largest, roots, children}
 use Rattle.decomposition.specs.Laws.{ForestLaws, maskAt, parentAt}
-use Rattle.decomposition.specs.Candidates.{lowestIs, candidateAt, candidatesOf, candidates, judged, rootAt, rootCandidates, childrenIn}
+use Rattle.decomposition.specs.Candidates.{lowestIs, candidateAt, candidatesOf, candidates, judged, rootAt, rootCandidates}
+use Rattle.decomposition.specs.Siblings.{childrenIn}
 use Rattle.decomposition.proofs.Order.{order-mem, mem-order}
 use Rattle.decomposition.proofs.Largest.{largest-order-mem, in-largest-order}
 use Rattle.decomposition.proofs.Distinct.{distinct-filter, distinct-below, distinct-flat, distinct-ordered, distinct-largest, length-below, flat-few}

@@ -4,15 +4,13 @@ use mathlib.Core.Bool.{Bool, not, _&&_, cond}
 use mathlib.Core.List.{List, [], _∷_, map}
 use lib.Dec.{eqb}
 use Rattle.lists.specs.Lists.{any, filter, flat, below}
-use Rattle.masks.specs.Masks.{properly}
 use Rattle.colour_sets.specs.Order.{setAt}
 use Rattle.policy.specs.declared.Policy.{Policy}
 use Rattle.policy.specs.Policies.{coloursOf, accepting}
 use Rattle.graph.specs.Cycles.{contains}
 use Rattle.graph.specs.Components.{coloured}
 use Rattle.graph.specs.Through.{cycleThrough}
-use Rattle.decomposition.specs.Forest.{differs, full, inOrder, largest}
-use Rattle.decomposition.specs.Next.{firstIn, afterIn}
+use Rattle.decomposition.specs.Forest.{differs, full}
 
 module _ (p : Policy) where
   -- x is a cycle whose lowest state is v, given that it is 0 or a cycle through v
@@ -40,11 +38,3 @@ module _ (p : Policy) where
 
   unfoldable pub rootCandidates : List ℕ
   rootCandidates = flat (map rootAt (below (p .states)))
-
--- the largest of l properly inside n, in sibling order
-unfoldable pub childrenIn : List ℕ → ℕ → List ℕ
-childrenIn l n = inOrder (largest (filter (λ m. properly m n) l))
-
--- the first of some siblings where a is 0, else the first that stands after a
-unfoldable pub nextIn : ℕ → List ℕ → ℕ
-nextIn a l = let r = afterIn a l in cond (eqb a 0) (firstIn l) r
