@@ -11,3 +11,4 @@ pub mod Numbered
 pub mod Forest
 pub mod Following
 pub mod Siblings
+pub mod NodeLaws

@@ -3,3 +3,4 @@ pub mod Laws
 pub mod Next
 pub mod Candidates
 pub mod Siblings
+pub mod NodeTables
