@@ -12,3 +12,4 @@ pub mod Forest
 pub mod Following
 pub mod Siblings
 pub mod NodeLaws
+pub mod CandidateLaws

@@ -4,3 +4,4 @@ pub mod Next
 pub mod Candidates
 pub mod Siblings
 pub mod NodeTables
+pub mod Listed

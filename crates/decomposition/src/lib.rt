@@ -7,6 +7,8 @@ ghost use Rattle.lists.specs.Lists.{Distinct};
 ghost use Rattle.decomposition.specs.Forest.{before, inOrder};
 ghost use Rattle.decomposition.specs.Siblings.{around, isLargest, standsAfter, better, rootBetter, childBetter, childrenIn, nextIn};
 
+pub mod listing;
+
 // ---- siblings, found in a list of masks; 0 stands for none
 
 // Whether a stands before b among siblings.
