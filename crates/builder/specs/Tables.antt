@@ -1,14 +1,17 @@
 -- What translating answers, and what each place of the seven tables holds at exit, in every case (document 01, "The built automaton" and the questions of
 -- translating).
-use Prim.Native.Nat.{ℕ, _-_, _*_, min}
-use mathlib.Core.Bool.{Bool, true, false, _&&_, cond}
-use mathlib.Core.List.{List, [], _∷_, _++_, map}
+use Prim.Native.Nat.{ℕ, _*_, min}
+use mathlib.Core.Bool.{Bool, _&&_, cond}
+use mathlib.Core.List.{List, map}
 use lib.Dec.{eqb, leb}
-use lib.ListN.{length, replicate}
+use lib.ListN.{length}
+use Rattle.tables.specs.Tables.{padded, zeros}
 use Rattle.policy.specs.declared.Policy.{Policy}
 use Rattle.policy.specs.Policies.{legal}
 use Rattle.decomposition.specs.Forest.{Node, forest, priority}
 use Rattle.builder.specs.Automaton.{Built, built, start, rowTargets, rowPriorities}
+use Rattle.builder.specs.declared.Translation.{Translation}
+use Rattle.builder.specs.declared.Translation.the-variants.{Translated, Refused}
 
 -- the seven tables: mask, parent and priority of each node; policy state and leaf of each built state; target and priority of each row
 pub record Tables : Type 0 where
@@ -19,14 +22,6 @@ pub record Tables : Type 0 where
   pub leaves : List ℕ
   pub targets : List ℕ
   pub priorities : List ℕ
-
--- l, and 0 in every place past it
-unfoldable pub padded : ℕ → List ℕ → List ℕ
-padded n l = l ++ replicate (n - length l) 0
-
--- 0 in every place
-unfoldable pub zeros : List ℕ → List ℕ
-zeros t = replicate (length t) 0
 
 -- only the first 65,535 places of a table count
 unfoldable pub places : List ℕ → ℕ
@@ -86,3 +81,35 @@ module _ (p : Policy) where
       targets = zeros (t .targets);
       priorities = zeros (t .priorities);
     }
+
+    -- ---- translating: 7, 8, 9, 10 in order; then both counts and the start
+    unfoldable pub translationOf : Translation
+    translationOf =
+        let done = Translated (length (forest p)) (length (built p)) (start p) in
+        let sized = cond nodesFit (cond statesFit done (Refused 10)) (Refused 9) in
+        cond (legal p) (cond lengthsFit sized (Refused 8)) (Refused 7)
+
+    -- the result and 0 past it; unchanged after 7 and 8; all 0 after 9 and 10
+    unfoldable pub tablesAfter : Tables
+    tablesAfter = let sized = cond (nodesFit && statesFit) filled cleared in cond (legal p && lengthsFit) sized t
+
+-- what each of seven lists is, table by table
+pub record Hold (t : Tables) (masks parents ranks sources leaves targets priorities : List ℕ) : Type 0 where
+  pub masks-are : masks ≡ t .masks
+  pub parents-are : parents ≡ t .parents
+  pub ranks-are : ranks ≡ t .ranks
+  pub sources-are : sources ≡ t .sources
+  pub leaves-are : leaves ≡ t .leaves
+  pub targets-are : targets ≡ t .targets
+  pub priorities-are : priorities ≡ t .priorities
+
+abbrev pub tables : List ℕ → List ℕ → List ℕ → List ℕ → List ℕ → List ℕ → List ℕ → Tables
+tables masks parents ranks sources leaves targets priorities = record {
+  masks = masks;
+  parents = parents;
+  ranks = ranks;
+  sources = sources;
+  leaves = leaves;
+  targets = targets;
+  priorities = priorities;
+}

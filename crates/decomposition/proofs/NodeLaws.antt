@@ -32,10 +32,6 @@ next-after : (a : ℕ) (l : List ℕ) → a ≢ 0 → nextIn a l ≡ afterIn a l
 unfolding nextIn
 next-after a l n = rw (neqb a 0 n) refl
 
-same-children : (l : List ℕ) (n : ℕ) → Rattle.decomposition.specs.Candidates.childrenIn l n ≡ childrenIn l n
-unfolding Rattle.decomposition.specs.Candidates.childrenIn childrenIn
-same-children l n = refl
-
 not-not : (b : Bool) → not (not b) ≡ b
 not-not true = refl
 not-not false = refl
@@ -125,7 +121,7 @@ module _ (p : Policy) (lawful : legal p ≡ true) where
       pub searched-children : {n : ℕ} {v : Bool} {after s : ℕ} → Looking p count n v after → s ≡ nextIn after (childrenIn (cond v rejecting′ accepting′) (getD masks n 0)) → s ≡ nextIn after (children p (maskAt (forest p) n))
       searched-children {n} {v} {after} {s} k e =
           e ∙ ap (nextIn after) (ap₂ childrenIn (other v ∙ ap (λ (b : Bool). judged p (not b)) (k .verdict)) (w .masks-are n (k .below))
-          ∙ sym (same-children (judged p (not (accepting p (maskAt (forest p) n)))) (maskAt (forest p) n)) ∙ sym (children-are p lawful (maskAt (forest p) n) (node-candidate p lawful (forest p) laws n (omega (arith, k .below, w .at-most)))))
+          ∙ sym (children-are p lawful (maskAt (forest p) n) (node-candidate p lawful (forest p) laws n (omega (arith, k .below, w .at-most)))))
         where
           other : (v : Bool) → cond v rejecting′ accepting′ ≡ judged p (not v)
           other true = listed .rejecting-are

@@ -1,4 +1,5 @@
 // The alternating cycle decomposition of a policy.
+pub mod nodes;
 ghost use mathlib.Core.Path.{_≡_};
 ghost use mathlib.Core.Logic.{_≢_};
 ghost use mathlib.Core.List.{List·Memᴰ};
