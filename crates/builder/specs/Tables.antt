@@ -1,6 +1,7 @@
 -- What translating answers, and what each place of the seven tables holds at exit, in every case (document 01, "The built automaton" and the questions of
 -- translating).
 use Prim.Native.Nat.{ℕ, _*_, min}
+use mathlib.Core.Path.{_≡_}
 use mathlib.Core.Bool.{Bool, _&&_, cond}
 use mathlib.Core.List.{List, map}
 use lib.Dec.{eqb, leb}
