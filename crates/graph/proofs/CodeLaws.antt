@@ -21,7 +21,7 @@ use Rattle.policy.specs.declared.Policy.{Policy}
 use Rattle.policy.specs.Policies.{edges, edgeOf, source, targetOf, legal}
 use Rattle.policy.proofs.Laws.{Counts, legal-counts, edges-le, legal-target, source-edge, edge-lt, source-lt}
 use Rattle.graph.specs.Cycles.{Path, reach}
-use Rattle.graph.specs.Through.{cycleThrough, Rows, withEdge, edgeRow, edgeRows, joinRow, joinRows, joinedRows}
+use Rattle.graph.specs.Through.{cycleThrough, Rows, withEdge, edgeRow, edgeRows, States, joinRow, joinRows, joinedRows}
 use Rattle.graph.proofs.Paths.{members-has, members-lt, reach-sound, reach-complete}
 use Rattle.graph.proofs.Through.{Leads, leads-join, leads-edge}
 
@@ -155,45 +155,45 @@ module _ (p : Policy) (m : ℕ) where
   edge-rows-length zero = length-replicate {A = ℕ} 16 0
   edge-rows-length (suc n) = simp length-set (edge-rows-length n)
 
-  edge-rows-at : (n v : ℕ) → n ≤ 16 → v < n → getD (edgeRows p m n) v 0 ≡ edgeRow p m v (p .letters)
+  edge-rows-at : (n v : ℕ) → n ≤ 16 → v < n → getD (edgeRows p m n) v 0 ≡ edgeRow (p .target) (p .letters) m v (p .letters)
   unfolding edgeRows
   edge-rows-at zero v l lv = absurd (omega arith)
   edge-rows-at (suc n) v l lv = go (ℕ-discrete v n) (edge-rows-at n v (omega arith))
     where
-      go : Dec (v ≡ n) → (v < n → getD (edgeRows p m n) v 0 ≡ edgeRow p m v (p .letters)) → getD (edgeRows p m (suc n)) v 0 ≡ edgeRow p m v (p .letters)
+      go : Dec (v ≡ n) → (v < n → getD (edgeRows p m n) v 0 ≡ edgeRow (p .target) (p .letters) m v (p .letters)) → getD (edgeRows p m (suc n)) v 0 ≡ edgeRow (p .target) (p .letters) m v (p .letters)
       go (yes q) ih =
-          ap (λ (z : ℕ). getD (edgeRows p m (suc n)) z 0) q ∙ getD-set-same (edgeRows p m n) n (edgeRow p m n (p .letters)) 0 (omega (arith, edge-rows-length n))
-          ∙ ap (λ (z : ℕ). edgeRow p m z (p .letters)) (sym q)
-      go (no q) ih = getD-set-other (edgeRows p m n) n v (edgeRow p m n (p .letters)) 0 q ∙ ih (omega arith)
+          ap (λ (z : ℕ). getD (edgeRows p m (suc n)) z 0) q ∙ getD-set-same (edgeRows p m n) n (edgeRow (p .target) (p .letters) m n (p .letters)) 0 (omega (arith, edge-rows-length n))
+          ∙ ap (λ (z : ℕ). edgeRow (p .target) (p .letters) m z (p .letters)) (sym q)
+      go (no q) ih = getD-set-other (edgeRows p m n) n v (edgeRow (p .target) (p .letters) m n (p .letters)) 0 q ∙ ih (omega arith)
 
   -- ---- a first row: the state, and the targets of its edges in m
-  edge-row-self : (v a : ℕ) → has (edgeRow p m v a) v ≡ true
-  unfolding edgeRow withEdge
+  edge-row-self : (v a : ℕ) → has (edgeRow (p .target) (p .letters) m v a) v ≡ true
+  unfolding edgeRow withEdge edgeOf targetOf
   edge-row-self v zero = insert-adds 0 v
   edge-row-self v (suc a) = go (has m (edgeOf p v a)) (edge-row-self v a)
     where
-      go : (b : Bool) → has (edgeRow p m v a) v ≡ true → has (cond b (insert (edgeRow p m v a) (targetOf p (edgeOf p v a))) (edgeRow p m v a)) v ≡ true
-      go true h = insert-keeps (edgeRow p m v a) (targetOf p (edgeOf p v a)) v h
+      go : (b : Bool) → has (edgeRow (p .target) (p .letters) m v a) v ≡ true → has (cond b (insert (edgeRow (p .target) (p .letters) m v a) (targetOf p (edgeOf p v a))) (edgeRow (p .target) (p .letters) m v a)) v ≡ true
+      go true h = insert-keeps (edgeRow (p .target) (p .letters) m v a) (targetOf p (edgeOf p v a)) v h
       go false h = h
 
-  edge-row-has : (v a b : ℕ) → b < a → has m (edgeOf p v b) ≡ true → has (edgeRow p m v a) (targetOf p (edgeOf p v b)) ≡ true
-  unfolding edgeRow withEdge
+  edge-row-has : (v a b : ℕ) → b < a → has m (edgeOf p v b) ≡ true → has (edgeRow (p .target) (p .letters) m v a) (targetOf p (edgeOf p v b)) ≡ true
+  unfolding edgeRow withEdge edgeOf targetOf
   edge-row-has v zero b l t = absurd (omega arith)
   edge-row-has v (suc a) b l t = go (ℕ-discrete b a) (edge-row-has v a b)
     where
       e : ℕ
       e = edgeOf p v b
 
-      keep : (c : Bool) (x : ℕ) → has (edgeRow p m v a) (targetOf p e) ≡ true → has (cond c (insert (edgeRow p m v a) x) (edgeRow p m v a)) (targetOf p e) ≡ true
-      keep true x h = insert-keeps (edgeRow p m v a) x (targetOf p e) h
+      keep : (c : Bool) (x : ℕ) → has (edgeRow (p .target) (p .letters) m v a) (targetOf p e) ≡ true → has (cond c (insert (edgeRow (p .target) (p .letters) m v a) x) (edgeRow (p .target) (p .letters) m v a)) (targetOf p e) ≡ true
+      keep true x h = insert-keeps (edgeRow (p .target) (p .letters) m v a) x (targetOf p e) h
       keep false x h = h
 
-      go : Dec (b ≡ a) → (b < a → has m (edgeOf p v b) ≡ true → has (edgeRow p m v a) (targetOf p (edgeOf p v b)) ≡ true) → has (edgeRow p m v (suc a)) (targetOf p e) ≡ true
-      go (yes q) ih = rw (← q, t) (insert-adds (edgeRow p m v b) (targetOf p e))
+      go : Dec (b ≡ a) → (b < a → has m (edgeOf p v b) ≡ true → has (edgeRow (p .target) (p .letters) m v a) (targetOf p (edgeOf p v b)) ≡ true) → has (edgeRow (p .target) (p .letters) m v (suc a)) (targetOf p e) ≡ true
+      go (yes q) ih = rw (← q, t) (insert-adds (edgeRow (p .target) (p .letters) m v b) (targetOf p e))
       go (no q) ih = keep (has m (edgeOf p v a)) (targetOf p (edgeOf p v a)) (ih (omega arith) t)
 
-  edge-row-cases : (v a x : ℕ) → has (edgeRow p m v a) x ≡ true → (v ≡ x) ⊎ ((b : ℕ) × (b < a) × (has m (edgeOf p v b) ≡ true) × (targetOf p (edgeOf p v b) ≡ x))
-  unfolding edgeRow withEdge
+  edge-row-cases : (v a x : ℕ) → has (edgeRow (p .target) (p .letters) m v a) x ≡ true → (v ≡ x) ⊎ ((b : ℕ) × (b < a) × (has m (edgeOf p v b) ≡ true) × (targetOf p (edgeOf p v b) ≡ x))
+  unfolding edgeRow withEdge edgeOf targetOf
   edge-row-cases v zero x h = go (insert-cases 0 v x h)
     where
       go : (has 0 x ≡ true) ⊎ (v ≡ x) → (v ≡ x) ⊎ ((b : ℕ) × (b < 0) × (has m (edgeOf p v b) ≡ true) × (targetOf p (edgeOf p v b) ≡ x))
@@ -208,12 +208,12 @@ module _ (p : Policy) (m : ℕ) where
       up (inl q) = inl q
       up (inr r) = inr (r .0, omega (arith, r .1), r .2, r .3)
 
-      new : has m (edgeOf p v a) ≡ true → (has (edgeRow p m v a) x ≡ true → From a) → (has (edgeRow p m v a) x ≡ true) ⊎ (targetOf p (edgeOf p v a) ≡ x) → From (suc a)
+      new : has m (edgeOf p v a) ≡ true → (has (edgeRow (p .target) (p .letters) m v a) x ≡ true → From a) → (has (edgeRow (p .target) (p .letters) m v a) x ≡ true) ⊎ (targetOf p (edgeOf p v a) ≡ x) → From (suc a)
       new t ih (inl k) = up (ih k)
       new t ih (inr k) = inr (a, omega arith, t, k)
 
-      go : (has m (edgeOf p v a) ≡ true) ⊎ (has m (edgeOf p v a) ≡ false) → (has (edgeRow p m v a) x ≡ true → From a) → From (suc a)
-      go (inl t) ih = new t ih (insert-cases (edgeRow p m v a) (targetOf p (edgeOf p v a)) x (rw t at h))
+      go : (has m (edgeOf p v a) ≡ true) ⊎ (has m (edgeOf p v a) ≡ false) → (has (edgeRow (p .target) (p .letters) m v a) x ≡ true → From a) → From (suc a)
+      go (inl t) ih = new t ih (insert-cases (edgeRow (p .target) (p .letters) m v a) (targetOf p (edgeOf p v a)) x (rw t at h))
       go (inr k) ih = up (ih (rw k at h))
 
   -- ---- the rows joined at every state are what each state reaches
@@ -226,7 +226,7 @@ module _ (p : Policy) (m : ℕ) where
     unfolding row
     next k u lk lu = joined-next (edgeRows p m (p .states)) (p .states) (omega (arith, edge-rows-length (p .states), legal-counts p ok .states-few)) k u lu
 
-    first-is : (u : ℕ) → u < p .states → row 0 u ≡ edgeRow p m u (p .letters)
+    first-is : (u : ℕ) → u < p .states → row 0 u ≡ edgeRow (p .target) (p .letters) m u (p .letters)
     unfolding row joinedRows
     first-is u l = edge-rows-at (p .states) u (legal-counts p ok .states-few) l
 
@@ -247,12 +247,12 @@ module _ (p : Policy) (m : ℕ) where
     first-edge : (e : ℕ) → source p e < p .states → has m e ≡ true → has (row 0 (source p e)) (targetOf p e) ≡ true
     first-edge e l t =
         ap (λ (r : ℕ). has r (targetOf p e)) (first-is (source p e) l)
-        ∙ subst (λ (z : ℕ). has (edgeRow p m (source p e) (p .letters)) (targetOf p z) ≡ true) (edge-split e)
+        ∙ subst (λ (z : ℕ). has (edgeRow (p .target) (p .letters) m (source p e) (p .letters)) (targetOf p z) ≡ true) (edge-split e)
         (edge-row-has (source p e) (p .letters) (e % p .letters) (mod-lt e (omega (arith, legal-counts p ok .letters-some))) (ap (has m) (edge-split e) ∙ t))
 
     last-path : (u : ℕ) (w : List ℕ) (x : ℕ) → u < p .states → Path p (members (edges p) m) u w x → has (row (p .states) u) x ≡ true
     last-path u [] x l a = turns-keep (p .states) row next (p .states) u x (omega arith) l
-        (ap (λ (r : ℕ). has r x) (first-is u l) ∙ subst (λ (z : ℕ). has (edgeRow p m u (p .letters)) z ≡ true) a (edge-row-self u (p .letters)))
+        (ap (λ (r : ℕ). has r x) (first-is u l) ∙ subst (λ (z : ℕ). has (edgeRow (p .target) (p .letters) m u (p .letters)) z ≡ true) a (edge-row-self u (p .letters)))
     last-path u (e ∷ w) x l a =
         let le = members-lt (edges p) m e (a .1) in
         let lt : targetOf p e < p .states = legal-target p ok e le in
@@ -274,39 +274,44 @@ module _ (p : Policy) (m : ℕ) where
         complete x h = let w = reach-sound p (members (edges p) m) v x h in last-path v (w .0) x l (w .1)
 
 -- ---- what the code asks of a legal policy
-module _ (p : Policy) where
-  pub edge-few : legal p ≡ true → (e : ℕ) → e < edges p → e < 64
-  edge-few ok e l = omega (arith, edges-le p ok)
+module _ (p : Policy) (ok : legal p ≡ true) where
+  pub edge-few : (e : ℕ) → e < edges p → e < 64
+  edge-few e l = omega (arith, edges-le p ok)
 
-  pub target-few : legal p ≡ true → (e : ℕ) → e < edges p → targetOf p e < 16
-  target-few ok e l = omega (arith, legal-target p ok e l, legal-counts p ok .states-few)
+  pub target-few : (e : ℕ) → e < edges p → getD (p .target) e 0 < 16
+  unfolding targetOf
+  target-few e l = omega (arith, legal-target p ok e l, legal-counts p ok .states-few)
 
-  pub state-few : legal p ≡ true → (v : ℕ) → v < p .states → v < 16
-  state-few ok v l = omega (arith, legal-counts p ok .states-few)
+  pub state-few : (v : ℕ) → v < p .states → v < 16
+  state-few v l = omega (arith, legal-counts p ok .states-few)
 
-  pub edge-number-few : legal p ≡ true → (v a : ℕ) → v < p .states → a ≤ p .letters → v * p .letters + a ≤ 64
-  edge-number-few ok v a l la = let q = legal-counts p ok in omega (arith, q .edges-few, mul-le-mul-right (p .letters) l, suc-mul v (p .letters))
+  -- the edges of a state are edges
+  row-within : (v : ℕ) → v < p .states → v * p .letters + p .letters ≤ edges p
+  unfolding edges
+  row-within v l = omega (arith, mul-le-mul-right (p .letters) l, suc-mul v (p .letters))
 
-  pub edge-within : (v a : ℕ) → v < p .states → a < p .letters → v * p .letters + a < edges p
-  unfolding edgeOf
-  edge-within v a l la = edge-lt p v a l la
+  pub row-few : (v : ℕ) → v < p .states → v * p .letters + p .letters ≤ 64
+  row-few v l = omega (arith, row-within v l, edges-le p ok)
 
-  -- ---- one turn of each loop
-  pub edge-row-none : (m v : ℕ) → edgeRow p m v 0 ≡ insert 0 v
-  unfolding edgeRow
-  edge-row-none m v = refl
+  pub row-states : (v : ℕ) → v < p .states → States (p .target) (v * p .letters + p .letters)
+  row-states v l e le = target-few e (omega (arith, row-within v l))
 
-  pub edge-row-more : (m v a : ℕ) → edgeRow p m v (a + 1) ≡ withEdge p m (edgeRow p m v a) (v * p .letters + a)
-  unfolding edgeRow edgeOf
-  edge-row-more m v a = rw add-one
+-- ---- one turn of each loop
+pub edge-row-none : (t : List ℕ) (l m v : ℕ) → edgeRow t l m v 0 ≡ insert 0 v
+unfolding edgeRow
+edge-row-none t l m v = refl
 
-  pub edge-rows-none : (m : ℕ) → edgeRows p m 0 ≡ replicate 16 0
-  unfolding edgeRows
-  edge-rows-none m = refl
+pub edge-row-more : (t : List ℕ) (l m v a : ℕ) → edgeRow t l m v (a + 1) ≡ withEdge t m (edgeRow t l m v a) (v * l + a)
+unfolding edgeRow
+edge-row-more t l m v a = rw add-one
 
-  pub edge-rows-more : (m n : ℕ) → edgeRows p m (n + 1) ≡ set (edgeRows p m n) n (edgeRow p m n (p .letters))
-  unfolding edgeRows
-  edge-rows-more m n = rw add-one
+pub edge-rows-none : (p : Policy) (m : ℕ) → edgeRows p m 0 ≡ replicate 16 0
+unfolding edgeRows
+edge-rows-none p m = refl
+
+pub edge-rows-more : (p : Policy) (m n : ℕ) → edgeRows p m (n + 1) ≡ set (edgeRows p m n) n (edgeRow (p .target) (p .letters) m n (p .letters))
+unfolding edgeRows
+edge-rows-more p m n = rw add-one
 
 pub join-none : (rows : List ℕ) (k pivot : ℕ) → joinRows rows k pivot 0 ≡ rows
 unfolding joinRows
@@ -334,10 +339,10 @@ module _ (p : Policy) (m v : ℕ) where
   unfolding cycleThrough onThrough
   through-all = refl
 
-  pub through-test : legal p ≡ true → (rows : List ℕ) → Rows p m rows → v < p .states → (e u t : ℕ) → e < edges p → source p e ≡ u → t ≡ targetOf p e
-      → has m e && has (getD rows v 0) u && has (getD rows t 0) v ≡ onThrough e
-  unfolding onThrough
-  through-test ok rows is l e u t le su tt = rw (← su, tt, is v l, is (targetOf p e) (legal-target p ok e le))
+  pub through-test : legal p ≡ true → (rows : List ℕ) → Rows p m rows → v < p .states → (e u : ℕ) → e < edges p → source p e ≡ u
+      → has m e && has (getD rows v 0) u && has (getD rows (getD (p .target) e 0) 0) v ≡ onThrough e
+  unfolding onThrough targetOf
+  through-test ok rows is l e u le su = rw (← su, is v l, is (targetOf p e) (legal-target p ok e le))
 
 module _ (p : Policy) (ok : legal p ≡ true) (e u a : ℕ) (is : e ≡ u * p .letters + a) where
   pub source-is : a < p .letters → source p e ≡ u

@@ -1,6 +1,6 @@
 -- The largest cycle through a state inside an edge set (document 01, "Cycles and the forest"), and the table of what each state reaches:
 -- each state with the targets of its edges, then, for each state k in turn, each row that has k with the row of k.
-use Prim.Native.Nat.{ℕ, zero, suc, _<_}
+use Prim.Native.Nat.{ℕ, zero, suc, _+_, _*_, _<_}
 use mathlib.Core.Path.{_≡_}
 use mathlib.Core.Bool.{_&&_, cond}
 use mathlib.Core.List.{List}
@@ -8,7 +8,7 @@ use lib.ListN.{getD, set, replicate}
 use lib.Bits.{bitOr}
 use Rattle.masks.specs.Masks.{has, insert, gather, members}
 use Rattle.policy.specs.declared.Policy.{Policy}
-use Rattle.policy.specs.Policies.{edges, edgeOf, source, targetOf}
+use Rattle.policy.specs.Policies.{edges, source, targetOf}
 use Rattle.graph.specs.Cycles.{reach}
 
 module _ (p : Policy) where
@@ -21,20 +21,24 @@ module _ (p : Policy) where
   abbrev pub Rows : ℕ → List ℕ → Type 0
   Rows m rows = (v : ℕ) → v < p .states → getD rows v 0 ≡ reach p (members (edges p) m) v
 
-  -- ---- the first rows
-  -- a row, with the target of e where e is in m
-  unfoldable pub withEdge : ℕ → ℕ → ℕ → ℕ
-  withEdge m row e = cond (has m e) (insert row (targetOf p e)) row
+-- ---- the first rows: t has the targets of the edges, l is the number of letters
+-- a row, with the target of e where e is in m
+unfoldable pub withEdge : List ℕ → ℕ → ℕ → ℕ → ℕ
+withEdge t m row e = cond (has m e) (insert row (getD t e 0)) row
 
-  -- v, with the targets of its first a edges that are in m
-  unfoldable pub edgeRow : ℕ → ℕ → ℕ → ℕ
-  edgeRow m v zero = insert 0 v
-  edgeRow m v (suc a) = withEdge m (edgeRow m v a) (edgeOf p v a)
+-- v, with the targets of its first a edges that are in m
+unfoldable pub edgeRow : List ℕ → ℕ → ℕ → ℕ → ℕ → ℕ
+edgeRow t l m v zero = insert 0 v
+edgeRow t l m v (suc a) = withEdge t m (edgeRow t l m v a) (v * l + a)
 
-  -- these rows for the states below n
-  unfoldable pub edgeRows : ℕ → ℕ → List ℕ
-  edgeRows m zero = replicate 16 0
-  edgeRows m (suc n) = set (edgeRows m n) n (edgeRow m n (p .letters))
+-- these rows for the states below n
+unfoldable pub edgeRows : Policy → ℕ → ℕ → List ℕ
+edgeRows p m zero = replicate 16 0
+edgeRows p m (suc n) = set (edgeRows p m n) n (edgeRow (p .target) (p .letters) m n (p .letters))
+
+-- the first n entries of a list are states
+abbrev pub States : List ℕ → ℕ → Type 0
+States t n = (e : ℕ) → e < n → getD t e 0 < 16
 
 -- ---- the rows joined at a state
 -- a row that has k, with the row of k

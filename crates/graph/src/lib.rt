@@ -2,34 +2,33 @@
 // reaches inside m.
 ghost use mathlib.Core.Path.{_≡_};
 ghost use mathlib.Core.Bool.{true, _&&_};
-ghost use Prim.Native.Nat.{ℕ, _<_, _≤_};
+ghost use Prim.Native.Nat.{ℕ, _+_, _*_, _<_, _≤_};
 ghost use lib.ListN.{getD};
 ghost use Rattle.masks.specs.Masks.{has};
 ghost use Rattle.policy.specs.Policies.{edges, source, legal};
-ghost use Rattle.graph.specs.Through.{cycleThrough, Rows, withEdge, edgeRow, edgeRows, joinRow, joinRows};
+ghost use Rattle.graph.specs.Through.{cycleThrough, Rows, withEdge, edgeRow, edgeRows, States, joinRow, joinRows};
 use policy::Policy;
 
-// A row, with the target of edge e where e is in m.
-fn with_edge(p: Policy, m: u64, row: u64, e: usize) -> u64
-    requires { ⌜ (legal p ≡ true) × (e < edges p) ⌝ }
-    ensures { λ r. ⌜ r ≡ withEdge p m row e ⌝ }
+// A row, with the target of edge e where e is in m. The targets are t.
+fn with_edge(t: &[u8; 64], m: u64, row: u64, e: usize) -> u64
+    requires { ⌜ (e < 64) × (getD (now t) e 0 < 16) ⌝ }
+    ensures { λ r. ⌜ r ≡ withEdge (now (t .entry)) m row e ⌝ }
 {
     if masks::has(m, e) {
-        return masks::with(row, policy::target_of(p, e) as usize);
+        return masks::with(row, t[e] as usize);
     }
     row
 }
 
 // State v, with the targets of its edges in m.
-fn edge_row(p: Policy, m: u64, v: usize) -> u64
-    requires { ⌜ (legal p ≡ true) × (v < p .states) ⌝ }
-    ensures { λ r. ⌜ r ≡ edgeRow p m v (p .letters) ⌝ }
+fn edge_row(t: &[u8; 64], letters: usize, m: u64, v: usize) -> u64
+    requires { ⌜ (v < 16) × (v * letters + letters ≤ 64) × States (now t) (v * letters + letters) ⌝ }
+    ensures { λ r. ⌜ r ≡ edgeRow (now (t .entry)) letters m v letters ⌝ }
 {
-    let letters = p.letters as usize;
     let first = v * letters;
     let mut row = masks::with(0, v);
     for a in 0..letters {
-        row = with_edge(p, m, row, first + a);
+        row = with_edge(t, m, row, first + a);
     }
     row
 }
@@ -40,9 +39,10 @@ fn edge_rows(p: Policy, m: u64) -> [u64; 16]
     ensures { λ r. ⌜ r ≡ edgeRows p m (p .states) ⌝ }
 {
     let n = p.states as usize;
+    let letters = p.letters as usize;
     let mut rows = [0u64; 16];
     for v in 0..n {
-        rows[v] = edge_row(p, m, v);
+        rows[v] = edge_row(&p.target, letters, m, v);
     }
     rows
 }
@@ -59,16 +59,14 @@ fn join_row(row: u64, k: usize, pivot: u64) -> u64
 }
 
 // The rows below n, each so joined.
-fn join_rows(rows: [u64; 16], k: usize, n: usize) -> [u64; 16]
+fn join_rows(rows: &mut [u64; 16], k: usize, n: usize)
     requires { ⌜ (k < n) × (n ≤ 16) ⌝ }
-    ensures { λ r. ⌜ r ≡ joinRows rows k (getD rows k 0) n ⌝ }
+    ensures { λ _. ⌜ now (rows .exit) ≡ joinRows (now (rows .entry)) k (getD (now (rows .entry)) k 0) n ⌝ }
 {
     let pivot = rows[k];
-    let mut joined = rows;
     for u in 0..n {
-        joined[u] = join_row(joined[u], k, pivot);
+        rows[u] = join_row(rows[u], k, pivot);
     }
-    joined
 }
 
 // The states that each state reaches inside m.
@@ -79,8 +77,7 @@ pub fn reach_all(p: Policy, m: u64) -> [u64; 16]
     let n = p.states as usize;
     let mut rows = edge_rows(p, m);
     for k in 0..n {
-        let joined = join_rows(rows, k, n);
-        rows = joined;
+        join_rows(&mut rows, k, n);
     }
     rows
 }
@@ -105,7 +102,7 @@ pub fn cycle_through(p: Policy, rows: [u64; 16], m: u64, v: usize) -> u64
     let mut u: usize = 0;
     let mut a: usize = 0;
     for e in 0..n {
-        let t = policy::target_of(p, e) as usize;
+        let t = p.target[e] as usize;
         if is_through(m, from, rows[t], e, u, v) {
             r = masks::with(r, e);
         }

@@ -1,13 +1,11 @@
 -- `graph::edge_row` meets its contract. The invariant: the row has the targets of the edges passed. Assumes nothing.
-use mathlib.Core.Path.{_≡_, sym, _∙_, ap}
+use mathlib.Core.Path.{_≡_, sym, _∙_}
 use Prim.Native.Nat.{ℕ, _+_, _*_, _-_, _≤_, _<_}
 use native.Mathlib.Nat.{le-antisymm}
 use native.Mathlib.Omega.{arith}
 use borrow.Author.Needs.{needs}
-use Rattle.policy.specs.Policies.{edges}
-use Rattle.policy.proofs.Laws.{legal-counts}
 use Rattle.graph.specs.Through.{edgeRow}
-use Rattle.graph.proofs.CodeLaws.{state-few, edge-number-few, edge-within, edge-row-none, edge-row-more}
+use Rattle.graph.proofs.CodeLaws.{edge-row-none, edge-row-more}
 use Rattle.graph.proofs.edge_row.Statement.{statement}
 use Rattle.graph.proofs.edge_row.Tie as tie
 use Rattle.graph.proofs.edge_row.Reads as reads
@@ -16,30 +14,27 @@ use Rattle.graph.proofs.with_edge.Reads as with-edge-reads
 use Rattle.masks.proofs.with.Reads as with-reads
 
 abbrev Inv-loop : tie.InvT-loop
-Inv-loop p m v letters first row₀ a₀ row a = (a ≤ letters) × (row ≡ edgeRow p m v a)
+Inv-loop t letters m v first row₀ a₀ row a = (a ≤ letters) × (row ≡ edgeRow t letters m v a)
 
 abbrev μ-loop : tie.MeasureT-loop
-μ-loop p m v letters first row₀ a₀ row a = letters - a
-
-cast-letters : tie.Need-cast-letters Inv-loop μ-loop
-cast-letters c = search needs
+μ-loop t letters m v first row₀ a₀ row a = letters - a
 
 mul-first : tie.Need-mul-first Inv-loop μ-loop
-mul-first c = let s = c .before in omega (arith, edge-number-few (s .args .p) (s .pre .0) (s .args .v) 0 (s .pre .1) (omega arith))
+mul-first c = omega (arith, c .pre .1)
 
 with-requires : tie.Need-with-requires Inv-loop μ-loop
-with-requires c κs = let s = c .before in omega (arith, state-few (s .args .p) (s .pre .0) (s .args .v) (s .pre .1))
+with-requires c κs = omega arith
 
 loop-holds : tie.Need-loop-holds Inv-loop μ-loop
-loop-holds c = (omega arith, c .with .ensures ∙ sym (edge-row-none _ _ _))
+loop-holds c = (omega arith, c .with .ensures ∙ sym (edge-row-none _ _ _ _))
 
 add-with-edge : tie.Need-add-with-edge Inv-loop μ-loop
-add-with-edge c =
-    let s = c .before .before .before .before in
-    omega (arith, edge-number-few (s .args .p) (s .pre .0) (s .args .v) (c .before .loop .a) (s .pre .1) (omega arith))
+add-with-edge c = omega (arith, c .before .before .before .pre .1)
 
 with-edge-requires : tie.Need-with-edge-requires Inv-loop μ-loop
-with-edge-requires c κs = let s = c .before .before .before .before in (s .pre .0, edge-within (s .args .p) (s .args .v) (c .before .loop .a) (s .pre .1) (c .loop-test .taken))
+with-edge-requires c κs =
+    let s = c .before .before .before in
+    (omega (arith, s .pre .1), s .pre .2 (s .args .v * s .args .letters + c .before .loop .a) (omega arith))
 
 add-a : tie.Need-add-a Inv-loop μ-loop
 add-a c = omega arith
@@ -48,7 +43,7 @@ loop-less : tie.Need-loop-less Inv-loop μ-loop
 loop-less c = omega arith
 
 loop-again : tie.Need-loop-again Inv-loop μ-loop
-loop-again c = (omega arith, cc (edge-row-more _ _ _ _))
+loop-again c = (omega arith, cc (edge-row-more _ _ _ _ _))
 
 returns : tie.Need-returns Inv-loop μ-loop
 returns c = cc (le-antisymm (c .before .loop .inv .0) (c .loop-test .left))
@@ -59,7 +54,6 @@ edge-row-spec =
     (tie.spec
     Inv-loop
     μ-loop
-    cast-letters
     mul-first
     with-requires
     loop-holds

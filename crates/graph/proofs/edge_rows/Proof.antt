@@ -4,8 +4,9 @@ use Prim.Native.Nat.{ℕ, _+_, _-_, _≤_}
 use native.Mathlib.Nat.{le-antisymm}
 use native.Mathlib.Omega.{arith}
 use borrow.Author.Needs.{needs}
+use Rattle.policy.proofs.Laws.{Counts, legal-counts}
 use Rattle.graph.specs.Through.{edgeRow, edgeRows}
-use Rattle.graph.proofs.CodeLaws.{state-few, edge-rows-none, edge-rows-more}
+use Rattle.graph.proofs.CodeLaws.{state-few, row-few, row-states, edge-rows-none, edge-rows-more}
 use Rattle.graph.proofs.edge_rows.Statement.{statement}
 use Rattle.graph.proofs.edge_rows.Tie as tie
 use Rattle.graph.proofs.edge_rows.Reads as reads
@@ -13,25 +14,35 @@ use Rattle.graph.proofs.edge_rows.Lts as lts
 use Rattle.graph.proofs.edge_row.Reads as edge-row-reads
 
 abbrev Inv-loop : tie.InvT-loop
-Inv-loop p m n rows₀ v₀ rows v = (v ≤ n) × (rows ≡ edgeRows p m v)
+Inv-loop m p n letters rows₀ v₀ rows v = (v ≤ n) × (rows ≡ edgeRows p m v)
 
 abbrev μ-loop : tie.MeasureT-loop
-μ-loop p m n rows₀ v₀ rows v = n - v
+μ-loop m p n letters rows₀ v₀ rows v = n - v
 
 cast-n : tie.Need-cast-n Inv-loop μ-loop
-cast-n c = search needs
+cast-n c = omega (arith, legal-counts (c .args .t1) (c .pre) .states-few)
+
+cast-letters : tie.Need-cast-letters Inv-loop μ-loop
+cast-letters c = omega (arith, legal-counts (c .args .t1) (c .pre) .letters-few)
 
 loop-holds : tie.Need-loop-holds Inv-loop μ-loop
 loop-holds c = (omega arith, sym (edge-rows-none _ _))
 
 edge-row-requires : tie.Need-edge-row-requires Inv-loop μ-loop
-edge-row-requires c κs = (c .before .before .before .pre, omega arith)
+edge-row-requires c κs =
+    let s = c .before .before .before .before in
+    let v = c .before .before .before .loop .v in
+    (state-few (s .args .t1) (s .pre) v (c .before .before .loop-test .taken), row-few (s .args .t1) (s .pre) v (c .before .before .loop-test .taken), row-states (s .args .t1) (s .pre) v (c .before .before .loop-test .taken))
 
 mul-rows : tie.Need-mul-rows Inv-loop μ-loop
-mul-rows c = omega (arith, state-few (c .before .before .before .before .args .p) (c .before .before .before .before .pre) (c .before .before .loop .v) (omega arith))
+mul-rows c =
+    let s = c .before .before .before .before .before in
+    omega (arith, state-few (s .args .t1) (s .pre) (c .before .before .before .before .loop .v) (c .before .before .before .loop-test .taken))
 
 array-write-rows : tie.Need-array-write-rows Inv-loop μ-loop
-array-write-rows c = omega (arith, state-few (c .before .before .before .before .args .p) (c .before .before .before .before .pre) (c .before .before .loop .v) (omega arith))
+array-write-rows c =
+    let s = c .before .before .before .before .before in
+    state-few (s .args .t1) (s .pre) (c .before .before .before .before .loop .v) (c .before .before .before .loop-test .taken)
 
 add-v : tie.Need-add-v Inv-loop μ-loop
 add-v c = omega arith
@@ -52,6 +63,7 @@ edge-rows-spec =
     Inv-loop
     μ-loop
     cast-n
+    cast-letters
     loop-holds
     edge-row-requires
     mul-rows

@@ -13,16 +13,16 @@ use Rattle.graph.proofs.join_rows.Lts as lts
 use Rattle.graph.proofs.join_row.Reads as join-row-reads
 
 abbrev Inv-loop : tie.InvT-loop
-Inv-loop k n pivot joined₀ u₀ joined u = (u ≤ n) × (joined ≡ joinRows joined₀ k pivot u)
+Inv-loop rows₀ k n pivot u₀ rows u = (u ≤ n) × (rows ≡ joinRows rows₀ k pivot u)
 
 abbrev μ-loop : tie.MeasureT-loop
-μ-loop k n pivot joined₀ u₀ joined u = n - u
+μ-loop rows₀ k n pivot u₀ rows u = n - u
 
 mul-pivot : tie.Need-mul-pivot Inv-loop μ-loop
 mul-pivot c = omega arith
 
-array-read-pivot : tie.Need-array-read-pivot Inv-loop μ-loop
-array-read-pivot c = omega arith
+element-copy-out-pivot : tie.Need-element-copy-out-pivot Inv-loop μ-loop
+element-copy-out-pivot c = omega arith
 
 loop-holds : tie.Need-loop-holds Inv-loop μ-loop
 loop-holds c = (omega arith, sym (join-none _ _ _))
@@ -30,17 +30,17 @@ loop-holds c = (omega arith, sym (join-none _ _ _))
 mul-join-row : tie.Need-mul-join-row Inv-loop μ-loop
 mul-join-row c = omega arith
 
-array-read-join-row : tie.Need-array-read-join-row Inv-loop μ-loop
-array-read-join-row c = omega arith
+element-copy-out-join-row : tie.Need-element-copy-out-join-row Inv-loop μ-loop
+element-copy-out-join-row c = omega arith
 
 join-row-requires : tie.Need-join-row-requires Inv-loop μ-loop
 join-row-requires c κs = omega arith
 
-mul-joined : tie.Need-mul-joined Inv-loop μ-loop
-mul-joined c = omega arith
+mul-rows : tie.Need-mul-rows Inv-loop μ-loop
+mul-rows c = omega arith
 
-array-write-joined : tie.Need-array-write-joined Inv-loop μ-loop
-array-write-joined c = omega arith
+element-write-rows : tie.Need-element-write-rows Inv-loop μ-loop
+element-write-rows c = omega arith
 
 add-u : tie.Need-add-u Inv-loop μ-loop
 add-u c = omega arith
@@ -61,13 +61,13 @@ join-rows-spec =
     Inv-loop
     μ-loop
     mul-pivot
-    array-read-pivot
+    element-copy-out-pivot
     loop-holds
     mul-join-row
-    array-read-join-row
+    element-copy-out-join-row
     join-row-requires
-    mul-joined
-    array-write-joined
+    mul-rows
+    element-write-rows
     add-u
     loop-less
     loop-again

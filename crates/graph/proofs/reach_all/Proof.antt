@@ -31,7 +31,7 @@ loop-holds : tie.Need-loop-holds Inv-loop μ-loop
 loop-holds c = (omega arith, sym (joined-none _ _))
 
 join-rows-requires : tie.Need-join-rows-requires Inv-loop μ-loop
-join-rows-requires c κs = let s = c .before .before .before .before in (c .loop-test .taken, legal-counts (s .args .p) (s .pre) .states-few)
+join-rows-requires c κs = let s = c .before .before .before .before .before in (c .before .loop-test .taken, legal-counts (s .args .p) (s .pre) .states-few)
 
 add-k : tie.Need-add-k Inv-loop μ-loop
 add-k c = omega arith
