@@ -7,8 +7,8 @@ use native.Mathlib.Nat.{mod-lt, div-add-mod', mul-le-mul-right, suc-mul}
 use native.Mathlib.Numerals.{add-one}
 use mathlib.Core.Path.{_≡_, refl, sym, ap, _∙_, subst}
 use mathlib.Core.Logic.{_⊎_, inl, inr, _≢_}
-use mathlib.Core.Bool.{Bool, true, false, _&&_, _||_, cond, false≢true}
-use mathlib.Core.List.{List, [], _∷_, List·Memᴰ}
+use mathlib.Core.Bool.{Bool, true, false, _&&_, cond, false≢true}
+use mathlib.Core.List.{List, [], _∷_}
 use lib.Dec.{eqb}
 use lib.Arith.{digits-div, lt-of-le-ne}
 use lib.Bits.{bitOr}
@@ -19,7 +19,7 @@ use Rattle.masks.specs.Masks.{has, insert, gather, members}
 use Rattle.masks.proofs.Bits.{has-none, has-or, has-insert, mask-ext}
 use Rattle.policy.specs.declared.Policy.{Policy}
 use Rattle.policy.specs.Policies.{edges, edgeOf, source, targetOf, legal}
-use Rattle.policy.proofs.Laws.{Counts, legal-counts, edges-le, legal-target, source-edge, edge-lt, source-lt}
+use Rattle.policy.proofs.Laws.{legal-counts, edges-le, legal-target, source-edge, edge-lt, source-lt}
 use Rattle.graph.specs.Cycles.{Path, reach}
 use Rattle.graph.specs.Through.{cycleThrough, Rows, withEdge, edgeRow, edgeRows, States, joinRow, joinRows, joinedRows}
 use Rattle.graph.proofs.Paths.{members-has, members-lt, reach-sound, reach-complete}

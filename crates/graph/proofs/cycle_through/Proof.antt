@@ -1,24 +1,19 @@
 -- `graph::cycle_through` meets its contract. The invariant: r has those of the edges passed that are on the cycle, and edge e is that of state u
 -- and letter a. Assumes nothing.
-use mathlib.Core.Path.{_≡_, refl, sym, _∙_, ap}
+use mathlib.Core.Path.{_≡_, sym, _∙_, ap}
 use mathlib.Core.Logic.{⊎-elim}
-use Prim.Native.Nat.{ℕ, _+_, _*_, _-_, _≤_, _<_}
+use Prim.Native.Nat.{_+_, _*_, _-_, _≤_, _<_}
 use native.Mathlib.Nat.{le-antisymm}
 use native.Mathlib.Omega.{arith}
 use lib.ListN.{getD}
 use borrow.Author.Needs.{needs}
-use Rattle.masks.specs.Masks.{gather, insert}
+use Rattle.masks.specs.Masks.{gather}
 use Rattle.masks.proofs.Gather.{gather-none, gather-in, gather-out}
 use Rattle.policy.specs.Policies.{edges}
-use Rattle.policy.proofs.Laws.{Counts, legal-counts}
+use Rattle.policy.proofs.Laws.{legal-counts}
 use Rattle.graph.proofs.CodeLaws.{edge-few, target-few, state-few, onThrough, through-all, through-test, source-is, source-few, turn-same, turn-next}
 use Rattle.graph.proofs.cycle_through.Statement.{statement}
 use Rattle.graph.proofs.cycle_through.Tie as tie
-use Rattle.graph.proofs.cycle_through.Reads as reads
-use Rattle.graph.proofs.cycle_through.Lts as lts
-use Rattle.graph.proofs.is_through.Reads as is-through-reads
-use Rattle.masks.proofs.with.Reads as with-reads
-use Rattle.policy.proofs.edges.Reads as edges-reads
 
 abbrev Inv-loop : tie.InvT-loop
 Inv-loop m v p rows letters from n r₀ u₀ a₀ e₀ r u a e =

@@ -1,17 +1,12 @@
 -- `graph::edge_row` meets its contract. The invariant: the row has the targets of the edges passed. Assumes nothing.
 use mathlib.Core.Path.{_≡_, sym, _∙_}
-use Prim.Native.Nat.{ℕ, _+_, _*_, _-_, _≤_, _<_}
+use Prim.Native.Nat.{_+_, _*_, _-_, _≤_}
 use native.Mathlib.Nat.{le-antisymm}
 use native.Mathlib.Omega.{arith}
-use borrow.Author.Needs.{needs}
 use Rattle.graph.specs.Through.{edgeRow}
 use Rattle.graph.proofs.CodeLaws.{edge-row-none, edge-row-more}
 use Rattle.graph.proofs.edge_row.Statement.{statement}
 use Rattle.graph.proofs.edge_row.Tie as tie
-use Rattle.graph.proofs.edge_row.Reads as reads
-use Rattle.graph.proofs.edge_row.Lts as lts
-use Rattle.graph.proofs.with_edge.Reads as with-edge-reads
-use Rattle.masks.proofs.with.Reads as with-reads
 
 abbrev Inv-loop : tie.InvT-loop
 Inv-loop t letters m v first row₀ a₀ row a = (a ≤ letters) × (row ≡ edgeRow t letters m v a)

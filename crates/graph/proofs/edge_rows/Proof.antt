@@ -1,17 +1,13 @@
 -- `graph::edge_rows` meets its contract. The invariant: the rows below v stand. Assumes nothing.
-use mathlib.Core.Path.{_≡_, sym, _∙_}
-use Prim.Native.Nat.{ℕ, _+_, _-_, _≤_}
+use mathlib.Core.Path.{_≡_, sym}
+use Prim.Native.Nat.{_-_, _≤_}
 use native.Mathlib.Nat.{le-antisymm}
 use native.Mathlib.Omega.{arith}
-use borrow.Author.Needs.{needs}
-use Rattle.policy.proofs.Laws.{Counts, legal-counts}
-use Rattle.graph.specs.Through.{edgeRow, edgeRows}
+use Rattle.policy.proofs.Laws.{legal-counts}
+use Rattle.graph.specs.Through.{edgeRows}
 use Rattle.graph.proofs.CodeLaws.{state-few, row-few, row-states, edge-rows-none, edge-rows-more}
 use Rattle.graph.proofs.edge_rows.Statement.{statement}
 use Rattle.graph.proofs.edge_rows.Tie as tie
-use Rattle.graph.proofs.edge_rows.Reads as reads
-use Rattle.graph.proofs.edge_rows.Lts as lts
-use Rattle.graph.proofs.edge_row.Reads as edge-row-reads
 
 abbrev Inv-loop : tie.InvT-loop
 Inv-loop m p n letters rows₀ v₀ rows v = (v ≤ n) × (rows ≡ edgeRows p m v)

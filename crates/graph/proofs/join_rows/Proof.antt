@@ -1,16 +1,12 @@
 -- `graph::join_rows` meets its contract. The invariant: the rows below u are joined. Assumes nothing.
-use mathlib.Core.Path.{_≡_, sym, _∙_}
-use Prim.Native.Nat.{ℕ, _+_, _-_, _≤_}
+use mathlib.Core.Path.{_≡_, sym}
+use Prim.Native.Nat.{_-_, _≤_}
 use native.Mathlib.Nat.{le-antisymm}
 use native.Mathlib.Omega.{arith}
-use borrow.Author.Needs.{needs}
-use Rattle.graph.specs.Through.{joinRow, joinRows}
+use Rattle.graph.specs.Through.{joinRows}
 use Rattle.graph.proofs.CodeLaws.{join-none, join-more}
 use Rattle.graph.proofs.join_rows.Statement.{statement}
 use Rattle.graph.proofs.join_rows.Tie as tie
-use Rattle.graph.proofs.join_rows.Reads as reads
-use Rattle.graph.proofs.join_rows.Lts as lts
-use Rattle.graph.proofs.join_row.Reads as join-row-reads
 
 abbrev Inv-loop : tie.InvT-loop
 Inv-loop rows₀ k n pivot u₀ rows u = (u ≤ n) × (rows ≡ joinRows rows₀ k pivot u)

@@ -1,19 +1,15 @@
 -- `graph::reach_all` meets its contract. The invariant: the rows are joined at the states below k. Assumes nothing.
-use mathlib.Core.Path.{_≡_, sym, _∙_, subst}
+use mathlib.Core.Path.{_≡_, sym, subst}
 use mathlib.Core.List.{List}
-use Prim.Native.Nat.{ℕ, _+_, _-_, _≤_}
+use Prim.Native.Nat.{ℕ, _-_, _≤_}
 use native.Mathlib.Nat.{le-antisymm}
 use native.Mathlib.Omega.{arith}
 use borrow.Author.Needs.{needs}
 use Rattle.policy.proofs.Laws.{legal-counts}
-use Rattle.graph.specs.Through.{Rows, edgeRows, joinRows, joinedRows}
+use Rattle.graph.specs.Through.{Rows, edgeRows, joinedRows}
 use Rattle.graph.proofs.CodeLaws.{joined-none, joined-more, rows-reach}
 use Rattle.graph.proofs.reach_all.Statement.{statement}
 use Rattle.graph.proofs.reach_all.Tie as tie
-use Rattle.graph.proofs.reach_all.Reads as reads
-use Rattle.graph.proofs.reach_all.Lts as lts
-use Rattle.graph.proofs.edge_rows.Reads as edge-rows-reads
-use Rattle.graph.proofs.join_rows.Reads as join-rows-reads
 
 abbrev Inv-loop : tie.InvT-loop
 Inv-loop m n rows₀ k₀ rows k = (k ≤ n) × (rows ≡ joinedRows rows₀ n k)

@@ -1,13 +1,9 @@
 -- `graph::with_edge` meets its contract: by whether m has the edge. Assumes nothing.
-use mathlib.Core.Path.{sym, _∙_, ap}
-use Prim.Native.Nat.{ℕ}
+use mathlib.Core.Path.{sym, _∙_}
 use borrow.Author.Needs.{needs}
-use Rattle.masks.specs.Masks.{insert}
 use Rattle.graph.specs.Through.{withEdge}
 use Rattle.graph.proofs.with_edge.Statement.{statement}
 use Rattle.graph.proofs.with_edge.Tie as tie
-use Rattle.graph.proofs.with_edge.Reads as reads
-use Rattle.graph.proofs.with_edge.Lts as lts
 
 has-requires : tie.Need-has-requires
 has-requires c κs = search needs
