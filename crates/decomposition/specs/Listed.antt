@@ -10,8 +10,9 @@ use Rattle.masks.specs.Masks.{has, gather}
 use Rattle.colour_sets.specs.Order.{setAt}
 use Rattle.policy.specs.declared.Policy.{Policy}
 use Rattle.policy.specs.Policies.{edgeColours, inFamily, accepting}
+use Rattle.decomposition.specs.declared.listing.Counts.{Counts}
 use Rattle.decomposition.specs.Forest.{differs, full}
-use Rattle.decomposition.specs.Candidates.{candidateAt, candidatesOf, rootAt, judged}
+use Rattle.decomposition.specs.Candidates.{candidateAt, candidatesOf, judged, rootAt, rootCandidates}
 
 -- x alone; nothing where x is 0
 unfoldable pub single : ℕ → List ℕ
@@ -49,3 +50,24 @@ module _ (p : Policy) where
   -- the candidates for a root at the states below n
   unfoldable pub rootsTo : ℕ → List ℕ
   rootsTo n = flat (map (rootAt p) (below n))
+
+-- ---- what is listed, in two lists, by the verdicts of the candidates
+-- from a₀ and r₀ to a and r, the counts being n and n′: the candidates of the colour set c are appended to the list of their verdict
+pub record Judged (p : Policy) (c : ℕ) (a₀ a r₀ r : List ℕ) (n n′ : Counts) : Type 0 where
+  pub accepting-are : Appended a₀ a (n .accepting) (n′ .accepting) (judgedOf p true c)
+  pub rejecting-are : Appended r₀ r (n .rejecting) (n′ .rejecting) (judgedOf p false c)
+
+-- the lists, a₀ and r₀ before, begin with all candidates; n says how many
+pub record Listed (p : Policy) (a₀ a r₀ r : List ℕ) (n : Counts) : Type 0 where
+  pub accepting-are : take (n .accepting) a ≡ judged p true
+  pub rejecting-are : take (n .rejecting) r ≡ judged p false
+  pub accepting-few : n .accepting ≤ 4096
+  pub rejecting-few : n .rejecting ≤ 4096
+  pub accepting-long : length a ≡ length a₀
+  pub rejecting-long : length r ≡ length r₀
+
+-- the list, t₀ before, begins with the n candidates for a root
+pub record RootsListed (p : Policy) (t₀ t : List ℕ) (n : ℕ) : Type 0 where
+  pub roots-are : take n t ≡ rootCandidates p
+  pub few : n ≤ 16
+  pub long : length t ≡ length t₀
