@@ -1,24 +1,24 @@
 -- The laws behind the listing of candidates: the edges in some colours edge by edge, the lowest state by one mask, appending to a list, and the
 -- candidates state by state and colour set by colour set. Assumes nothing.
-use Prim.Native.Nat.{ℕ, zero, suc, _+_, _*_, _-_, _/_, _^_, _≤_, _<_}
+use Prim.Native.Nat.{ℕ, _+_, _*_, _-_, _^_, _≤_, _<_}
 use native.Mathlib.Omega.{arith}
 use native.Mathlib.Nat.{mul-le-mul-right, suc-mul, div-lt-iff-lt-mul}
 use native.Mathlib.Numerals.{add-one}
 use native.Mathlib.Decide.{decLt}
-use mathlib.Core.Path.{_≡_, refl, sym, ap, ap₂, _∙_, subst}
+use mathlib.Core.Path.{_≡_, refl, sym, ap, _∙_, subst}
 use mathlib.Core.Logic.{_⊎_, inl, inr, _≢_}
 use mathlib.Core.Bool.{Bool, true, false, not, _&&_, cond, and-true, true≢false, false≢true}
-use mathlib.Core.List.{List, [], _∷_, _++_, map, append-nil, append-assoc, map-append, List·Memᴰ, List·Memᴰ·head, List·Memᴰ·tail, List·Memᴰ·not-nil, List·Memᴰ·eq-of-singleton}
+use mathlib.Core.List.{List, [], _∷_, _++_, map, append-nil, append-assoc, List·Memᴰ, List·Memᴰ·head, List·Memᴰ·tail, List·Memᴰ·not-nil, List·Memᴰ·eq-of-singleton}
 use lib.Bits.{bitAnd}
 use lib.Dec.{eqb}
 use lib.ListN.{length, take, set, length-set, length-append}
+use lib.Pow.{pow-pos}
 use lib.Seq.{take-suc-set}
-use borrow.Author.Tests.{eq-eqb, ne-eqb}
 use Rattle.lists.specs.Lists.{any, all, filter, flat, below}
 use Rattle.lists.proofs.Bools.{test, eqb≡, ≡eqb, neqb, and-l, and-r, both, bool-ext, not-true, not-false, same-or-not}
-use Rattle.lists.proofs.Lists.{any-some, some-any, none-any, mem-below, below-lt, flat-mem}
+use Rattle.lists.proofs.Lists.{any-some, none-any, mem-below, below-lt, flat-mem}
 use Rattle.masks.specs.Masks.{has, insert, inside, gather}
-use Rattle.masks.proofs.Bits.{has-and, has-none, has-full, has-high, mask-ext, inside-trans, inside-antisym}
+use Rattle.masks.proofs.Bits.{has-and, has-none, has-full, has-high, mask-ext, inside-antisym}
 use Rattle.masks.proofs.Gather.{gather-none, gather-in, gather-out}
 use Rattle.colour_sets.specs.Order.{setAt}
 use Rattle.policy.specs.declared.Policy.{Policy}
@@ -172,7 +172,7 @@ module _ (p : Policy) where
           absurd (true≢false (sym (some-contains p (source p e) x e (omega (arith, few)) t refl)
           ∙ none-any (λ (u : ℕ). contains p u x) (below v) none (source p e) (mem-below v (source p e) (div-lt-iff-lt-mul (legal-counts p h .letters-some) .1 k))))
       off none e (yes k) (inr f) = rw f
-      off none e (no k) (inl t) = rw t (has-high (v * p .letters) e low (omega (arith, lib.Pow.pow-pos (v * p .letters))) (omega arith))
+      off none e (no k) (inl t) = rw t (has-high (v * p .letters) e low (omega (arith, pow-pos (v * p .letters))) (omega arith))
       off none e (no k) (inr f) = rw f
 
       there : not (any (λ (u : ℕ). contains p u x) (below v)) ≡ true → eqb (bitAnd x low) 0 ≡ true

@@ -7,8 +7,8 @@ ghost use Rattle.policy.specs.Policies.{edges, legal};
 ghost use Rattle.graph.specs.Components.{coloured};
 ghost use Rattle.graph.specs.Through.{Rows};
 ghost use Rattle.decomposition.specs.Forest.{full};
-ghost use Rattle.decomposition.specs.Candidates.{lowestIs, candidateAt, candidatesOf, rootAt, rootCandidates};
-ghost use Rattle.decomposition.specs.Listed.{single, Appended, isColoured, judgedOf, Judged, Listed, RootsListed};
+ghost use Rattle.decomposition.specs.Candidates.{lowestIs, candidateAt, candidatesOf, rootAt};
+ghost use Rattle.decomposition.specs.Listed.{single, Appended, isColoured, Judged, Listed, RootsListed};
 use policy::Policy;
 
 // How many candidates each list holds.
@@ -56,7 +56,8 @@ fn candidate(p: Policy, rows: [u64; 16], m: u64, c: u8, v: usize) -> u64
 {
     let x = graph::cycle_through(p, rows, m, v);
     if lowest_is(p, v, x) {
-        if policy::colours_of(p, x) == c {
+        let d = policy::colours_of(p, x);
+        if d == c {
             return x;
         }
     }
@@ -107,7 +108,13 @@ fn append_candidates(p: Policy, c: u8, list: &mut [u64], n: usize) -> usize
 }
 
 // The candidates of the colour set c after those listed: their verdict is that of c.
-fn append_judged(p: Policy, c: u8, accepting: &mut [u64], rejecting: &mut [u64], n: Counts) -> Counts
+fn append_judged(
+    p: Policy,
+    c: u8,
+    accepting: &mut [u64],
+    rejecting: &mut [u64],
+    n: Counts,
+) -> Counts
     requires { ⌜ (legal p ≡ true) × (n .accepting + 16 ≤ length (now accepting)) × (n .rejecting + 16 ≤ length (now rejecting)) ⌝ }
     ensures { λ r. ⌜ Judged p c (now (accepting .entry)) (now (accepting .exit)) (now (rejecting .entry)) (now (rejecting .exit)) n r ⌝ }
 {

@@ -1,6 +1,6 @@
+-- `decomposition::listing::append` meets its contract. Assumes nothing.
 use Rattle.decomposition.specs.Listed.{single}
 use Rattle.decomposition.proofs.CandidateLaws.{single-none, appended-none, appended-one}
-use native.Mathlib.Omega.{arith}
 use borrow.Author.Needs.{needs}
 use Rattle.decomposition.proofs.listing.append.Statement.{statement}
 use Rattle.decomposition.proofs.listing.append.Tie as tie

@@ -1,3 +1,5 @@
+-- `decomposition::listing::append_candidates` meets its contract. The invariant: the candidates at the states below v are appended, at most one for each.
+-- Assumes nothing.
 use Prim.Native.Nat.{_+_, _-_, _≤_}
 use mathlib.Core.Path.{_≡_, ap, _∙_, subst}
 use Rattle.policy.specs.Policies.{coloursOf}
@@ -8,7 +10,6 @@ use Rattle.decomposition.specs.Candidates.{candidatesOf}
 use Rattle.decomposition.specs.Listed.{Appended, candidatesTo}
 use Rattle.decomposition.proofs.CandidateLaws.{single-few, appended-none, appended-join, to-none, to-next, to-all, candidates-none}
 use native.Mathlib.Omega.{arith}
-use borrow.Author.Needs.{needs}
 use Rattle.decomposition.proofs.listing.append_candidates.Statement.{statement}
 use Rattle.decomposition.proofs.listing.append_candidates.Tie as tie
 

@@ -1,9 +1,9 @@
+-- `decomposition::listing::append_judged` meets its contract. Assumes nothing.
 use mathlib.Core.Path.{_≡_, sym, _∙_}
 use mathlib.Core.Bool.{true, false}
 use Rattle.policy.specs.Policies.{inFamily}
-use Rattle.decomposition.specs.Listed.{judgedOf, Judged}
+use Rattle.decomposition.specs.Listed.{judgedOf}
 use Rattle.decomposition.proofs.CandidateLaws.{appended-none, appended-is, judged-same, judged-other}
-use native.Mathlib.Omega.{arith}
 use borrow.Author.Needs.{needs}
 use Rattle.decomposition.proofs.listing.append_judged.Statement.{statement}
 use Rattle.decomposition.proofs.listing.append_judged.Tie as tie

@@ -1,6 +1,6 @@
+-- `decomposition::listing::candidate` meets its contract. Assumes nothing.
 use mathlib.Core.Path.{sym, _∙_}
 use Rattle.decomposition.proofs.CandidateLaws.{candidate-kept, candidate-high, candidate-other}
-use native.Mathlib.Omega.{arith}
 use borrow.Author.Needs.{needs}
 use Rattle.decomposition.proofs.listing.candidate.Statement.{statement}
 use Rattle.decomposition.proofs.listing.candidate.Tie as tie

@@ -1,3 +1,4 @@
+-- `decomposition::listing::coloured` meets its contract. The invariant: m is the edges below e in these colours. Assumes nothing.
 use Prim.Native.Nat.{_-_, _≤_}
 use mathlib.Core.Path.{_≡_, sym, _∙_}
 use mathlib.Core.Logic.{⊎-elim}
@@ -37,11 +38,13 @@ loop-less c = omega arith
 loop-again : tie.Need-loop-again Inv-loop μ-loop
 loop-again c =
     let s = c .before .before .before .before .before in
-    let e = c .before .before .before .loop .e in
-    (omega arith, ⊎-elim
-    (λ w. cc (coloured-in (s .args .p) (s .args .c) e (omega arith) (sym (c .before .is-coloured .ensures) ∙ w .0 .taken)))
-    (λ w. cc (coloured-out (s .args .p) (s .args .c) e (sym (c .before .is-coloured .ensures) ∙ w .0 .left)))
-    (c .if1 .came))
+    let e = c .before .before .before .loop .e in (
+      omega arith,
+      ⊎-elim
+          (λ w. cc (coloured-in (s .args .p) (s .args .c) e (omega arith) (sym (c .before .is-coloured .ensures) ∙ w .0 .taken)))
+          (λ w. cc (coloured-out (s .args .p) (s .args .c) e (sym (c .before .is-coloured .ensures) ∙ w .0 .left)))
+          (c .if1 .came),
+    )
 
 returns : tie.Need-returns Inv-loop μ-loop
 returns c =

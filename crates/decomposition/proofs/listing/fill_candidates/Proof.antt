@@ -1,7 +1,9 @@
+-- `decomposition::listing::fill_candidates` meets its contract. The invariant: the candidates of the colour sets before position i are listed, at most 16 for
+-- each. Assumes nothing.
 use Prim.Native.Nat.{_+_, _-_, _*_, _≤_, _<_}
 use mathlib.Core.Path.{_≡_, _∙_}
 use mathlib.Core.Bool.{true, false}
-use Rattle.decomposition.specs.Listed.{Appended, Judged, Listed, judgedTo}
+use Rattle.decomposition.specs.Listed.{Appended, judgedTo}
 use Rattle.decomposition.proofs.CandidateLaws.{appended-none, appended-join, judged-few, judged-none, judged-next, judged-all}
 use native.Mathlib.Omega.{arith}
 use borrow.Author.Needs.{needs}

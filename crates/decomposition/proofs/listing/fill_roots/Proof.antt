@@ -1,7 +1,9 @@
+-- `decomposition::listing::fill_roots` meets its contract. The invariant: the candidates for a root at the states below v are listed, at most one for each.
+-- Assumes nothing.
 use Prim.Native.Nat.{_+_, _-_, _≤_}
 use mathlib.Core.Path.{_≡_, _∙_}
 use Rattle.policy.proofs.Laws.{legal-counts, edges-le}
-use Rattle.decomposition.specs.Listed.{Appended, RootsListed, rootsTo}
+use Rattle.decomposition.specs.Listed.{Appended, rootsTo}
 use Rattle.decomposition.proofs.CandidateLaws.{single-few, appended-none, appended-join, full-is, roots-none, roots-next, roots-all}
 use native.Mathlib.Omega.{arith}
 use borrow.Author.Needs.{needs}

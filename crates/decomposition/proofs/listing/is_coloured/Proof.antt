@@ -1,7 +1,7 @@
+-- `decomposition::listing::is_coloured` meets its contract. Assumes nothing.
 use Rattle.policy.proofs.Laws.{legal-counts, legal-colour, edges-le}
 use Rattle.decomposition.proofs.CandidateLaws.{coloured-one}
 use native.Mathlib.Omega.{arith}
-use borrow.Author.Needs.{needs}
 use Rattle.decomposition.proofs.listing.is_coloured.Statement.{statement}
 use Rattle.decomposition.proofs.listing.is_coloured.Tie as tie
 

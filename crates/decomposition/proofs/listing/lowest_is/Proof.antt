@@ -1,3 +1,4 @@
+-- `decomposition::listing::lowest_is` meets its contract: no state below v is contained where no edge is below the first one of v. Assumes nothing.
 use Rattle.decomposition.proofs.CandidateLaws.{first-edge, lowest-by-mask}
 use native.Mathlib.Omega.{arith}
 use borrow.Author.Needs.{needs}

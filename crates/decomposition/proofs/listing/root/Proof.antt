@@ -1,6 +1,6 @@
+-- `decomposition::listing::root` meets its contract. Assumes nothing.
 use mathlib.Core.Path.{sym, _∙_}
 use Rattle.decomposition.proofs.CandidateLaws.{root-kept, root-high}
-use native.Mathlib.Omega.{arith}
 use borrow.Author.Needs.{needs}
 use Rattle.decomposition.proofs.listing.root.Statement.{statement}
 use Rattle.decomposition.proofs.listing.root.Tie as tie
