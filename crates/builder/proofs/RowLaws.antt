@@ -10,6 +10,7 @@ use mathlib.Core.Bool.{Bool, true, false, cond, true≢false, false≢true}
 use mathlib.Core.List.{List, [], _∷_, List·Memᴰ, Memᴰ·cast}
 use lib.Dec.{eqb, ltb}
 use lib.ListN.{length, getD, set, length-set}
+use lib.Seq.{getD-set-same, getD-set-other}
 use Rattle.lists.specs.Lists.{filter, firstOr}
 use Rattle.lists.proofs.Lists.{filter-mem}
 use Rattle.lists.proofs.Bools.{test, eqb≡, ≡eqb, neqb, lt-true, lt-false}
@@ -17,14 +18,14 @@ use Rattle.masks.specs.Masks.{has}
 use Rattle.masks.proofs.Bits.{inside-all}
 use Rattle.policy.specs.declared.Policy.{Policy}
 use Rattle.policy.specs.Policies.{edges, edgeOf, source, targetOf, legal}
-use Rattle.policy.proofs.Laws.{legal-target, source-edge, edge-lt}
+use Rattle.policy.proofs.Laws.{legal-target, edges-le, source-edge, edge-lt}
 use Rattle.graph.proofs.Cycles.{some-contains}
 use Rattle.decomposition.specs.Forest.{Node, forest, priority, transientPriority, node, chain, childOf, inRoot}
 use Rattle.decomposition.specs.Laws.{ForestLaws, maskAt, parentAt, rootAt}
 use Rattle.decomposition.proofs.Chains.{chain-self, chain-le, chain-lt, chain-parent, chain-trans, chain-linear, chain-top}
 use Rattle.decomposition.proofs.Forest.{forest-laws}
 use Rattle.builder.specs.Automaton.{orElse, deepest, lead, isLeaf, leaves, firstLeaf, leafAfter, priorityAfter, built, stateAt, number, rowTarget, rowPriority}
-use Rattle.builder.specs.Stages.{endOf, firstOver}
+use Rattle.builder.specs.Stages.{endOf, firstOver, Nodes}
 use Rattle.builder.specs.Rows.{ParentColumn, LeafColumn, AscendsIn, LowerBound, Met, raisedTo}
 use Rattle.builder.proofs.EdgeRuns.{Good}
 use Rattle.builder.proofs.Next.{first-cases}
@@ -86,7 +87,7 @@ module _ (p : Policy) where
         go (inl t) = let r = root-with ns p e t in absurd (h (r .0) (r .1) (r .2) (r .3))
         go (inr f) = f
 
-    pub climb-start : Climbing e l l l
+    climb-start : Climbing e l l l
     climb-start = go good
       where
         go : Good ns p (source p e) l → Climbing e l l l
@@ -94,12 +95,12 @@ module _ (p : Policy) where
         go (inr g) = inl (g .0, no-root (λ n h t u. true≢false (sym (some-contains p (source p e) (maskAt ns n) e he u refl) ∙ g .1 n h)))
 
     -- a number that is a node's
-    pub climb-in : (n c : ℕ) → Climbing e l n c → n ≢ 65535 → n < length (forest p)
+    climb-in : (n c : ℕ) → Climbing e l n c → n ≢ 65535 → n < length (forest p)
     climb-in n c (inl k) h = absurd (h (k .0))
     climb-in n c (inr k) h = k .0
 
     -- from a node without e to its parent
-    pub climb-up : (n c : ℕ) → Climbing e l n c → n ≢ 65535 → has (maskAt (forest p) n) e ≡ false → Climbing e l (parentAt (forest p) n) n
+    climb-up : (n c : ℕ) → Climbing e l n c → n ≢ 65535 → has (maskAt (forest p) n) e ≡ false → Climbing e l (parentAt (forest p) n) n
     climb-up n c (inl k) h f = absurd (h (k .0))
     climb-up n c (inr k) h f = go (test (rootAt ns n))
       where
@@ -117,7 +118,7 @@ module _ (p : Policy) where
             inr (of-child ns (parentAt ns n) n t refl, k .2, f))
 
     -- the walk ends: its measure
-    pub climb-less : (n c : ℕ) → Climbing e l n c → n ≢ 65535 → left (parentAt (forest p) n) < left n
+    climb-less : (n c : ℕ) → Climbing e l n c → n ≢ 65535 → left (parentAt (forest p) n) < left n
     climb-less n c k h = rw (neqb n 65535 h) (go (test (rootAt ns n)))
       where
         i : n < length ns
@@ -128,7 +129,7 @@ module _ (p : Policy) where
         go (inr t) = let q = laws .parent-lt n i t in rw (neqb (parentAt ns n) 65535 (λ z. omega (arith, z, i, few))) (omega arith)
 
     -- a node with e: it is the deepest one
-    pub climb-met : (n c : ℕ) → Climbing e l n c → n ≢ 65535 → has (maskAt (forest p) n) e ≡ true → Met p e l true n c (priority p (node (forest p) n))
+    climb-met : (n c : ℕ) → Climbing e l n c → n ≢ 65535 → has (maskAt (forest p) n) e ≡ true → Met p e l true n c (priority p (node (forest p) n))
     unfolding priorityAfter
     climb-met n c (inl k) h t = absurd (h (k .0))
     climb-met n c (inr k) h t = record {
@@ -156,7 +157,7 @@ module _ (p : Policy) where
         leads (inr q) = lead-is p ns laws n c l (k .1) (q .0) (q .1)
 
     -- past the root
-    pub climb-none : (n c at child : ℕ) → Climbing e l n c → n ≡ 65535 → Met p e l false at child 0
+    climb-none : (n c at child : ℕ) → Climbing e l n c → n ≡ 65535 → Met p e l false at child 0
     unfolding priorityAfter transientPriority
     climb-none n c at child (inl k) h = record {
       in-root = sym (k .1);
@@ -165,6 +166,47 @@ module _ (p : Policy) where
       priority-is = rw (k .1) refl;
     }
     climb-none n c at child (inr k) h = absurd (omega (arith, k .0))
+
+-- ---- the walk over the tables
+-- what the walk is called with
+abbrev pub Called : Policy → List ℕ → List ℕ → List ℕ → ℕ → ℕ → Type 0
+Called p masks parents ranks e l =
+    (legal p ≡ true) × Nodes p masks parents ranks × (e < edges p) × List·Memᴰ l (orElse 65535 (leaves (forest p) p (source p e)))
+
+module _ (p : Policy) (masks parents ranks : List ℕ) (e l : ℕ) (a : Called p masks parents ranks e l) where
+  good : Good (forest p) p (source p e) l
+  good = leaves-good p (forest p) (forest-laws p (a .0)) (source p e) l (a .3)
+
+  pub edge-small : e < 64
+  edge-small = omega (arith, a .2, edges-le p (a .0))
+
+  pub walk-start : Climbing p e l l l
+  walk-start = climb-start p (a .0) (a .1 .few) e (a .2) l good
+
+  pub walk-none : (n c at child : ℕ) → Climbing p e l n c → n ≡ 65535 → Met p e l false at child 0
+  walk-none = climb-none p (a .0) (a .1 .few) e (a .2) l good
+
+  module _ (n c : ℕ) (k : Climbing p e l n c) (h : n ≢ 65535) where
+    at-node : n < length (forest p)
+    at-node = climb-in p (a .0) (a .1 .few) e (a .2) l good n c k h
+
+    pub walk-small : n < 65535
+    walk-small = omega (arith, at-node, a .1 .few)
+
+    pub walk-in : (n < length masks) × (n < length parents) × (n < length ranks)
+    walk-in = (omega (arith, at-node, a .1 .masks-long), omega (arith, at-node, a .1 .parents-long), omega (arith, at-node, a .1 .ranks-long))
+
+    pub walk-up : (up : ℕ) → up ≡ getD parents n 0 → has (getD masks n 0) e ≡ false → Climbing p e l up n
+    walk-up up u f =
+        subst (λ (x : ℕ). Climbing p e l x n) (sym (u ∙ a .1 .parents-are n at-node))
+        (climb-up p (a .0) (a .1 .few) e (a .2) l good n c k h (subst (λ (m : ℕ). has m e ≡ false) (a .1 .masks-are n at-node) f))
+
+    pub walk-less : (up : ℕ) → up ≡ getD parents n 0 → left up < left n
+    walk-less up u = subst (λ (x : ℕ). left x < left n) (sym (u ∙ a .1 .parents-are n at-node)) (climb-less p (a .0) (a .1 .few) e (a .2) l good n c k h)
+
+    pub walk-met : has (getD masks n 0) e ≡ true → Met p e l true n c (getD ranks n 0)
+    walk-met t =
+        subst (Met p e l true n c) (sym (a .1 .ranks-are n at-node)) (climb-met p (a .0) (a .1 .few) e (a .2) l good n c k h (subst (λ (m : ℕ). has m e ≡ true) (a .1 .masks-are n at-node) t))
 
 -- ---- the searches
 module _ (p : Policy) (ok : legal p ≡ true) (ls : List ℕ) (col : LeafColumn p ls) (e : ℕ) (he : e < edges p) (l : ℕ) (good : Good (forest p) p (source p e) l)
@@ -267,3 +309,36 @@ module _ (l : List ℕ) (from to x : ℕ) where
 
   pub narrowed-done : (low high : ℕ) → Narrowed l from to x low high → high ≤ low → LowerBound l from to x low
   narrowed-done low high r h = record { low = r .from-low; high = omega (arith, r .low-high, r .high-to); before = r .before; after = λ i a b. r .after i (omega arith) b }
+
+-- ---- filling in the ends
+-- the first n places hold their successors
+abbrev pub Own : List ℕ → ℕ → Type 0
+Own l n = (i : ℕ) → i < n → getD l i 0 ≡ i + 1
+
+pub own-more : (l : List ℕ) (n : ℕ) → n < length l → Own l n → Own (set l n (n + 1)) (n + 1)
+own-more l n h own i q = go (ℕ-discrete i n)
+  where
+    go : Dec (i ≡ n) → getD (set l n (n + 1)) i 0 ≡ i + 1
+    go (yes e) = ap (λ (j : ℕ). getD (set l n (n + 1)) j 0) e ∙ getD-set-same l n (n + 1) 0 h ∙ ap (λ (j : ℕ). j + 1) (sym e)
+    go (no e) = getD-set-other l n i (n + 1) 0 e ∙ own i (omega arith)
+
+pub raised-length : (l : List ℕ) (up n : ℕ) → length (raisedTo l up n) ≡ length l
+unfolding raisedTo
+raised-length l up n = go (ltb (getD l up 0) (getD l n 0))
+  where
+    go : (b : Bool) → length (cond b (set l up (getD l n 0)) l) ≡ length l
+    go true = length-set l up (getD l n 0)
+    go false = refl
+
+-- a turn of the loop from the last node down, at a node that is no root
+pub raise-turn : (p : Policy) → legal p ≡ true → (ends : List ℕ) (n : ℕ) → Raised (forest p) ends (n + 1) → n < length (forest p) → rootAt (forest p) n ≡ false
+    → Raised (forest p) (raisedTo ends (parentAt (forest p) n) n) n
+unfolding raisedTo
+raise-turn p ok ends n r h f = go (test (ltb (getD ends (parentAt (forest p) n) 0) (getD ends n 0)))
+  where
+    up : ℕ
+    up = parentAt (forest p) n
+
+    go : (ltb (getD ends up 0) (getD ends n 0) ≡ true) ⊎ (ltb (getD ends up 0) (getD ends n 0) ≡ false) → Raised (forest p) (cond (ltb (getD ends up 0) (getD ends n 0)) (set ends up (getD ends n 0)) ends) n
+    go (inl t) = rw t (raised-more p (forest p) (forest-laws p ok) ends n r h f (omega (arith, lt-true (getD ends up 0) (getD ends n 0) t)))
+    go (inr t) = rw t (raised-kept p (forest p) (forest-laws p ok) ends n r h (lt-false (getD ends up 0) (getD ends n 0) t))

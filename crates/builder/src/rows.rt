@@ -20,6 +20,13 @@ fn wide(x: u16) -> usize
     x as usize
 }
 
+// A small number as a place.
+fn byte(x: u8) -> usize
+    ensures { λ r. ⌜ r ≡ x ⌝ }
+{
+    x as usize
+}
+
 // The first place from `from` up to `to` whose entry is x or more; `to` where there is none.
 pub fn lower_bound(entries: &[u16], from: usize, to: usize, x: usize) -> usize
     requires { ⌜ (from ≤ to) × (to ≤ length (now entries)) × AscendsIn (now entries) from to ⌝ }
@@ -36,4 +43,124 @@ pub fn lower_bound(entries: &[u16], from: usize, to: usize, x: usize) -> usize
         }
     }
     low
+}
+
+// Each node ends right after itself.
+fn fill_own(count: usize, ends: &mut [u16])
+    requires { ⌜ (count ≤ 65535) × (count ≤ length (now ends)) ⌝ }
+    ensures { λ _. ⌜ (length (now (ends .exit)) ≡ length (now (ends .entry))) × ((n : ℕ) → n < count → getD (now (ends .exit)) n 0 ≡ n + 1) ⌝ }
+{
+    let mut n = 0;
+    while n < count {
+        ends[n] = (n + 1) as u16;
+        n += 1;
+    }
+}
+
+// What stands at `up` is raised to what stands at n.
+fn raise(ends: &mut [u16], up: usize, n: usize)
+    requires { ⌜ (up < length (now ends)) × (n < length (now ends)) ⌝ }
+    ensures { λ _. ⌜ now (ends .exit) ≡ raisedTo (now (ends .entry)) up n ⌝ }
+{
+    let end = ends[n];
+    if ends[up] < end {
+        ends[up] = end;
+    }
+}
+
+// Where each node's descendants end: from the last node down, each raises the end of its parent.
+pub fn fill_ends(p: Policy, parents: &[u16], count: usize, ends: &mut [u16])
+    requires { ⌜ (legal p ≡ true) × ParentColumn p (now parents) × (count ≡ length (forest p)) × (count ≤ length (now ends)) ⌝ }
+    ensures { λ _. ⌜ Ends p (now (ends .exit)) × (length (now (ends .exit)) ≡ length (now (ends .entry))) ⌝ }
+{
+    fill_own(count, ends);
+    let mut n = count;
+    while 0 < n {
+        n -= 1;
+        let up = wide(parents[n]);
+        if up != 65535 {
+            raise(ends, up, n);
+        }
+    }
+}
+
+// Where an edge meets the branch of a leaf: whether it does; the deepest node that has it; the child of that node that leads to the leaf, or
+// the node itself where it is the leaf; the node's priority.
+pub struct Meeting {
+    pub met: bool,
+    pub node: usize,
+    pub child: usize,
+    pub priority: u8,
+}
+
+// From the leaf up to the deepest node that has e.
+fn climb(p: Policy, masks: &[u64], parents: &[u16], ranks: &[u8], e: usize, leaf: usize) -> Meeting
+    requires { ⌜ (legal p ≡ true) × Nodes p (now masks) (now parents) (now ranks) × (e < edges p) × List·Memᴰ leaf (orElse 65535 (leaves (forest p) p (source p e))) ⌝ }
+    ensures { λ r. ⌜ Met p e leaf (r .met) (r .node) (r .child) (r .priority) ⌝ }
+{
+    let mut n = leaf;
+    let mut child = leaf;
+    while n != 65535 {
+        if masks::has(masks[n], e) {
+            return Meeting {
+                met: true,
+                node: n,
+                child: child,
+                priority: ranks[n],
+            };
+        }
+        child = n;
+        n = wide(parents[n]);
+    }
+    Meeting {
+        met: false,
+        node: 0,
+        child: 0,
+        priority: 0,
+    }
+}
+
+// The state that e leads to from a leaf, among those over its target, which stand from `from` up to `to`.
+fn find(p: Policy, ends: &[u16], entries: &[u16], e: usize, leaf: usize, m: Meeting, from: usize, to: usize) -> usize
+    requires place { ⌜ (legal p ≡ true) × (e < edges p) × List·Memᴰ leaf (orElse 65535 (leaves (forest p) p (source p e))) × Met p e leaf (m .met) (m .node) (m .child) (m .priority) ⌝ }
+    requires tables { ⌜ (length (forest p) ≤ 65535) × Ends p (now ends) × LeafColumn p (now entries) × (from ≡ firstOver p (targetOf p e)) × (to ≡ firstOver p (targetOf p e + 1)) ⌝ }
+    ensures { λ r. ⌜ r ≡ number p (targetOf p e) (leafAfter (forest p) p e leaf) ⌝ }
+{
+    let node = m.node;
+    let child = m.child;
+    if !m.met {
+        return from;
+    }
+    if child != node {
+        let after = lower_bound(entries, from, to, wide(ends[child]));
+        if after < to {
+            if entries[after] < ends[node] {
+                return after;
+            }
+        }
+    }
+    lower_bound(entries, from, to, node)
+}
+
+// A row of the automaton.
+pub struct Row {
+    pub target: u16,
+    pub priority: u8,
+}
+
+// The row of the built state s and a letter.
+pub fn row_of(p: Policy, masks: &[u64], parents: &[u16], ranks: &[u8], ends: &[u16], sources: &[u8], entries: &[u16], starts: &[usize; 17], s: usize, letter: u8) -> Row
+    requires nodes { ⌜ (legal p ≡ true) × Nodes p (now masks) (now parents) (now ranks) × Ends p (now ends) ⌝ }
+    requires states { ⌜ States p (now sources) (now entries) × Starts p (now starts) × (s < length (built p)) × (letter < p .letters) ⌝ }
+    ensures { λ r. ⌜ (r .target ≡ rowTarget p s letter) × (r .priority ≡ rowPriority p s letter) ⌝ }
+{
+    let e = byte(sources[s]) * byte(p.letters) + byte(letter);
+    let w = byte(p.target[e]);
+    let leaf = wide(entries[s]);
+    let m = climb(p, masks, parents, ranks, e, leaf);
+    let target = find(p, ends, entries, e, leaf, m, starts[w], starts[w + 1]);
+    Row {
+        target: target as u16,
+        priority: m.priority,
+    }
 }
