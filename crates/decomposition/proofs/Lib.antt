@@ -13,3 +13,4 @@ pub mod Following
 pub mod Siblings
 pub mod NodeLaws
 pub mod CandidateLaws
+pub mod NodeColumns

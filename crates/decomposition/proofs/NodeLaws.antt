@@ -1,10 +1,11 @@
 -- What the code of the node tables rests on: the search for the next node, from the last node up to its root. Assumes nothing.
 use Prim.Native.Nat.{ℕ, zero, suc, _+_, _-_, _≤_, _<_}
 use native.Mathlib.Omega.{arith}
+use native.Mathlib.Decide.{decLt}
 use mathlib.Core.Path.{_≡_, refl, sym, ap, ap₂, _∙_, subst}
 use mathlib.Core.Logic.{_⊎_, inl, inr, _≢_}
 use mathlib.Core.Bool.{Bool, true, false, not, cond, true≢false}
-use mathlib.Core.List.{List, [], _∷_}
+use mathlib.Core.List.{List, [], _∷_, List·Memᴰ}
 use lib.Dec.{eqb}
 use lib.ListN.{length, getD}
 use Rattle.lists.proofs.Bools.{test, eqb≡, ≡eqb, neqb}
@@ -16,12 +17,13 @@ use Rattle.decomposition.specs.Laws.{ForestLaws, maskAt, parentAt, rootA
 use Rattle.decomposition.specs.Next.{Next, firstIn, afterIn, siblings, climb, nextAfter, nextNode}
 use Rattle.decomposition.specs.Candidates.{candidates, judged, rootCandidates}
 use Rattle.decomposition.specs.Siblings.{childrenIn, nextIn}
-use Rattle.decomposition.specs.NodeTables.{Searched, Listed, Written}
+use Rattle.decomposition.specs.NodeTables.{Searched, Sought, Written}
 use Rattle.decomposition.proofs.Chains.{chain-root, chain-child}
-use Rattle.decomposition.proofs.Children.{root-few, child-fewer, ordered-children, ordered-roots}
+use Rattle.decomposition.proofs.Children.{root-cycle, root-few, child, child-fewer, ordered-children, ordered-roots}
 use Rattle.decomposition.proofs.Candidates.{candidate-cycle, judged-mem, judged-distinct, root-candidates-cycle, root-candidates-distinct, children-are, roots-are, node-candidate}
 use Rattle.decomposition.proofs.Numbered.{Numbered, numbered}
 use Rattle.decomposition.proofs.Forest.{forest-laws}
+use Rattle.decomposition.proofs.Following.{next-is, next-none}
 
 -- ---- the next of some siblings
 next-first : (l : List ℕ) → nextIn 0 l ≡ firstIn l
@@ -69,10 +71,10 @@ module _ (p : Policy) (lawful : legal p ≡ true) where
   pub roots-searched : {l : List ℕ} → l ≡ rootCandidates p → Searched l
   roots-searched {l} e = rw e (root-candidates-distinct p lawful, λ x k. cycle-some p x (root-candidates-cycle p lawful x k))
 
-  laws : ForestLaws p (forest p)
+  pub laws : ForestLaws p (forest p)
   laws = forest-laws p lawful
 
-  numbers : Numbered p (forest p)
+  pub numbers : Numbered p (forest p)
   numbers = numbered p (child-fewer p) (root-few p) (ordered-children p) (ordered-roots p)
 
   pub mask-some : (n : ℕ) → n < length (forest p) → maskAt (forest p) n ≢ 0
@@ -116,7 +118,7 @@ module _ (p : Policy) (lawful : legal p ≡ true) where
         go zero l = absurd (omega arith)
         go (suc n) l = let e : suc n - 1 ≡ n = omega arith in rw e refl
 
-    module _ {accepting′ rejecting′ roots′ : List ℕ} (listed : Listed p accepting′ rejecting′ roots′) where
+    module _ {accepting′ rejecting′ roots′ : List ℕ} (listed : Sought p accepting′ rejecting′ roots′) where
       -- what a search of the list of the other verdict gives
       pub searched-children : {n : ℕ} {v : Bool} {after s : ℕ} → Looking p count n v after → s ≡ nextIn after (childrenIn (cond v rejecting′ accepting′) (getD masks n 0)) → s ≡ nextIn after (children p (maskAt (forest p) n))
       searched-children {n} {v} {after} {s} k e =
@@ -140,11 +142,14 @@ module _ (p : Policy) (lawful : legal p ≡ true) where
       -- one step up
       pub looking-up : {n : ℕ} {v : Bool} {after s : ℕ} → Looking p count n v after → s ≡ nextIn after (childrenIn (cond v rejecting′ accepting′) (getD masks n 0)) → s ≡ 0
           → getD parents n 0 ≢ 65535 → (getD parents n 0 < n) × Looking p count (getD parents n 0) (not v) (getD masks n 0)
-      looking-up {n} {v} {after} {s} k e z h = (omega (arith, lt, q), record {
-        below = omega (arith, lt, q, k .below);
-        verdict = ap not (k .verdict ∙ laws .turned n l f) ∙ not-not (accepting p (maskAt (forest p) (parentAt (forest p) n))) ∙ ap (λ (i : ℕ). accepting p (maskAt (forest p) i)) (sym q);
-        from = none-found k e z ∙ climb-child n l f ∙ ap₂ (λ (i m : ℕ). under p i (nextIn m (children p (maskAt (forest p) i)))) (sym q) (sym (w .masks-are n (k .below)));
-      })
+      looking-up {n} {v} {after} {s} k e z h = (
+        omega (arith, lt, q),
+        record {
+          below = omega (arith, lt, q, k .below);
+          verdict = ap not (k .verdict ∙ laws .turned n l f) ∙ not-not (accepting p (maskAt (forest p) (parentAt (forest p) n))) ∙ ap (λ (i : ℕ). accepting p (maskAt (forest p) i)) (sym q);
+          from = none-found k e z ∙ climb-child n l f ∙ ap₂ (λ (i m : ℕ). under p i (nextIn m (children p (maskAt (forest p) i)))) (sym q) (sym (w .masks-are n (k .below)));
+        },
+      )
         where
           l : n < length (forest p)
           l = omega (arith, k .below, w .at-most)
@@ -170,3 +175,31 @@ module _ (p : Policy) (lawful : legal p ≡ true) where
   pub first-root : {roots′ : List ℕ} {r : ℕ} → roots′ ≡ rootCandidates p → r ≡ nextIn 0 (inOrder roots′) → nextNode p (forest p) 0 ≡ found r 65535
   unfolding nextNode nextIn
   first-root {roots′} {r} e d = ap (λ (m : ℕ). found m 65535) (ap firstIn (roots-are p lawful ∙ ap inOrder (sym e)) ∙ sym d)
+
+  -- ---- what is found
+  child-some : (m c : ℕ) → List·Memᴰ c (children p m) → c ≢ 0
+  child-some m c k = cycle-some p c (child p m c k .cycle)
+
+  root-some : (r : ℕ) → List·Memᴰ r (roots p) → r ≢ 0
+  root-some r k = cycle-some p r (root-cycle p r k)
+
+  -- the next node, where a mask is found
+  pub found-some : {count m q : ℕ} → count ≤ length (forest p) → m ≡ nextNode p (forest p) count .mask → q ≡ nextNode p (forest p) count .parent → m ≢ 0
+      → (count < length (forest p)) × (m ≡ maskAt (forest p) count) × (q ≡ parentAt (forest p) count)
+  found-some {count} {m} {q} h e d z = go (decLt count (length (forest p)))
+    where
+      go : Dec (count < length (forest p)) → (count < length (forest p)) × (m ≡ maskAt (forest p) count) × (q ≡ parentAt (forest p) count)
+      go (yes l) =
+          let r = next-is p (child-fewer p) (root-few p) (ordered-children p) (ordered-roots p) child-some root-some count l in
+          (l, e ∙ r .0, d ∙ r .1)
+      go (no n) =
+          let whole : count ≡ length (forest p) = omega arith in
+          absurd (z (e ∙ ap (λ (i : ℕ). nextNode p (forest p) i .mask) whole ∙ next-none p (child-fewer p) (root-few p) (ordered-children p) (ordered-roots p) child-some root-some))
+
+  -- and where none is
+  pub found-none : {count m : ℕ} → count ≤ length (forest p) → m ≡ nextNode p (forest p) count .mask → m ≡ 0 → count ≡ length (forest p)
+  found-none {count} {m} h e z = go (decLt count (length (forest p)))
+    where
+      go : Dec (count < length (forest p)) → count ≡ length (forest p)
+      go (yes l) = absurd (mask-some count l (sym (e ∙ next-is p (child-fewer p) (root-few p) (ordered-children p) (ordered-roots p) child-some root-some count l .0) ∙ z))
+      go (no n) = omega arith

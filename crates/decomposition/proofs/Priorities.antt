@@ -1,6 +1,6 @@
 -- The laws of priorities: a root's is even exactly if the root is accepting, and a child's has the other parity and is larger than its
 -- parent's. No other file looks at what a priority is. Assumes nothing.
-use Prim.Native.Nat.{ℕ, suc, _+_, _%_, _<_}
+use Prim.Native.Nat.{ℕ, suc, _+_, _%_, _≤_, _<_}
 use native.Mathlib.Omega.{arith}
 use native.Mathlib.Decide.{ℕ-discrete}
 use mathlib.Core.Path.{_≡_, ap, _∙_}
@@ -36,3 +36,18 @@ module _ (p : Policy) where
 
   pub child-larger : (x y : Node) → y .level ≡ x .level + 1 → y .accepted ≡ x .accepted → priority p x < priority p y
   child-larger x y l a = omega (arith, child-suc x y l a)
+
+  pub priority-root : (x : Node) → isRoot x ≡ true → priority p x ≡ cond (x .accepted) 0 1
+  unfolding priority
+  priority-root x r = omega (arith, eqb≡ (x .level) 0 r)
+
+  pub priority-child : (x y : Node) → y .level ≡ x .level + 1 → y .accepted ≡ x .accepted → priority p y ≡ priority p x + 1
+  priority-child x y l a = omega (arith, child-suc x y l a)
+
+  pub priority-few : (x : Node) → priority p x ≤ x .level + 1
+  unfolding priority
+  priority-few x = go (x .accepted)
+    where
+      go : (b : Bool) → x .level + cond b 0 1 ≤ x .level + 1
+      go true = omega arith
+      go false = omega arith

@@ -8,14 +8,14 @@ use Rattle.policy.specs.declared.Policy.{Policy}
 use Rattle.policy.specs.Policies.{legal}
 use Rattle.decomposition.specs.Forest.{forest}
 use Rattle.decomposition.specs.Next.{Next, nextNode}
-use Rattle.decomposition.specs.NodeTables.{Listed, Written}
+use Rattle.decomposition.specs.NodeTables.{Sought, Written}
 use Rattle.decomposition.proofs.NodeLaws.{Looking, judged-searched, roots-searched, looking-last, looking-found, looking-up, looking-root, first-root}
 use Rattle.decomposition.proofs.nodes.next_node.Statement.{statement}
 use Rattle.decomposition.proofs.nodes.next_node.Tie as tie
 
 abbrev Inv-loop : tie.InvT-loop
 Inv-loop accepting rejecting roots masks parents count n₀ verdict₀ after₀ n verdict after =
-    (p : Policy) → legal p ≡ true → Listed p accepting rejecting roots → Written p masks parents count → Looking p count n₀ verdict₀ after₀ → Looking p count n verdict after
+    (p : Policy) → legal p ≡ true → Sought p accepting rejecting roots → Written p masks parents count → Looking p count n₀ verdict₀ after₀ → Looking p count n verdict after
 
 abbrev μ-loop : tie.MeasureT-loop
 μ-loop accepting rejecting roots masks parents count n₀ verdict₀ after₀ n verdict after = n
