@@ -1,3 +1,4 @@
 pub mod Pigeon
 pub mod Periods
 pub mod Runs
+pub mod Repeats
