@@ -1,4 +1,11 @@
-// Judging a stem and a loop repeated without end, on a policy and on the rows of a built automaton.
+// Judging a stem and a loop repeated without end, on a policy and on the rows of a built automaton. A round is one reading of the loop.
+ghost use mathlib.Core.Path.{_≡_};
+ghost use Prim.Native.Nat.{_≤_, _<_};
+ghost use Rattle.recurrence.specs.Recurs.{iter};
+ghost use Rattle.judging.specs.Judging.{inRange, rowsVerdict};
+ghost use Rattle.judging.specs.Rounds.{watchNext, Comes, seenState, seenWith, seenAfter};
+use running::Reading;
+use running::Run;
 
 // The colours that recur and whether their set is in the family; or document 01's number.
 pub enum PolicyVerdict {
@@ -10,4 +17,176 @@ pub enum PolicyVerdict {
 pub enum RowsVerdict {
     Least(u8),
     Refused(u8),
+}
+
+// Whether every letter is below the number of letters.
+fn in_range(letters: u8, word: &[u8]) -> bool
+    ensures { λ r. ⌜ r ≡ inRange letters (now (word .entry)) ⌝ }
+{
+    let mut b = true;
+    let mut i = 0;
+    while i < word.len() {
+        b = b & (word[i] < letters);
+        i += 1;
+    }
+    b
+}
+
+// What the search for a repeat keeps: the state at the end of an earlier round, how many rounds ago that was, and after how many rounds it gives way.
+pub struct Watch {
+    pub kept: u16,
+    pub since: usize,
+    pub limit: usize,
+}
+
+// A round more, which ended in the state: the kept state gives way to it when its time is up, and the next one stays twice as long.
+fn watch_next(w: Watch, state: u16) -> Watch
+    requires { ⌜ (w .since < 65536) × (w .limit < 262144) ⌝ }
+    ensures { λ r. ⌜ r ≡ watchNext w state ⌝ }
+{
+    if w.since + 1 == w.limit {
+        return Watch {
+            kept: state,
+            since: 0,
+            limit: w.limit * 2,
+        };
+    }
+    Watch {
+        kept: w.kept,
+        since: w.since + 1,
+        limit: w.limit,
+    }
+}
+
+// What a run over rows has come to: the run, the least priority met (255 of none), and whether it read a row whose target is no state.
+pub struct Seen {
+    pub run: Run,
+    pub least: u8,
+    pub stray: bool,
+}
+
+// After a reading more.
+fn seen_with(s: Seen, x: Reading) -> Seen
+    ensures { λ r. ⌜ r ≡ seenWith s x ⌝ }
+{
+    match x {
+        Reading::Moved(run, k) => {
+            if k < s.least {
+                return Seen {
+                    run: run,
+                    least: k,
+                    stray: s.stray,
+                };
+            }
+            Seen {
+                run: run,
+                least: s.least,
+                stray: s.stray,
+            }
+        }
+        Reading::Refused(number, run) => Seen {
+            run: run,
+            least: s.least,
+            stray: s.stray | (number == 13),
+        },
+    }
+}
+
+// After a list of letters.
+fn read_word(s: Seen, word: &[u8], letters: u8, targets: &[u16], priorities: &[u8]) -> Seen
+    ensures { λ r. ⌜ r ≡ seenAfter letters (now (targets .entry)) (now (priorities .entry)) (now (word .entry)) s ⌝ }
+{
+    let mut t = s;
+    let mut i = 0;
+    while i < word.len() {
+        let run = t.run;
+        t = seen_with(t, run.read(word[i], letters, targets, priorities));
+        i += 1;
+    }
+    t
+}
+
+// After k rounds.
+fn read_rounds(s: Seen, k: usize, cycle: &[u8], letters: u8, targets: &[u16], priorities: &[u8]) -> Seen
+    ensures { λ r. ⌜ r ≡ iter (seenAfter letters (now (targets .entry)) (now (priorities .entry)) (now (cycle .entry))) k s ⌝ }
+{
+    let mut t = s;
+    let mut i = 0;
+    while i < k {
+        t = read_word(t, cycle, letters, targets, priorities);
+        i += 1;
+    }
+    t
+}
+
+// Where the search for a repeat ends: what the run has come to, and how many rounds from there meet exactly what recurs.
+pub struct Found {
+    pub seen: Seen,
+    pub rounds: usize,
+}
+
+// Reads rounds until the run comes back to the state that is watched for, or for n rounds.
+fn find_repeat(s: Seen, n: usize, cycle: &[u8], letters: u8, targets: &[u16], priorities: &[u8]) -> Found
+    requires { ⌜ n < 65536 ⌝ }
+    ensures { λ r. ⌜ Comes (seenAfter letters (now (targets .entry)) (now (priorities .entry)) (now (cycle .entry))) seenState n s (r .seen) (r .rounds) ⌝ }
+{
+    let first = s.run;
+    let mut t = s;
+    let mut w = Watch {
+        kept: first.state,
+        since: 0,
+        limit: 1,
+    };
+    let mut round = 0;
+    while round < n {
+        t = read_word(t, cycle, letters, targets, priorities);
+        let run = t.run;
+        if run.state == w.kept {
+            return Found {
+                seen: t,
+                rounds: w.since + 1,
+            };
+        }
+        w = watch_next(w, run.state);
+        round += 1;
+    }
+    Found { seen: t, rounds: n }
+}
+
+// The least priority that the run over the rows meets again and again, from a state over the stem and then the loop without end.
+pub fn judge_rows(letters: u8, targets: &[u16], priorities: &[u8], state: u16, stem: &[u8], cycle: &[u8]) -> RowsVerdict
+    ensures { λ r. ⌜ r ≡ rowsVerdict letters (now (targets .entry)) (now (priorities .entry)) (record { state = state }) (now (stem .entry)) (now (cycle .entry)) ⌝ }
+{
+    if !running::is_shaped(letters, targets, priorities) {
+        return RowsVerdict::Refused(8);
+    }
+    let n = targets.len() / letters as usize;
+    if n <= state as usize {
+        return RowsVerdict::Refused(11);
+    }
+    if cycle.len() == 0 {
+        return RowsVerdict::Refused(14);
+    }
+    if !(in_range(letters, stem) & in_range(letters, cycle)) {
+        return RowsVerdict::Refused(12);
+    }
+    let start = Seen {
+        run: Run { state: state },
+        least: 255,
+        stray: false,
+    };
+    let before = read_word(start, stem, letters, targets, priorities);
+    let found = find_repeat(before, n, cycle, letters, targets, priorities);
+    let seen = found.seen;
+    if seen.stray {
+        return RowsVerdict::Refused(13);
+    }
+    let run = seen.run;
+    let again = Seen {
+        run: run,
+        least: 255,
+        stray: false,
+    };
+    let all = read_rounds(again, found.rounds, cycle, letters, targets, priorities);
+    RowsVerdict::Least(all.least)
 }
