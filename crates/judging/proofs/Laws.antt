@@ -1,0 +1,127 @@
+-- What the values that judging collects say of the lists behind them: the least priority, the set of the colours, whether there is a member. Each depends on
+-- the members alone. Assumes nothing.
+use Prim.Native.Nat.{ℕ, zero, suc, _^_, _≤_, _<_, min}
+use native.Mathlib.Omega.{arith}
+use mathlib.Core.Path.{_≡_, refl, sym, ap, _∙_}
+use mathlib.Core.Logic.{_⊎_, inl, inr, _↔_}
+use mathlib.Core.Bool.{Bool, true, false, _||_, cond, or-true, or-false, false≢true}
+use mathlib.Core.List.{List, [], _∷_, _++_, List·Memᴰ, List·Memᴰ·head, List·Memᴰ·tail, List·Memᴰ·not-nil, List·Memᴰ·append-cases, Memᴰ·append-left, Memᴰ·append-right, Memᴰ·cast}
+use lib.Bits.{bitOr}
+use lib.Dec.{eqb, ltb}
+use Rattle.lists.proofs.Bools.{test, eqb≡, ≡eqb, lt-true, lt-false, or-cases, or-left, or-right, bool-ext}
+use Rattle.masks.specs.Masks.{has, insert}
+use Rattle.masks.proofs.Bits.{has-or, has-none, has-insert, mask-ext}
+use Rattle.judging.specs.Judging.{nonEmpty, setOf, leastOf}
+
+-- ---- the least
+cond-min : (x y : ℕ) → cond (ltb x y) x y ≡ min x y
+cond-min x y = go (test (ltb x y))
+  where
+    go : (ltb x y ≡ true) ⊎ (ltb x y ≡ false) → cond (ltb x y) x y ≡ min x y
+    go (inl t) = rw t (omega (arith, lt-true x y t))
+    go (inr f) = rw f (omega (arith, lt-false x y f))
+
+pub least-cons : (x : ℕ) (l : List ℕ) → leastOf (x ∷ l) ≡ min x (leastOf l)
+unfolding leastOf
+least-cons x l = cond-min x (leastOf l)
+
+pub least-top : (l : List ℕ) → leastOf l ≤ 255
+unfolding leastOf
+least-top [] = omega arith
+least-top (x ∷ l) = omega (arith, least-cons x l, least-top l)
+
+pub least-append : (l r : List ℕ) → leastOf (l ++ r) ≡ min (leastOf l) (leastOf r)
+unfolding leastOf
+least-append [] r = omega (arith, least-top r)
+least-append (x ∷ l) r = omega (arith, least-cons x (l ++ r), least-cons x l, least-append l r)
+
+-- one more at the end, as the code takes it
+pub least-with : (l : List ℕ) (k least : ℕ) → least ≡ leastOf l → cond (ltb k least) k least ≡ leastOf (l ++ (k ∷ []))
+unfolding leastOf
+least-with l k least e = cond-min k least ∙ omega (arith, least-append l (k ∷ []), least-cons k [], least-top l)
+
+pub least-le : (l : List ℕ) (k : ℕ) → List·Memᴰ k l → leastOf l ≤ k
+least-le (x ∷ l) k (List·Memᴰ·head e) = omega (arith, least-cons x l)
+least-le (x ∷ l) k (List·Memᴰ·tail m) = omega (arith, least-cons x l, least-le l k m)
+
+pub least-cases : (l : List ℕ) → (leastOf l ≡ 255) ⊎ List·Memᴰ (leastOf l) l
+unfolding leastOf
+least-cases [] = inl refl
+least-cases (x ∷ l) = go (test (ltb x (leastOf l))) (least-cases l)
+  where
+    go : (ltb x (leastOf l) ≡ true) ⊎ (ltb x (leastOf l) ≡ false) → (leastOf l ≡ 255) ⊎ List·Memᴰ (leastOf l) l → (leastOf (x ∷ l) ≡ 255) ⊎ List·Memᴰ (leastOf (x ∷ l)) (x ∷ l)
+    go (inl t) ih = rw t (inr (List·Memᴰ·head refl))
+    go (inr f) (inl e) = rw f (inl e)
+    go (inr f) (inr m) = rw f (inr (List·Memᴰ·tail m))
+
+-- a list with a member of a byte has its least
+pub least-mem : (l : List ℕ) (k : ℕ) → List·Memᴰ k l → k ≤ 255 → List·Memᴰ (leastOf l) l
+least-mem l k m low = go (least-cases l)
+  where
+    go : (leastOf l ≡ 255) ⊎ List·Memᴰ (leastOf l) l → List·Memᴰ (leastOf l) l
+    go (inl e) = Memᴰ·cast (omega (arith, least-le l k m)) m
+    go (inr q) = q
+
+least-up : (l r : List ℕ) → ((y : ℕ) → List·Memᴰ y r → List·Memᴰ y l) → leastOf l ≤ leastOf r
+least-up l r h = go (least-cases r)
+  where
+    go : (leastOf r ≡ 255) ⊎ List·Memᴰ (leastOf r) r → leastOf l ≤ leastOf r
+    go (inl e) = omega (arith, least-top l)
+    go (inr m) = least-le l (leastOf r) (h (leastOf r) m)
+
+pub least-same : (l r : List ℕ) → ((y : ℕ) → List·Memᴰ y l ↔ List·Memᴰ y r) → leastOf l ≡ leastOf r
+least-same l r h = omega (arith, least-up l r (λ y. h y .1), least-up r l (λ y. h y .0))
+
+-- ---- the set
+pub set-has : (l : List ℕ) (c : ℕ) → (has (setOf l) c ≡ true) ↔ List·Memᴰ c l
+unfolding setOf
+set-has [] c = (λ t. absurd (false≢true (sym (has-none c) ∙ t)), λ m. absurd (List·Memᴰ·not-nil m))
+set-has (x ∷ l) c = (λ t. to (set-has l c) (or-cases (has (setOf l) c) (eqb x c) (sym (has-insert (setOf l) x c) ∙ t)), λ m. has-insert (setOf l) x c ∙ from (set-has l c) m)
+  where
+    to : (has (setOf l) c ≡ true) ↔ List·Memᴰ c l → (has (setOf l) c ≡ true) ⊎ (eqb x c ≡ true) → List·Memᴰ c (x ∷ l)
+    to ih (inl t) = List·Memᴰ·tail (ih .0 t)
+    to ih (inr t) = List·Memᴰ·head (sym (eqb≡ x c t))
+
+    from : (has (setOf l) c ≡ true) ↔ List·Memᴰ c l → List·Memᴰ c (x ∷ l) → has (setOf l) c || eqb x c ≡ true
+    from ih (List·Memᴰ·head e) = or-right (has (setOf l) c) (eqb x c) (≡eqb x c (sym e))
+    from ih (List·Memᴰ·tail m) = or-left (has (setOf l) c) (eqb x c) (ih .1 m)
+
+-- two sets with the same members
+sets-equal : (s : ℕ) (r : List ℕ) → ((c : ℕ) → (has s c ≡ true) ↔ List·Memᴰ c r) → s ≡ setOf r
+sets-equal s r h = mask-ext s (setOf r) (λ c. bool-ext (has s c) (has (setOf r) c) (λ t. set-has r c .1 (h c .0 t)) (λ t. h c .1 (set-has r c .0 t)))
+
+pub set-same : (l r : List ℕ) → ((y : ℕ) → List·Memᴰ y l ↔ List·Memᴰ y r) → setOf l ≡ setOf r
+set-same l r h = sets-equal (setOf l) r (λ c. (λ t. h c .0 (set-has l c .0 t), λ m. set-has l c .1 (h c .1 m)))
+
+pub set-append : (l r : List ℕ) → setOf (l ++ r) ≡ bitOr (setOf l) (setOf r)
+set-append l r = sym (sets-equal (bitOr (setOf l) (setOf r)) (l ++ r) (λ c. (λ t. to c (or-cases (has (setOf l) c) (has (setOf r) c) (sym (has-or c (setOf l) (setOf r)) ∙ t)), λ m. has-or c (setOf l) (setOf r) ∙ from c (List·Memᴰ·append-cases l m))))
+  where
+    to : (c : ℕ) → (has (setOf l) c ≡ true) ⊎ (has (setOf r) c ≡ true) → List·Memᴰ c (l ++ r)
+    to c (inl t) = Memᴰ·append-left r (set-has l c .0 t)
+    to c (inr t) = Memᴰ·append-right l (set-has r c .0 t)
+
+    from : (c : ℕ) → List·Memᴰ c l ⊎ List·Memᴰ c r → has (setOf l) c || has (setOf r) c ≡ true
+    from c (inl m) = or-left (has (setOf l) c) (has (setOf r) c) (set-has l c .1 m)
+    from c (inr m) = or-right (has (setOf l) c) (has (setOf r) c) (set-has r c .1 m)
+
+-- one more at the end, as the code takes it
+pub set-with : (l : List ℕ) (c s : ℕ) → s ≡ setOf l → insert s c ≡ setOf (l ++ (c ∷ []))
+unfolding setOf insert
+set-with l c s e = ap (λ (x : ℕ). bitOr x (2 ^ c)) e ∙ ap (bitOr (setOf l)) (sym (lib.Bits.or-zero-l (2 ^ c))) ∙ sym (set-append l (c ∷ []))
+
+-- ---- whether there is a member
+pub some-member : {A : Type 0} (l : List A) → nonEmpty l ≡ true → (y : A) × List·Memᴰ y l
+some-member [] e = absurd (false≢true e)
+some-member (x ∷ l) e = (x, List·Memᴰ·head refl)
+
+pub member-some : {A : Type 0} (l : List A) (y : A) → List·Memᴰ y l → nonEmpty l ≡ true
+member-some [] y m = absurd (List·Memᴰ·not-nil m)
+member-some (x ∷ l) y m = refl
+
+pub nonEmpty-append : {A : Type 0} (l r : List A) → nonEmpty (l ++ r) ≡ nonEmpty l || nonEmpty r
+nonEmpty-append [] r = refl
+nonEmpty-append (x ∷ l) r = refl
+
+pub nonEmpty-same : {A : Type 0} (l r : List A) → ((y : A) → List·Memᴰ y l ↔ List·Memᴰ y r) → nonEmpty l ≡ nonEmpty r
+nonEmpty-same l r h =
+    bool-ext (nonEmpty l) (nonEmpty r) (λ t. let q = some-member l t in member-some r (q .0) (h (q .0) .0 (q .1))) (λ t. let q = some-member r t in member-some l (q .0) (h (q .0) .1 (q .1)))

@@ -1,0 +1,120 @@
+use native.Mathlib.Omega.{arith}
+use mathlib.Core.Path.{_≡_, refl, sym, ap, ap₂, _∙_}
+use mathlib.Core.Bool.{true, _&&_}
+use borrow.Author.Tests.{not-true, not-false}
+use Rattle.running.specs.declared.Run.{Run}
+use Rattle.running.specs.Running.{rowStates, shaped}
+use Rattle.running.proofs.Laws.{shaped-facts}
+use Rattle.judging.specs.declared.RowsVerdict.the-variants.{Least}
+use Rattle.judging.specs.declared.Seen.{Seen}
+use Rattle.judging.specs.Judging.{inRange}
+use Rattle.judging.proofs.Rows.{seen-strays, seen-recurs, rows-8, rows-11, rows-14, rows-12, rows-13, rows-least}
+use borrow.Author.Needs.{needs}
+use Rattle.judging.proofs.judge_rows.Statement.{statement}
+use Rattle.judging.proofs.judge_rows.Tie as tie
+use Rattle.judging.proofs.judge_rows.Reads as reads
+use Rattle.judging.proofs.judge_rows.Lts as lts
+use Rattle.judging.proofs.find_repeat.Reads as find-repeat-reads
+use Rattle.judging.proofs.in_range.Reads as in-range-reads
+use Rattle.judging.proofs.read_rounds.Reads as read-rounds-reads
+use Rattle.judging.proofs.read_word.Reads as read-word-reads
+use Rattle.running.proofs.is_shaped.Reads as is-shaped-reads
+
+is-shaped-requires : tie.Need-is-shaped-requires
+is-shaped-requires c κs = search needs
+
+returns : tie.Need-returns
+returns c =
+    let a = c .before .before .before .before .before .before .args in
+    sym (rows-8 (a .letters) (a .targets .now) (a .priorities .now) (record { state = a .state }) (a .stem .now) (a .cycle .now) (sym (c .before .is-shaped .ensures) ∙ not-true _ (c .if1 .taken)))
+
+-- past question 8
+shape : (c : tie.Else1) → let a = c .before .before .before .before .before .before .args in shaped (a .letters) (a .targets .now) (a .priorities .now) ≡ true
+shape c = sym (c .before .is-shaped .ensures) ∙ not-false _ (c .if1 .left)
+
+
+div-n : tie.Need-div-n
+div-n c = omega (arith, shaped-facts _ _ _ (shape c))
+
+returns-2 : tie.Need-returns-2
+unfolding rowStates
+returns-2 c =
+    let a = c .before .before .before .before .before .before .before .args in
+    sym (rows-11 (a .letters) (a .targets .now) (a .priorities .now) (record { state = a .state }) (a .stem .now) (a .cycle .now) (shape (c .before)) (c .if2 .taken))
+
+returns-3 : tie.Need-returns-3
+unfolding rowStates
+returns-3 c =
+    let a = c .before .before .before .before .before .before .before .before .args in
+    sym (rows-14 (a .letters) (a .targets .now) (a .priorities .now) (record { state = a .state }) (a .stem .now) (a .cycle .now) (shape (c .before .before)) (c .before .if2 .left) (c .if3 .taken))
+
+in-range-requires : tie.Need-in-range-requires
+in-range-requires c κs = search needs
+
+in-range-requires-2 : tie.Need-in-range-requires-2
+in-range-requires-2 c κs = search needs
+
+returns-4 : tie.Need-returns-4
+unfolding rowStates
+returns-4 c =
+    let a = c .before .before .before .before .before .before .before .before .before .before .before .args in
+    let d = c .before .before .before in
+    sym (rows-12 (a .letters) (a .targets .now) (a .priorities .now) (record { state = a .state }) (a .stem .now) (a .cycle .now) (shape (d .before .before)) (d .before .if2 .left) (d .if3 .left)
+    (sym (ap₂ _&&_ (c .before .before .in-range .ensures) (c .before .in-range2 .ensures)) ∙ not-true _ (c .if4 .taken)))
+
+-- past question 12
+range : (c : tie.Else4) → let a = c .before .before .before .before .before .before .before .before .before .before .before .args in inRange (a .letters) (a .stem .now) && inRange (a .letters) (a .cycle .now) ≡ true
+range c = sym (ap₂ _&&_ (c .before .before .in-range .ensures) (c .before .in-range2 .ensures)) ∙ not-false _ (c .if4 .left)
+
+
+read-word-requires : tie.Need-read-word-requires
+read-word-requires c κs = search needs
+
+find-repeat-requires : tie.Need-find-repeat-requires
+find-repeat-requires c κs = omega (arith, shaped-facts _ _ _ (shape (c .before .before .before .before .before .before)) .few)
+
+returns-5 : tie.Need-returns-5
+unfolding rowStates
+returns-5 c =
+    let a = c .before .before .before .before .before .before .before .before .before .before .before .before .before .before .before .args in
+    let f = c .before .before in
+    let d = f .before .before in
+    let e = d .before .before .before in
+    let r : Run = record { state = a .state } in
+    sym (rows-13 (a .letters) (a .targets .now) (a .priorities .now) r (a .stem .now) (a .cycle .now) (shape (e .before .before)) (e .before .if2 .left) (e .if3 .left) (range d)
+    (sym (seen-strays (a .letters) (a .targets .now) (a .priorities .now) r (a .stem .now) (a .cycle .now) (e .before .if2 .left) _ _ _ (f .before .read-word .ensures) (f .find-repeat .ensures)) ∙ c .if5 .taken))
+
+read-rounds-requires : tie.Need-read-rounds-requires
+read-rounds-requires c κs = search needs
+
+returns-6 : tie.Need-returns-6
+unfolding rowStates
+returns-6 c =
+    let a = c .before .before .before .before .before .before .before .before .before .before .before .before .before .before .before .before .before .args in
+    let g = c .before .before in
+    let f = g .before .before in
+    let d = f .before .before in
+    let e = d .before .before .before in
+    let r : Run = record { state = a .state } in
+    ap Least (ap (λ (s : Seen). s .least) (c .read-rounds .ensures)
+    ∙ seen-recurs (a .letters) (a .targets .now) (a .priorities .now) r (a .stem .now) (a .cycle .now) (e .before .if2 .left) _ _ _ (f .before .read-word .ensures) (f .find-repeat .ensures) _ refl refl)
+    ∙ sym (rows-least (a .letters) (a .targets .now) (a .priorities .now) r (a .stem .now) (a .cycle .now) (shape (e .before .before)) (e .before .if2 .left) (e .if3 .left) (range d)
+    (sym (seen-strays (a .letters) (a .targets .now) (a .priorities .now) r (a .stem .now) (a .cycle .now) (e .before .if2 .left) _ _ _ (f .before .read-word .ensures) (f .find-repeat .ensures)) ∙ g .if5 .left))
+
+pub judge-rows-spec : {M : Type 1} → statement M
+judge-rows-spec =
+    tie.close
+    (tie.spec
+    is-shaped-requires
+    returns
+    div-n
+    returns-2
+    returns-3
+    in-range-requires
+    in-range-requires-2
+    returns-4
+    read-word-requires
+    find-repeat-requires
+    returns-5
+    read-rounds-requires
+    returns-6)
