@@ -1,0 +1,209 @@
+-- Two policies over one graph give every cycle the same verdict exactly if every pair of colour sets agrees. A cycle with exactly the colours c and d lies inside the largest
+-- one, through any of its states, of the edges with colours in c and d; and that one has exactly these colours too, hence the same two verdicts. Assumes nothing.
+use Prim.Native.Nat.{ℕ, _^_, _<_}
+use mathlib.Core.Path.{_≡_, refl, sym, ap, ap₂, _∙_, subst}
+use mathlib.Core.Logic.{_⊎_, inl, inr, _≢_}
+use mathlib.Core.Bool.{Bool, true, false, not, _&&_, _||_, true≢false, false≢true}
+use mathlib.Core.List.{List·Memᴰ}
+use lib.Dec.{eqb}
+use Rattle.lists.specs.Lists.{all, below}
+use Rattle.lists.proofs.Bools.{test, and-l, and-r, both, or-cases, or-left, or-right, eqb≡, ≡eqb, not-true, not-false, bool-ext}
+use Rattle.lists.proofs.Lists.{all-each, each-all, mem-below, below-lt}
+use Rattle.masks.specs.Masks.{has, inside, gather}
+use Rattle.masks.proofs.Bits.{inside-all, all-inside, inside-refl, inside-antisym, inside-trans}
+use Rattle.masks.proofs.Gather.{has-gather, gather-lt}
+use Rattle.policy.specs.declared.Policy.{Policy}
+use Rattle.policy.specs.Policies.{edges, edgeColours, coloursOf, inFamily, accepting, legal}
+use Rattle.policy.proofs.Laws.{legal-target, colours-some, some-colours, colours-up, colours-lt, accepting-is}
+use Rattle.graph.specs.Cycles.{isCycle, contains}
+use Rattle.graph.specs.Through.{cycleThrough}
+use Rattle.graph.proofs.Cycles.{Targets, bit-lt, some-nonzero, cycle-edge, contains-some}
+use Rattle.graph.proofs.Through.{through-inside, through-cycle, through-largest}
+use Rattle.decomposition.specs.Forest.{differs, full, cyclesIn}
+use Rattle.decomposition.proofs.Children.{cycles-mem, mem-cycles}
+use Rattle.decomposition.proofs.Full.{cycle-state, inside-full}
+use Rattle.comparing.specs.Comparing.{sameVerdicts}
+use Rattle.comparing.specs.Pairs.{Comparable, inPair, pairEdges, exactly, freeAt, isFree, pairAgrees, setAgrees, pairsAgree}
+use Rattle.comparing.proofs.Graphs.{same-edges}
+
+module _ (p q : Policy) where
+  -- ---- the edges with colours in c and d
+  pub pair-some : (c d e : ℕ) → has (pairEdges p q c d) e ≡ true
+      → (e < edges p) × ((x : ℕ) → List·Memᴰ x (edgeColours p e) → has c x ≡ true) × ((x : ℕ) → List·Memᴰ x (edgeColours q e) → has d x ≡ true)
+  unfolding pairEdges inPair
+  pair-some c d e h =
+      let l = bit-lt (edges p) (pairEdges p q c d) e (gather-lt (inPair p q c d) (edges p)) h in
+      let t : inPair p q c d e ≡ true = sym (has-gather (inPair p q c d) (edges p) e l) ∙ h in
+      let a = all (has c) (edgeColours p e) in
+      let b = all (has d) (edgeColours q e) in
+      (l, all-each (has c) (edgeColours p e) (and-l a b t), all-each (has d) (edgeColours q e) (and-r a b t))
+
+  some-pair : (c d e : ℕ) → e < edges p → ((x : ℕ) → List·Memᴰ x (edgeColours p e) → has c x ≡ true) → ((x : ℕ) → List·Memᴰ x (edgeColours q e) → has d x ≡ true)
+      → has (pairEdges p q c d) e ≡ true
+  unfolding pairEdges inPair
+  some-pair c d e l f g =
+      has-gather (inPair p q c d) (edges p) e l
+      ∙ both (all (has c) (edgeColours p e)) (all (has d) (edgeColours q e)) (each-all (has c) (edgeColours p e) f) (each-all (has d) (edgeColours q e) g)
+
+  pair-colours-p : (c d : ℕ) → inside (coloursOf p (pairEdges p q c d)) c ≡ true
+  pair-colours-p c d =
+      let m = pairEdges p q c d in
+      all-inside (coloursOf p m) c (λ x t. let r = colours-some p m x t in pair-some c d (r .0) (r .2) .1 x (r .3))
+
+  pair-colours-q : (c d : ℕ) → inside (coloursOf q (pairEdges p q c d)) d ≡ true
+  pair-colours-q c d =
+      let m = pairEdges p q c d in
+      all-inside (coloursOf q m) d (λ x t. let r = colours-some q m x t in pair-some c d (r .0) (r .2) .2 x (r .3))
+
+  -- ---- exactly these colours
+  exactly-p : (c d m : ℕ) → exactly p q c d m ≡ true → coloursOf p m ≡ c
+  unfolding exactly
+  exactly-p c d m t = eqb≡ (coloursOf p m) c (and-l (eqb (coloursOf p m) c) (eqb (coloursOf q m) d) t)
+
+  exactly-q : (c d m : ℕ) → exactly p q c d m ≡ true → coloursOf q m ≡ d
+  unfolding exactly
+  exactly-q c d m t = eqb≡ (coloursOf q m) d (and-r (eqb (coloursOf p m) c) (eqb (coloursOf q m) d) t)
+
+  is-exactly : (c d m : ℕ) → coloursOf p m ≡ c → coloursOf q m ≡ d → exactly p q c d m ≡ true
+  unfolding exactly
+  is-exactly c d m a b = both (eqb (coloursOf p m) c) (eqb (coloursOf q m) d) (≡eqb (coloursOf p m) c a) (≡eqb (coloursOf q m) d b)
+
+  -- what lies between a set with exactly these colours and all edges with them, has exactly them
+  exactly-up : (c d x y : ℕ) → inside x y ≡ true → inside y (pairEdges p q c d) ≡ true → exactly p q c d x ≡ true → exactly p q c d y ≡ true
+  exactly-up c d x y i j t =
+      let m = pairEdges p q c d in
+      is-exactly c d y
+      (inside-antisym (coloursOf p y) c
+      (inside-trans (coloursOf p y) (coloursOf p m) c (colours-up p y m j) (pair-colours-p c d))
+      (subst (λ (s : ℕ). inside s (coloursOf p y) ≡ true) (exactly-p c d x t) (colours-up p x y i)))
+      (inside-antisym (coloursOf q y) d
+      (inside-trans (coloursOf q y) (coloursOf q m) d (colours-up q y m j) (pair-colours-q c d))
+      (subst (λ (s : ℕ). inside s (coloursOf q y) ≡ true) (exactly-q c d x t) (colours-up q x y i)))
+
+  -- ---- no cycle with exactly these colours
+  at-free : (c d v : ℕ) → ((t : cycleThrough p (pairEdges p q c d) v ≢ 0) → exactly p q c d (cycleThrough p (pairEdges p q c d) v) ≡ true → ⊥) → freeAt p q c d v ≡ true
+  unfolding freeAt
+  at-free c d v h = go (test (eqb y 0))
+    where
+      y : ℕ
+      y = cycleThrough p (pairEdges p q c d) v
+
+      go : (eqb y 0 ≡ true) ⊎ (eqb y 0 ≡ false) → freeAt p q c d v ≡ true
+      go (inl t) = or-left (eqb y 0) (not (exactly p q c d y)) t
+      go (inr f) = or-right (eqb y 0) (not (exactly p q c d y)) (not-false (exactly p q c d y) (h (λ z. true≢false (sym (≡eqb y 0 z) ∙ f))))
+
+  free-at : (c d v : ℕ) → freeAt p q c d v ≡ true → cycleThrough p (pairEdges p q c d) v ≢ 0 → exactly p q c d (cycleThrough p (pairEdges p q c d) v) ≡ true → ⊥
+  unfolding freeAt
+  free-at c d v t nz x = go (or-cases (eqb y 0) (not (exactly p q c d y)) t)
+    where
+      y : ℕ
+      y = cycleThrough p (pairEdges p q c d) v
+
+      go : (eqb y 0 ≡ true) ⊎ (not (exactly p q c d y) ≡ true) → ⊥
+      go (inl z) = nz (eqb≡ y 0 z)
+      go (inr f) = true≢false (sym x ∙ not-true (exactly p q c d y) f)
+
+  -- where some colour is missing among all edges with these colours, no cycle has them all
+  pub free-missing : (c d : ℕ) → exactly p q c d (pairEdges p q c d) ≡ false → isFree p q c d ≡ true
+  unfolding isFree
+  free-missing c d f =
+      let m = pairEdges p q c d in
+      each-all (freeAt p q c d) (below (p .states)) (λ v k. at-free c d v (λ nz x. true≢false (sym (exactly-up c d (cycleThrough p m v) m (through-inside p m v) (inside-refl m) x) ∙ f)))
+
+  -- ---- verdicts
+  pub verdict-p : (c d m : ℕ) → exactly p q c d m ≡ true → accepting p m ≡ inFamily p c
+  verdict-p c d m t = accepting-is p m ∙ ap (inFamily p) (exactly-p c d m t)
+
+  pub verdict-q : (c d m : ℕ) → exactly p q c d m ≡ true → accepting q m ≡ inFamily q d
+  verdict-q c d m t = accepting-is q m ∙ ap (inFamily q) (exactly-q c d m t)
+
+  module _ (k : Comparable p q) where
+    targets : Targets p
+    targets = legal-target p (k .legal-p)
+
+    -- the same verdicts: every pair agrees
+    same-pair : sameVerdicts p q ≡ true → (c d : ℕ) → pairAgrees p q c d ≡ true
+    unfolding sameVerdicts pairAgrees isFree
+    same-pair s c d = go (test (differs (inFamily p c) (inFamily q d)))
+      where
+        m : ℕ
+        m = pairEdges p q c d
+
+        same : (x : ℕ) → isCycle p x ≡ true → differs (accepting p x) (accepting q x) ≡ false
+        same x cy =
+            not-true (differs (accepting p x) (accepting q x))
+            (all-each (λ (z : ℕ). not (differs (accepting p z) (accepting q z))) (cyclesIn p (full p)) s x (mem-cycles p (full p) x cy (inside-full p (k .legal-p) x cy)))
+
+        none : differs (inFamily p c) (inFamily q d) ≡ true → (v : ℕ) → v < p .states → freeAt p q c d v ≡ true
+        none t v l =
+            at-free c d v
+            (λ nz x.
+            let y = cycleThrough p m v in
+            true≢false (sym t ∙ sym (ap₂ differs (verdict-p c d y x) (verdict-q c d y x)) ∙ same y (through-cycle p targets m v l nz .0)))
+
+        go : (differs (inFamily p c) (inFamily q d) ≡ true) ⊎ (differs (inFamily p c) (inFamily q d) ≡ false) → pairAgrees p q c d ≡ true
+        go (inl t) =
+            or-right (not (differs (inFamily p c) (inFamily q d))) (isFree p q c d)
+            (each-all (freeAt p q c d) (below (p .states)) (λ v j. none t v (below-lt (p .states) v j)))
+        go (inr f) = or-left (not (differs (inFamily p c) (inFamily q d))) (isFree p q c d) (ap not f)
+
+    -- a cycle whose pair of colour sets agrees has the same verdict in both
+    pair-same : (x : ℕ) → isCycle p x ≡ true → pairAgrees p q (coloursOf p x) (coloursOf q x) ≡ true → not (differs (accepting p x) (accepting q x)) ≡ true
+    unfolding pairAgrees isFree
+    pair-same x cy t = go (or-cases (not (differs (inFamily p c) (inFamily q d))) (isFree p q c d) t)
+      where
+        c : ℕ
+        c = coloursOf p x
+
+        d : ℕ
+        d = coloursOf q x
+
+        m : ℕ
+        m = pairEdges p q c d
+
+        v : ℕ
+        v = cycle-state p (k .legal-p) x cy .0
+
+        lt : v < p .states
+        lt = cycle-state p (k .legal-p) x cy .1
+
+        on : contains p v x ≡ true
+        on = cycle-state p (k .legal-p) x cy .2
+
+        into : inside x m ≡ true
+        into =
+            all-inside x m
+            (λ e h. let l = cycle-edge p x cy e h in
+            some-pair c d e l (λ z i. some-colours p x e z l h i) (λ z i. some-colours q x e z (subst (λ (n : ℕ). e < n) (same-edges p q (k .same-graph)) l) h i))
+
+        y : ℕ
+        y = cycleThrough p m v
+
+        up : inside x y ≡ true
+        up = through-largest p targets m v lt x cy into on
+
+        nonzero : y ≢ 0
+        nonzero = let r = contains-some p v x on in some-nonzero y (r .0) (inside-all x y up (r .0) (r .2))
+
+        go : (not (differs (inFamily p c) (inFamily q d)) ≡ true) ⊎ (isFree p q c d ≡ true) → not (differs (accepting p x) (accepting q x)) ≡ true
+        go (inl a) = ap not (ap₂ differs (accepting-is p x) (accepting-is q x)) ∙ a
+        go (inr f) =
+            absurd (free-at c d v (all-each (freeAt p q c d) (below (p .states)) f v (mem-below (p .states) v lt)) nonzero
+            (exactly-up c d x y up (through-inside p m v) (is-exactly c d x refl refl)))
+
+    -- ---- the theorem
+    pub pairs-decide : sameVerdicts p q ≡ pairsAgree p q
+    unfolding sameVerdicts setAgrees pairsAgree
+    pairs-decide = bool-ext (sameVerdicts p q) (pairsAgree p q) there back
+      where
+        there : sameVerdicts p q ≡ true → pairsAgree p q ≡ true
+        there s = each-all (setAgrees p q) (below (2 ^ p .colours)) (λ c i. each-all (pairAgrees p q c) (below (2 ^ q .colours)) (λ d j. same-pair s c d))
+
+        agree : pairsAgree p q ≡ true → (c d : ℕ) → c < 2 ^ p .colours → d < 2 ^ q .colours → pairAgrees p q c d ≡ true
+        agree t c d lc ld =
+            all-each (pairAgrees p q c) (below (2 ^ q .colours)) (all-each (setAgrees p q) (below (2 ^ p .colours)) t c (mem-below (2 ^ p .colours) c lc)) d (mem-below (2 ^ q .colours) d ld)
+
+        back : pairsAgree p q ≡ true → sameVerdicts p q ≡ true
+        back t =
+            each-all (λ (x : ℕ). not (differs (accepting p x) (accepting q x))) (cyclesIn p (full p))
+            (λ x i. pair-same x (cycles-mem p (full p) x i .0) (agree t (coloursOf p x) (coloursOf q x) (colours-lt p (k .legal-p) x) (colours-lt q (k .legal-q) x)))

@@ -1,0 +1,58 @@
+-- How two policies over one graph are compared: by pairs of colour sets, c of p's colours and d of q's. The cycles with exactly these colours have one verdict in p and
+-- one in q; where the two differ, there must be no such cycle, and the largest ones among the edges with these colours tell whether there is one.
+use Prim.Native.Nat.{ℕ, _^_}
+use mathlib.Core.Path.{_≡_}
+use mathlib.Core.Bool.{Bool, true, not, _&&_, _||_}
+use lib.Dec.{eqb}
+use Rattle.lists.specs.Lists.{all, below}
+use Rattle.masks.specs.Masks.{has, gather}
+use Rattle.policy.specs.declared.Policy.{Policy}
+use Rattle.policy.specs.Policies.{edges, targetOf, edgeColours, coloursOf, inFamily, legal}
+use Rattle.graph.specs.Through.{cycleThrough}
+use Rattle.decomposition.specs.Forest.{differs}
+use Rattle.comparing.specs.Comparing.{sameGraph}
+
+module _ (p q : Policy) where
+  -- questions 7 and 15 are answered yes
+  pub record Comparable : Type 0 where
+    pub legal-p : legal p ≡ true
+    pub legal-q : legal q ≡ true
+    pub same-graph : sameGraph p q ≡ true
+
+  -- e leads to one state in both
+  unfoldable pub sameTarget : ℕ → Bool
+  sameTarget e = eqb (targetOf p e) (targetOf q e)
+
+  unfoldable pub sameTargets : Bool
+  sameTargets = all sameTarget (below (edges p))
+
+  -- ---- one pair of colour sets
+  -- e has its colours in p among c, and those in q among d
+  unfoldable pub inPair : ℕ → ℕ → ℕ → Bool
+  inPair c d e = all (has c) (edgeColours p e) && all (has d) (edgeColours q e)
+
+  -- the edges with these colours
+  unfoldable pub pairEdges : ℕ → ℕ → ℕ
+  pairEdges c d = gather (inPair c d) (edges p)
+
+  -- m has exactly the colours c in p, and exactly d in q
+  unfoldable pub exactly : ℕ → ℕ → ℕ → Bool
+  exactly c d m = eqb (coloursOf p m) c && eqb (coloursOf q m) d
+
+  -- no cycle through v has exactly these colours: the largest one of the edges with these colours is none, or has not all of them
+  unfoldable pub freeAt : ℕ → ℕ → ℕ → Bool
+  freeAt c d v = let x = cycleThrough p (pairEdges c d) v in eqb x 0 || not (exactly c d x)
+
+  unfoldable pub isFree : ℕ → ℕ → Bool
+  isFree c d = all (freeAt c d) (below (p .states))
+
+  -- the cycles with exactly these colours have the same verdict in both, or there is none
+  unfoldable pub pairAgrees : ℕ → ℕ → Bool
+  pairAgrees c d = not (differs (inFamily p c) (inFamily q d)) || isFree c d
+
+  -- ---- all pairs
+  unfoldable pub setAgrees : ℕ → Bool
+  setAgrees c = all (pairAgrees c) (below (2 ^ q .colours))
+
+  unfoldable pub pairsAgree : Bool
+  pairsAgree = all setAgrees (below (2 ^ p .colours))
