@@ -1,32 +1,27 @@
 -- The largest cycle through a state inside an edge set: it is a cycle with that state where it is not empty, each cycle with the state inside
 -- the set lies inside it, and it is the same for each of its states. Assumes nothing.
 use Prim.Native.Nat.{ℕ, _^_, _<_}
-use native.Mathlib.Omega.{arith}
-use native.Mathlib.Decide.{decLt, ℕ-discrete}
+use native.Mathlib.Decide.{ℕ-discrete}
 use mathlib.Core.Path.{_≡_, refl, sym, ap, _∙_, subst}
 use mathlib.Core.Logic.{_⊎_, inl, inr, _≢_}
-use mathlib.Core.Bool.{Bool, true, false, _&&_, true≢false, false≢true}
+use mathlib.Core.Bool.{Bool, true, false, _&&_, true≢false}
 use mathlib.Core.List.{List, [], _∷_, _++_, List·Memᴰ}
 use Rattle.lists.specs.Lists.{any, below}
 use Rattle.lists.proofs.Bools.{test, and-l, and-r, both}
 use Rattle.lists.proofs.Lists.{any-some, none-any, mem-below}
 use Rattle.masks.specs.Masks.{has, inside, gather, members}
-use Rattle.masks.proofs.Bits.{has-none, has-high, mask-ext, inside-all, all-inside, inside-antisym}
+use Rattle.masks.proofs.Bits.{has-none, mask-ext, inside-all, all-inside, inside-antisym}
 use Rattle.masks.proofs.Gather.{has-gather, gather-lt}
 use Rattle.policy.specs.declared.Policy.{Policy}
 use Rattle.policy.specs.Policies.{edges, source, targetOf}
 use Rattle.graph.specs.Cycles.{Path, reach, isCycle, contains}
 use Rattle.graph.specs.Through.{cycleThrough}
 use Rattle.graph.proofs.Paths.{members-has, members-lt, has-members, path-join, path-weaken, reach-sound, reach-complete}
-use Rattle.graph.proofs.Cycles.{Targets, cycle-some, cycle-edge, cycle-path, path-cycle, contains-some, some-contains, contains-inside}
+use Rattle.graph.proofs.Cycles.{Targets, bit-lt, some-nonzero, cycle-some, cycle-edge, cycle-path, path-cycle, contains-some, some-contains, contains-inside}
 
 -- what a gathered set has
 gather-some : (t : ℕ → Bool) (n e : ℕ) → has (gather t n) e ≡ true → (e < n) × (t e ≡ true)
-gather-some t n e h = go (decLt e n)
-  where
-    go : Dec (e < n) → (e < n) × (t e ≡ true)
-    go (yes l) = (l, sym (has-gather t n e l) ∙ h)
-    go (no k) = absurd (false≢true (sym (has-high n e (gather t n) (gather-lt t n) (omega arith)) ∙ h))
+gather-some t n e h = let l = bit-lt n (gather t n) e (gather-lt t n) h in (l, sym (has-gather t n e l) ∙ h)
 
 -- a set of numbers below n is empty, or has a member
 none-or-some : (n m : ℕ) → ((e : ℕ) → has m e ≡ true → e < n) → (m ≡ 0) ⊎ ((e : ℕ) × (has m e ≡ true))
@@ -83,7 +78,7 @@ module _ (p : Policy) where
 
   -- a set that contains a state is not empty
   contains-nonzero : (u m : ℕ) → contains p u m ≡ true → m ≢ 0
-  contains-nonzero u m on z = let r = contains-some p u m on in false≢true (sym (ap (λ (k : ℕ). has k (r .0)) z ∙ has-none (r .0)) ∙ r .2)
+  contains-nonzero u m on = let r = contains-some p u m on in some-nonzero m (r .0) (r .2)
 
   module _ (targets : Targets p) (m v : ℕ) (state : v < p .states) where
     pub some-through : (e : ℕ) → e < edges p → has m e ≡ true → Leads m v (source p e) → Leads m (targetOf p e) v → has (cycleThrough p m v) e ≡ true

@@ -105,7 +105,7 @@ loop-again c =
     ∙ through-test p (s .args .m) (s .args .v) ok (s .args .t2) (s .pre .2) (s .pre .1) (at .e) (at .u) (within d)
     (source-is p ok (at .e) (at .u) (at .a) (at .inv .2) (at .inv .3)) in
     let moved = ⊎-elim (λ w. turn-next p ok (at .e) (at .u) (at .a) (at .inv .2) (c .if2 .u) (c .if2 .a) (w .1) (w .2) (w .0 .taken))
-        (λ w. turn-same p ok (at .e) (at .u) (at .a) (at .inv .2) (c .if2 .u) (c .if2 .a) (w .1) (w .2) (at .inv .3) (w .0 .left)) (c .if2 .came) in (
+    (λ w. turn-same p ok (at .e) (at .u) (at .a) (at .inv .2) (c .if2 .u) (c .if2 .a) (w .1) (w .2) (at .inv .3) (w .0 .left)) (c .if2 .came) in (
       omega arith,
       ⊎-elim (λ w. cc (gather-in T (at .e) (sym test ∙ w .0 .taken))) (λ w. cc (gather-out T (at .e) (sym test ∙ w .0 .left))) (c .before .if1 .came),
       moved .0,
