@@ -25,14 +25,14 @@ use Rattle.decomposition.specs.Laws.{ForestLaws, maskAt, parentAt, rootAt}
 use Rattle.decomposition.proofs.Chains.{chain-self, chain-le, chain-lt, chain-parent, chain-trans, chain-linear, chain-top}
 use Rattle.decomposition.proofs.Forest.{forest-laws}
 use Rattle.builder.specs.Automaton.{orElse, deepest, lead, isLeaf, leaves, firstLeaf, leafAfter, priorityAfter, built, stateAt, number, rowTarget, rowPriority}
-use Rattle.builder.specs.Stages.{endOf, firstOver, Nodes}
+use Rattle.builder.specs.Stages.{endOf, firstOver, Nodes, Ends}
 use Rattle.builder.specs.Rows.{ParentColumn, LeafColumn, AscendsIn, LowerBound, Met, raisedTo}
 use Rattle.builder.proofs.EdgeRuns.{Good}
 use Rattle.builder.proofs.Next.{first-cases}
 use Rattle.builder.proofs.Branch.{of-child, chain-inside, child-above, child-lt, child-between, lead-is, deepest-mem, deepest-under, deepest-at}
 use Rattle.builder.proofs.Leaves.{LeafUnder, Meets, of-leaf, leaf-under, leaves-good, meets, root-with, with-root, after-out}
 use Rattle.builder.proofs.Tables.{built-good}
-use Rattle.builder.proofs.Ends.{Raised, raised-root, raised-kept, raised-more, root-parent}
+use Rattle.builder.proofs.Ends.{Raised, raised-none, raised-all, raised-root, raised-kept, raised-more, root-parent}
 use Rattle.builder.proofs.Search.{FirstFrom, leaf-after-self, leaf-after-next, leaf-after-first, bound-number, bound-none, over-leaf, first-number}
 
 -- ---- whether a child leads to a leaf
@@ -331,7 +331,7 @@ raised-length l up n = go (ltb (getD l up 0) (getD l n 0))
     go false = refl
 
 -- a turn of the loop from the last node down, at a node that is no root
-pub raise-turn : (p : Policy) → legal p ≡ true → (ends : List ℕ) (n : ℕ) → Raised (forest p) ends (n + 1) → n < length (forest p) → rootAt (forest p) n ≡ false
+raise-turn : (p : Policy) → legal p ≡ true → (ends : List ℕ) (n : ℕ) → Raised (forest p) ends (n + 1) → n < length (forest p) → rootAt (forest p) n ≡ false
     → Raised (forest p) (raisedTo ends (parentAt (forest p) n) n) n
 unfolding raisedTo
 raise-turn p ok ends n r h f = go (test (ltb (getD ends (parentAt (forest p) n) 0) (getD ends n 0)))
@@ -342,3 +342,42 @@ raise-turn p ok ends n r h f = go (test (ltb (getD ends (parentAt (forest p) n) 
     go : (ltb (getD ends up 0) (getD ends n 0) ≡ true) ⊎ (ltb (getD ends up 0) (getD ends n 0) ≡ false) → Raised (forest p) (cond (ltb (getD ends up 0) (getD ends n 0)) (set ends up (getD ends n 0)) ends) n
     go (inl t) = rw t (raised-more p (forest p) (forest-laws p ok) ends n r h f (omega (arith, lt-true (getD ends up 0) (getD ends n 0) t)))
     go (inr t) = rw t (raised-kept p (forest p) (forest-laws p ok) ends n r h (lt-false (getD ends up 0) (getD ends n 0) t))
+
+-- what the loop from the last node down is called with
+abbrev pub Filling : Policy → List ℕ → ℕ → Type 0
+Filling p parents count = (legal p ≡ true) × ParentColumn p parents × (count ≡ length (forest p))
+
+module _ (p : Policy) (parents : List ℕ) (count : ℕ) (a : Filling p parents count) where
+  pub fill-start : (ends : List ℕ) → count ≤ length ends → Own ends count → Raised (forest p) ends count
+  fill-start ends h own = subst (Raised (forest p) ends) (sym (a .2)) (raised-none p (forest p) (forest-laws p (a .0)) ends (omega (arith, a .2)) (λ n l. own n (omega (arith, a .2))))
+
+  pub fill-done : (ends : List ℕ) (n : ℕ) → n ≤ 0 → Raised (forest p) ends n → Ends p ends
+  fill-done ends n h r = let z : n ≡ 0 = omega arith in record { long = r .long; ends-are = raised-all p (forest p) (forest-laws p (a .0)) ends (subst (Raised (forest p) ends) z r) }
+
+  module _ (n up : ℕ) (h : n < count) (is : up ≡ getD parents n 0) where
+    place : n < length (forest p)
+    place = omega (arith, a .2)
+
+    parent : up ≡ parentAt (forest p) n
+    parent = is ∙ a .1 .are n place
+
+    child : up ≢ 65535 → rootAt (forest p) n ≡ false
+    child q = go (test (rootAt (forest p) n))
+      where
+        go : (rootAt (forest p) n ≡ true) ⊎ (rootAt (forest p) n ≡ false) → rootAt (forest p) n ≡ false
+        go (inl t) = absurd (q (parent ∙ root-parent p n place t))
+        go (inr f) = f
+
+    pub fill-up : up ≢ 65535 → up < n
+    fill-up q = omega (arith, parent, forest-laws p (a .0) .parent-lt n place (child q))
+
+    pub fill-root : (ends : List ℕ) (m : ℕ) → m ≡ n + 1 → Raised (forest p) ends m → up ≡ 65535 → Raised (forest p) ends n
+    fill-root ends m e r q = raised-root p (forest p) (forest-laws p (a .0)) ends n (subst (Raised (forest p) ends) e r) (go (test (rootAt (forest p) n)))
+      where
+        go : (rootAt (forest p) n ≡ true) ⊎ (rootAt (forest p) n ≡ false) → rootAt (forest p) n ≡ true
+        go (inl t) = t
+        go (inr f) = absurd (omega (arith, parent, forest-laws p (a .0) .parent-lt n place f, place, a .1 .few))
+
+    pub fill-child : (ends : List ℕ) (m : ℕ) → m ≡ n + 1 → Raised (forest p) ends m → up ≢ 65535 → Raised (forest p) (raisedTo ends up n) n
+    fill-child ends m e r q =
+        subst (λ (x : ℕ). Raised (forest p) (raisedTo ends x n) n) (sym parent) (raise-turn p (a .0) ends n (subst (Raised (forest p) ends) e r) place (child q))
