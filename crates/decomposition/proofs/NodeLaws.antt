@@ -1,21 +1,21 @@
 -- What the code of the node tables rests on: the search for the next node, from the last node up to its root. Assumes nothing.
-use Prim.Native.Nat.{ℕ, zero, suc, _+_, _-_, _≤_, _<_}
+use Prim.Native.Nat.{ℕ, zero, suc, _-_, _≤_, _<_}
 use native.Mathlib.Omega.{arith}
 use native.Mathlib.Decide.{decLt}
-use mathlib.Core.Path.{_≡_, refl, sym, ap, ap₂, _∙_, subst}
+use mathlib.Core.Path.{_≡_, refl, sym, ap, ap₂, _∙_}
 use mathlib.Core.Logic.{_⊎_, inl, inr, _≢_}
-use mathlib.Core.Bool.{Bool, true, false, not, cond, true≢false}
-use mathlib.Core.List.{List, [], _∷_, List·Memᴰ}
+use mathlib.Core.Bool.{Bool, true, false, not, cond}
+use mathlib.Core.List.{List, List·Memᴰ}
 use lib.Dec.{eqb}
 use lib.ListN.{length, getD}
 use Rattle.lists.proofs.Bools.{test, eqb≡, ≡eqb, neqb}
 use Rattle.policy.specs.declared.Policy.{Policy}
 use Rattle.policy.specs.Policies.{accepting, legal}
 use Rattle.graph.proofs.Cycles.{cycle-some}
-use Rattle.decomposition.specs.Forest.{Node, node, chain, forest, inOrder, roots, children}
+use Rattle.decomposition.specs.Forest.{Node, chain, forest, inOrder, roots, children}
 use Rattle.decomposition.specs.Laws.{ForestLaws, maskAt, parentAt, rootAt}
 use Rattle.decomposition.specs.Next.{Next, firstIn, afterIn, siblings, climb, nextAfter, nextNode}
-use Rattle.decomposition.specs.Candidates.{candidates, judged, rootCandidates}
+use Rattle.decomposition.specs.Candidates.{judged, rootCandidates}
 use Rattle.decomposition.specs.Siblings.{childrenIn, nextIn}
 use Rattle.decomposition.specs.NodeTables.{Searched, Sought, Written}
 use Rattle.decomposition.proofs.Chains.{chain-root, chain-child}

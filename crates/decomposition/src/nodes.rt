@@ -160,3 +160,20 @@ fn write_nodes(
         count += 1;
     }
 }
+
+// The nodes of the forest, in tables of one length. Where they do not fit, every place is 0.
+pub fn fill_nodes(p: Policy, masks: &mut [u64], parents: &mut [u16], ranks: &mut [u8]) -> Filled
+    requires { ⌜ (legal p ≡ true) × (length (now parents) ≡ length (now masks)) × (length (now ranks) ≡ length (now masks)) ⌝ }
+    ensures answer { λ r. ⌜ r ≡ fillingOf p (nodeTables (now (masks .entry)) (now (parents .entry)) (now (ranks .entry))) ⌝ }
+    ensures filled { λ _. ⌜ nodeTables (now (masks .exit)) (now (parents .exit)) (now (ranks .exit)) ≡ filledOf p (nodeTables (now (masks .entry)) (now (parents .entry)) (now (ranks .entry))) ⌝ }
+{
+    clear_nodes(masks, parents, ranks);
+    let mut accepting = [0u64; 4096];
+    let mut rejecting = [0u64; 4096];
+    let mut roots = [0u64; 16];
+    let listed = crate::listing::fill_candidates(p, &mut accepting, &mut rejecting);
+    let accepted = listed.accepting;
+    let rejected = listed.rejecting;
+    let rooted = crate::listing::fill_roots(p, &mut roots);
+    write_nodes(p, &accepting[..accepted], &rejecting[..rejected], &roots[..rooted], masks, parents, ranks)
+}

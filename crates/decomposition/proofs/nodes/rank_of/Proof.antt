@@ -2,7 +2,7 @@
 use native.Mathlib.Omega.{arith}
 use borrow.Author.Needs.{needs}
 use borrow.Author.Tests.{eq-eqb, ne-eqb}
-use mathlib.Core.Path.{_≡_, refl, sym, _∙_}
+use mathlib.Core.Path.{refl, sym, _∙_}
 use Rattle.decomposition.specs.NodeTables.{rankOf}
 use Rattle.decomposition.proofs.nodes.rank_of.Statement.{statement}
 use Rattle.decomposition.proofs.nodes.rank_of.Tie as tie
