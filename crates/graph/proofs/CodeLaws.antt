@@ -1,5 +1,6 @@
 -- The table of what each state reaches: after the rows are joined at every state, row v is what v reaches. Joining at k leaves each row
--- closed by way of the states up to k, so that no round has to be repeated. Assumes nothing.
+-- closed by way of the states up to k, so that no round has to be repeated. Then one turn of each loop of the code, and the ranges that a
+-- legal policy gives it. Assumes nothing.
 use Prim.Native.Nat.{ℕ, zero, suc, _+_, _*_, _%_, _≤_, _<_}
 use native.Mathlib.Omega.{arith}
 use native.Mathlib.Decide.{ℕ-discrete}
