@@ -1,5 +1,6 @@
 // The alternating cycle decomposition of a policy.
 pub mod nodes;
+
 ghost use mathlib.Core.Path.{_≡_};
 ghost use mathlib.Core.Logic.{_≢_};
 ghost use mathlib.Core.List.{List·Memᴰ};

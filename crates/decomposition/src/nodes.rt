@@ -175,5 +175,13 @@ pub fn fill_nodes(p: Policy, masks: &mut [u64], parents: &mut [u16], ranks: &mut
     let accepted = listed.accepting;
     let rejected = listed.rejecting;
     let rooted = crate::listing::fill_roots(p, &mut roots);
-    write_nodes(p, &accepting[..accepted], &rejecting[..rejected], &roots[..rooted], masks, parents, ranks)
+    write_nodes(
+        p,
+        &accepting[..accepted],
+        &rejecting[..rejected],
+        &roots[..rooted],
+        masks,
+        parents,
+        ranks,
+    )
 }
