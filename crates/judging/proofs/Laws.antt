@@ -8,6 +8,7 @@ use mathlib.Core.Bool.{Bool, true, false, _||_, cond, or-true, or-false, false�
 use mathlib.Core.List.{List, [], _∷_, _++_, List·Memᴰ, List·Memᴰ·head, List·Memᴰ·tail, List·Memᴰ·not-nil, List·Memᴰ·append-cases, Memᴰ·append-left, Memᴰ·append-right, Memᴰ·cast}
 use lib.Bits.{bitOr}
 use lib.Dec.{eqb, ltb}
+use lib.ListN.{length}
 use Rattle.lists.proofs.Bools.{test, eqb≡, ≡eqb, lt-true, lt-false, or-cases, or-left, or-right, bool-ext}
 use Rattle.masks.specs.Masks.{has, insert}
 use Rattle.masks.proofs.Bits.{has-or, has-none, has-insert, mask-ext}
@@ -125,3 +126,12 @@ nonEmpty-append (x ∷ l) r = refl
 pub nonEmpty-same : {A : Type 0} (l r : List A) → ((y : A) → List·Memᴰ y l ↔ List·Memᴰ y r) → nonEmpty l ≡ nonEmpty r
 nonEmpty-same l r h =
     bool-ext (nonEmpty l) (nonEmpty r) (λ t. let q = some-member l t in member-some r (q .0) (h (q .0) .0 (q .1))) (λ t. let q = some-member r t in member-some l (q .0) (h (q .0) .1 (q .1)))
+
+-- by the length
+pub none-of : (l : List ℕ) → length l ≡ 0 → nonEmpty l ≡ false
+none-of [] e = refl
+none-of (x ∷ l) e = absurd (omega arith)
+
+pub some-of : (l : List ℕ) → (length l ≡ 0 → ⊥) → nonEmpty l ≡ true
+some-of [] h = absurd (h refl)
+some-of (x ∷ l) h = refl

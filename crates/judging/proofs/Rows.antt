@@ -21,7 +21,7 @@ use Rattle.judging.specs.declared.Seen.{Seen}
 use Rattle.judging.specs.Judging.{nonEmpty, inRange, leastOf, noState, strayMeets, everStray, leastRecurring, rowsVerdict}
 use Rattle.judging.specs.Rounds.{through, Comes, seenState, seenWith, seenStep, seenAfter}
 use Rattle.judging.proofs.Collect.{through-run, through-value, first-value, window-value}
-use Rattle.judging.proofs.Laws.{least-with, least-same, nonEmpty-append, nonEmpty-same}
+use Rattle.judging.proofs.Laws.{least-with, least-same, nonEmpty-append, nonEmpty-same, none-of, some-of}
 
 -- ---- one reading
 seen-run : (s : Seen) (x : Reading) → seenWith s x .run ≡ runAfter x
@@ -39,15 +39,6 @@ seen-stray s (Refused n r) a l e = ap₂ _||_ e (go (eqb n 13)) ∙ sym (nonEmpt
     go : (b : Bool) → b ≡ nonEmpty (cond b (a ∷ []) [])
     go true = refl
     go false = refl
-
--- whether a list has a member, from its length
-none-of : (l : List ℕ) → length l ≡ 0 → nonEmpty l ≡ false
-none-of [] e = refl
-none-of (x ∷ l) e = absurd (omega arith)
-
-some-of : (l : List ℕ) → (length l ≡ 0 → ⊥) → nonEmpty l ≡ true
-some-of [] h = absurd (h refl)
-some-of (x ∷ l) h = refl
 
 module _ (letters : ℕ) (targets priorities : List ℕ) where
   moves : (s : Seen) (a : ℕ) → seenStep letters targets priorities s a .run ≡ rowStep letters targets priorities (s .run) a

@@ -4,15 +4,18 @@ use mathlib.Core.Path.{_≡_}
 use mathlib.Core.Logic.{_⊎_}
 use mathlib.Core.Bool.{Bool, _||_, cond}
 use mathlib.Core.List.{List, [], _∷_}
+use lib.Bits.{bitOr}
 use lib.Dec.{eqb, ltb}
 use Rattle.recurrence.specs.Recurs.{iter}
-use Rattle.recurrence.specs.Runs.{after}
+use Rattle.policy.specs.declared.Policy.{Policy}
 use Rattle.running.specs.declared.Run.{Run}
 use Rattle.running.specs.declared.Reading.{Reading}
 use Rattle.running.specs.declared.Reading.the-variants.{Moved, Refused}
-use Rattle.running.specs.Running.{readingOf, rowMeets}
+use Rattle.running.specs.Running.{policyStep, policyMeets, readingOf}
 use Rattle.judging.specs.declared.Watch.{Watch}
 use Rattle.judging.specs.declared.Seen.{Seen}
+use Rattle.judging.specs.declared.Coloured.{Coloured}
+use Rattle.judging.specs.Judging.{setOf}
 
 -- what a list of letters leads to, if `next t a` is what letter a leads to
 unfoldable pub through : {T : Type 0} → (T → ℕ → T) → List ℕ → T → T
@@ -49,3 +52,16 @@ module _ (letters : ℕ) (targets priorities : List ℕ) where
   -- after a list of letters
   abbrev pub seenAfter : List ℕ → Seen → Seen
   seenAfter w = through seenStep w
+
+-- ---- policies
+abbrev pub colouredState : Coloured → ℕ
+colouredState m = m .state
+
+module _ (p : Policy) where
+  -- after a letter more
+  unfoldable pub colouredStep : Coloured → ℕ → Coloured
+  colouredStep m a = record { state = policyStep p (m .state) a; colours = bitOr (m .colours) (setOf (policyMeets p (m .state) a)) }
+
+  -- after a list of letters
+  abbrev pub colouredAfter : List ℕ → Coloured → Coloured
+  colouredAfter w = through colouredStep w

@@ -1,9 +1,12 @@
 // Judging a stem and a loop repeated without end, on a policy and on the rows of a built automaton. A round is one reading of the loop.
 ghost use mathlib.Core.Path.{_≡_};
-ghost use Prim.Native.Nat.{_≤_, _<_};
+ghost use mathlib.Core.Bool.{true};
+ghost use Prim.Native.Nat.{_<_};
 ghost use Rattle.recurrence.specs.Recurs.{iter};
-ghost use Rattle.judging.specs.Judging.{inRange, rowsVerdict};
-ghost use Rattle.judging.specs.Rounds.{watchNext, Comes, seenState, seenWith, seenAfter};
+ghost use Rattle.policy.specs.Policies.{legal};
+ghost use Rattle.judging.specs.Judging.{inRange, policyVerdict, rowsVerdict};
+ghost use Rattle.judging.specs.Rounds.{watchNext, Comes, seenState, seenWith, seenAfter, colouredState, colouredStep, colouredAfter};
+use policy::Policy;
 use running::Reading;
 use running::Run;
 
@@ -93,7 +96,7 @@ fn seen_with(s: Seen, x: Reading) -> Seen
 }
 
 // After a list of letters.
-fn read_word(s: Seen, word: &[u8], letters: u8, targets: &[u16], priorities: &[u8]) -> Seen
+fn seen_word(s: Seen, word: &[u8], letters: u8, targets: &[u16], priorities: &[u8]) -> Seen
     ensures { λ r. ⌜ r ≡ seenAfter letters (now (targets .entry)) (now (priorities .entry)) (now (word .entry)) s ⌝ }
 {
     let mut t = s;
@@ -107,13 +110,13 @@ fn read_word(s: Seen, word: &[u8], letters: u8, targets: &[u16], priorities: &[u
 }
 
 // After k rounds.
-fn read_rounds(s: Seen, k: usize, cycle: &[u8], letters: u8, targets: &[u16], priorities: &[u8]) -> Seen
+fn seen_rounds(s: Seen, k: usize, cycle: &[u8], letters: u8, targets: &[u16], priorities: &[u8]) -> Seen
     ensures { λ r. ⌜ r ≡ iter (seenAfter letters (now (targets .entry)) (now (priorities .entry)) (now (cycle .entry))) k s ⌝ }
 {
     let mut t = s;
     let mut i = 0;
     while i < k {
-        t = read_word(t, cycle, letters, targets, priorities);
+        t = seen_word(t, cycle, letters, targets, priorities);
         i += 1;
     }
     t
@@ -126,7 +129,7 @@ pub struct Found {
 }
 
 // Reads rounds until the run comes back to the state that is watched for, or for n rounds.
-fn find_repeat(s: Seen, n: usize, cycle: &[u8], letters: u8, targets: &[u16], priorities: &[u8]) -> Found
+fn seen_repeat(s: Seen, n: usize, cycle: &[u8], letters: u8, targets: &[u16], priorities: &[u8]) -> Found
     requires { ⌜ n < 65536 ⌝ }
     ensures { λ r. ⌜ Comes (seenAfter letters (now (targets .entry)) (now (priorities .entry)) (now (cycle .entry))) seenState n s (r .seen) (r .rounds) ⌝ }
 {
@@ -139,7 +142,7 @@ fn find_repeat(s: Seen, n: usize, cycle: &[u8], letters: u8, targets: &[u16], pr
     };
     let mut round = 0;
     while round < n {
-        t = read_word(t, cycle, letters, targets, priorities);
+        t = seen_word(t, cycle, letters, targets, priorities);
         let run = t.run;
         if run.state == w.kept {
             return Found {
@@ -175,8 +178,8 @@ pub fn judge_rows(letters: u8, targets: &[u16], priorities: &[u8], state: u16, s
         least: 255,
         stray: false,
     };
-    let before = read_word(start, stem, letters, targets, priorities);
-    let found = find_repeat(before, n, cycle, letters, targets, priorities);
+    let before = seen_word(start, stem, letters, targets, priorities);
+    let found = seen_repeat(before, n, cycle, letters, targets, priorities);
     let seen = found.seen;
     if seen.stray {
         return RowsVerdict::Refused(13);
@@ -187,6 +190,123 @@ pub fn judge_rows(letters: u8, targets: &[u16], priorities: &[u8], state: u16, s
         least: 255,
         stray: false,
     };
-    let all = read_rounds(again, found.rounds, cycle, letters, targets, priorities);
+    let all = seen_rounds(again, found.rounds, cycle, letters, targets, priorities);
     RowsVerdict::Least(all.least)
+}
+
+// What a policy's run has come to: its state, and the colours met.
+pub struct Coloured {
+    pub state: u8,
+    pub colours: u8,
+}
+
+// After a letter more. A letter that the policy lacks is refused: nothing is met, and the state stays.
+fn coloured_with(p: Policy, m: Coloured, letter: u8) -> Coloured
+    requires { ⌜ (legal p ≡ true) × (m .state < p .states) ⌝ }
+    ensures { λ r. ⌜ r ≡ colouredStep p m letter ⌝ }
+{
+    if p.letters <= letter {
+        return m;
+    }
+    let e = m.state as usize * p.letters as usize + letter as usize;
+    Coloured {
+        state: policy::target_of(p, e),
+        colours: masks::set_with(m.colours, policy::colour_of(p, e)),
+    }
+}
+
+// After a list of letters.
+fn coloured_word(p: Policy, m: Coloured, word: &[u8]) -> Coloured
+    requires { ⌜ (legal p ≡ true) × (m .state < p .states) ⌝ }
+    ensures { λ r. ⌜ r ≡ colouredAfter p (now (word .entry)) m ⌝ }
+{
+    let mut t = m;
+    let mut i = 0;
+    while i < word.len() {
+        t = coloured_with(p, t, word[i]);
+        i += 1;
+    }
+    t
+}
+
+// After k rounds.
+fn coloured_rounds(p: Policy, m: Coloured, k: usize, cycle: &[u8]) -> Coloured
+    requires { ⌜ (legal p ≡ true) × (m .state < p .states) ⌝ }
+    ensures { λ r. ⌜ r ≡ iter (colouredAfter p (now (cycle .entry))) k m ⌝ }
+{
+    let mut t = m;
+    let mut i = 0;
+    while i < k {
+        t = coloured_word(p, t, cycle);
+        i += 1;
+    }
+    t
+}
+
+// Where the search for a repeat ends: what the run has come to, and how many rounds from there meet exactly what recurs.
+pub struct FoundColoured {
+    pub coloured: Coloured,
+    pub rounds: usize,
+}
+
+// Reads rounds until the run comes back to the state that is watched for, or for as many rounds as the policy has states.
+fn coloured_repeat(p: Policy, m: Coloured, cycle: &[u8]) -> FoundColoured
+    requires { ⌜ (legal p ≡ true) × (m .state < p .states) ⌝ }
+    ensures { λ r. ⌜ Comes (colouredAfter p (now (cycle .entry))) colouredState (p .states) m (r .coloured) (r .rounds) ⌝ }
+{
+    let n = p.states as usize;
+    let mut t = m;
+    let mut w = Watch {
+        kept: m.state as u16,
+        since: 0,
+        limit: 1,
+    };
+    let mut round = 0;
+    while round < n {
+        t = coloured_word(p, t, cycle);
+        let state = t.state as u16;
+        if state == w.kept {
+            return FoundColoured {
+                coloured: t,
+                rounds: w.since + 1,
+            };
+        }
+        w = watch_next(w, state);
+        round += 1;
+    }
+    FoundColoured {
+        coloured: t,
+        rounds: n,
+    }
+}
+
+// The colours that the policy's run meets again and again, from a state over the stem and then the loop without end, and their verdict.
+pub fn judge_policy(p: Policy, state: u8, stem: &[u8], cycle: &[u8]) -> PolicyVerdict
+    ensures { λ r. ⌜ r ≡ policyVerdict p state (now (stem .entry)) (now (cycle .entry)) ⌝ }
+{
+    if !policy::is_legal(p) {
+        return PolicyVerdict::Refused(7);
+    }
+    if p.states <= state {
+        return PolicyVerdict::Refused(11);
+    }
+    if cycle.len() == 0 {
+        return PolicyVerdict::Refused(14);
+    }
+    if !(in_range(p.letters, stem) & in_range(p.letters, cycle)) {
+        return PolicyVerdict::Refused(12);
+    }
+    let start = Coloured {
+        state: state,
+        colours: 0,
+    };
+    let before = coloured_word(p, start, stem);
+    let found = coloured_repeat(p, before, cycle);
+    let end = found.coloured;
+    let again = Coloured {
+        state: end.state,
+        colours: 0,
+    };
+    let all = coloured_rounds(p, again, found.rounds, cycle);
+    PolicyVerdict::Judged(all.colours, policy::in_family(p, all.colours))
 }

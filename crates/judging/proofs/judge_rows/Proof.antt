@@ -14,10 +14,10 @@ use Rattle.judging.proofs.judge_rows.Statement.{statement}
 use Rattle.judging.proofs.judge_rows.Tie as tie
 use Rattle.judging.proofs.judge_rows.Reads as reads
 use Rattle.judging.proofs.judge_rows.Lts as lts
-use Rattle.judging.proofs.find_repeat.Reads as find-repeat-reads
+use Rattle.judging.proofs.seen_repeat.Reads as seen-repeat-reads
 use Rattle.judging.proofs.in_range.Reads as in-range-reads
-use Rattle.judging.proofs.read_rounds.Reads as read-rounds-reads
-use Rattle.judging.proofs.read_word.Reads as read-word-reads
+use Rattle.judging.proofs.seen_rounds.Reads as seen-rounds-reads
+use Rattle.judging.proofs.seen_word.Reads as seen-word-reads
 use Rattle.running.proofs.is_shaped.Reads as is-shaped-reads
 
 is-shaped-requires : tie.Need-is-shaped-requires
@@ -67,11 +67,11 @@ range : (c : tie.Else4) → let a = c .before .before .before .before .before .b
 range c = sym (ap₂ _&&_ (c .before .before .in-range .ensures) (c .before .in-range2 .ensures)) ∙ not-false _ (c .if4 .left)
 
 
-read-word-requires : tie.Need-read-word-requires
-read-word-requires c κs = search needs
+seen-word-requires : tie.Need-seen-word-requires
+seen-word-requires c κs = search needs
 
-find-repeat-requires : tie.Need-find-repeat-requires
-find-repeat-requires c κs = omega (arith, shaped-facts _ _ _ (shape (c .before .before .before .before .before .before)) .few)
+seen-repeat-requires : tie.Need-seen-repeat-requires
+seen-repeat-requires c κs = omega (arith, shaped-facts _ _ _ (shape (c .before .before .before .before .before .before)) .few)
 
 returns-5 : tie.Need-returns-5
 unfolding rowStates
@@ -82,10 +82,10 @@ returns-5 c =
     let e = d .before .before .before in
     let r : Run = record { state = a .state } in
     sym (rows-13 (a .letters) (a .targets .now) (a .priorities .now) r (a .stem .now) (a .cycle .now) (shape (e .before .before)) (e .before .if2 .left) (e .if3 .left) (range d)
-    (sym (seen-strays (a .letters) (a .targets .now) (a .priorities .now) r (a .stem .now) (a .cycle .now) (e .before .if2 .left) _ _ _ (f .before .read-word .ensures) (f .find-repeat .ensures)) ∙ c .if5 .taken))
+    (sym (seen-strays (a .letters) (a .targets .now) (a .priorities .now) r (a .stem .now) (a .cycle .now) (e .before .if2 .left) _ _ _ (f .before .seen-word .ensures) (f .seen-repeat .ensures)) ∙ c .if5 .taken))
 
-read-rounds-requires : tie.Need-read-rounds-requires
-read-rounds-requires c κs = search needs
+seen-rounds-requires : tie.Need-seen-rounds-requires
+seen-rounds-requires c κs = search needs
 
 returns-6 : tie.Need-returns-6
 unfolding rowStates
@@ -96,10 +96,10 @@ returns-6 c =
     let d = f .before .before in
     let e = d .before .before .before in
     let r : Run = record { state = a .state } in
-    ap Least (ap (λ (s : Seen). s .least) (c .read-rounds .ensures)
-    ∙ seen-recurs (a .letters) (a .targets .now) (a .priorities .now) r (a .stem .now) (a .cycle .now) (e .before .if2 .left) _ _ _ (f .before .read-word .ensures) (f .find-repeat .ensures) _ refl refl)
+    ap Least (ap (λ (s : Seen). s .least) (c .seen-rounds .ensures)
+    ∙ seen-recurs (a .letters) (a .targets .now) (a .priorities .now) r (a .stem .now) (a .cycle .now) (e .before .if2 .left) _ _ _ (f .before .seen-word .ensures) (f .seen-repeat .ensures) _ refl refl)
     ∙ sym (rows-least (a .letters) (a .targets .now) (a .priorities .now) r (a .stem .now) (a .cycle .now) (shape (e .before .before)) (e .before .if2 .left) (e .if3 .left) (range d)
-    (sym (seen-strays (a .letters) (a .targets .now) (a .priorities .now) r (a .stem .now) (a .cycle .now) (e .before .if2 .left) _ _ _ (f .before .read-word .ensures) (f .find-repeat .ensures)) ∙ g .if5 .left))
+    (sym (seen-strays (a .letters) (a .targets .now) (a .priorities .now) r (a .stem .now) (a .cycle .now) (e .before .if2 .left) _ _ _ (f .before .seen-word .ensures) (f .seen-repeat .ensures)) ∙ g .if5 .left))
 
 pub judge-rows-spec : {M : Type 1} → statement M
 judge-rows-spec =
@@ -113,8 +113,8 @@ judge-rows-spec =
     in-range-requires
     in-range-requires-2
     returns-4
-    read-word-requires
-    find-repeat-requires
+    seen-word-requires
+    seen-repeat-requires
     returns-5
-    read-rounds-requires
+    seen-rounds-requires
     returns-6)

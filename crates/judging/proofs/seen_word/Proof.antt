@@ -5,10 +5,10 @@ use lib.ListN.{length, drop}
 use Rattle.judging.specs.Rounds.{seenWith, seenStep, seenAfter}
 use Rattle.judging.proofs.Turns.{through-turn, through-end}
 use borrow.Author.Needs.{needs}
-use Rattle.judging.proofs.read_word.Statement.{statement}
-use Rattle.judging.proofs.read_word.Tie as tie
-use Rattle.judging.proofs.read_word.Reads as reads
-use Rattle.judging.proofs.read_word.Lts as lts
+use Rattle.judging.proofs.seen_word.Statement.{statement}
+use Rattle.judging.proofs.seen_word.Tie as tie
+use Rattle.judging.proofs.seen_word.Reads as reads
+use Rattle.judging.proofs.seen_word.Lts as lts
 use Rattle.judging.proofs.seen_with.Reads as seen-with-reads
 use Rattle.running.proofs.Run.read.Reads as read-reads
 
@@ -55,8 +55,8 @@ returns c =
     let a = d .before .before .before .before .args in
     sym (through-end (seenStep (a .letters) (a .targets .now) (a .priorities .now)) (a .word .now) (d .loop .i) (d .loop .t) (c .loop-test .left)) ∙ d .loop .inv .1
 
-pub read-word-spec : {M : Type 1} → statement M
-read-word-spec =
+pub seen-word-spec : {M : Type 1} → statement M
+seen-word-spec =
     tie.close
     (tie.spec
     Inv-loop

@@ -6,11 +6,11 @@ use Rattle.recurrence.specs.Recurs.{iter}
 use Rattle.judging.specs.Rounds.{seenAfter}
 use Rattle.judging.proofs.Turns.{iter-turn}
 use borrow.Author.Needs.{needs}
-use Rattle.judging.proofs.read_rounds.Statement.{statement}
-use Rattle.judging.proofs.read_rounds.Tie as tie
-use Rattle.judging.proofs.read_rounds.Reads as reads
-use Rattle.judging.proofs.read_rounds.Lts as lts
-use Rattle.judging.proofs.read_word.Reads as read-word-reads
+use Rattle.judging.proofs.seen_rounds.Statement.{statement}
+use Rattle.judging.proofs.seen_rounds.Tie as tie
+use Rattle.judging.proofs.seen_rounds.Reads as reads
+use Rattle.judging.proofs.seen_rounds.Lts as lts
+use Rattle.judging.proofs.seen_word.Reads as seen-word-reads
 
 abbrev Inv-loop : tie.InvT-loop
 Inv-loop k cycle letters targets priorities t₀ i₀ t i = (i ≤ k) × (t ≡ iter (seenAfter letters targets priorities cycle) i t₀)
@@ -22,8 +22,8 @@ loop-holds : tie.Need-loop-holds Inv-loop μ-loop
 unfolding iter
 loop-holds c = (omega arith, refl)
 
-read-word-requires : tie.Need-read-word-requires Inv-loop μ-loop
-read-word-requires c κs = search needs
+seen-word-requires : tie.Need-seen-word-requires Inv-loop μ-loop
+seen-word-requires c κs = search needs
 
 add-i : tie.Need-add-i Inv-loop μ-loop
 add-i c = omega arith
@@ -35,12 +35,12 @@ loop-again : tie.Need-loop-again Inv-loop μ-loop
 loop-again c =
     let d = c .before .before in
     let a = d .before .before .before .before .args in
-    (omega arith, iter-turn (seenAfter (a .letters) (a .targets .now) (a .priorities .now) (a .cycle .now)) (a .s) (d .loop .t) _ (d .loop .i) (d .loop .inv .1) (c .read-word .ensures))
+    (omega arith, iter-turn (seenAfter (a .letters) (a .targets .now) (a .priorities .now) (a .cycle .now)) (a .s) (d .loop .t) _ (d .loop .i) (d .loop .inv .1) (c .seen-word .ensures))
 
 returns : tie.Need-returns Inv-loop μ-loop
 returns c = cc (le-antisymm (c .before .loop .inv .0) (c .loop-test .left))
 
-pub read-rounds-spec : {M : Type 1} → statement M
-read-rounds-spec =
+pub seen-rounds-spec : {M : Type 1} → statement M
+seen-rounds-spec =
     tie.close
-    (tie.spec Inv-loop μ-loop loop-holds read-word-requires add-i loop-less loop-again returns)
+    (tie.spec Inv-loop μ-loop loop-holds seen-word-requires add-i loop-less loop-again returns)

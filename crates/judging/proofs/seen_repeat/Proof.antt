@@ -5,11 +5,11 @@ use Rattle.judging.specs.declared.Watch.{Watch}
 use Rattle.judging.specs.Rounds.{seenState, seenAfter}
 use Rattle.judging.proofs.Turns.{Seeking, seeking-start, seeking-next, seeking-found, seeking-end}
 use borrow.Author.Needs.{needs}
-use Rattle.judging.proofs.find_repeat.Statement.{statement}
-use Rattle.judging.proofs.find_repeat.Tie as tie
-use Rattle.judging.proofs.find_repeat.Reads as reads
-use Rattle.judging.proofs.find_repeat.Lts as lts
-use Rattle.judging.proofs.read_word.Reads as read-word-reads
+use Rattle.judging.proofs.seen_repeat.Statement.{statement}
+use Rattle.judging.proofs.seen_repeat.Tie as tie
+use Rattle.judging.proofs.seen_repeat.Reads as reads
+use Rattle.judging.proofs.seen_repeat.Lts as lts
+use Rattle.judging.proofs.seen_word.Reads as seen-word-reads
 use Rattle.judging.proofs.watch_next.Reads as watch-next-reads
 
 abbrev Inv-loop : tie.InvT-loop
@@ -23,8 +23,8 @@ loop-holds c =
     let a = c .before .before .before .before .args in
     seeking-start (seenAfter (a .letters) (a .targets .now) (a .priorities .now) (a .cycle .now)) seenState (a .n) (a .s)
 
-read-word-requires : tie.Need-read-word-requires Inv-loop μ-loop
-read-word-requires c κs = search needs
+seen-word-requires : tie.Need-seen-word-requires Inv-loop μ-loop
+seen-word-requires c κs = search needs
 
 add-t13 : tie.Need-add-t13 Inv-loop μ-loop
 add-t13 c = let d = c .before .before .before .before .before .before .before in omega (arith, d .loop .inv .watching .ago, d .loop .inv .within, d .before .before .before .before .before .pre)
@@ -34,7 +34,7 @@ returns c =
     let d = c .before .before .before .before .before .before .before in
     let a = d .before .before .before .before .before .args in
     seeking-found (seenAfter (a .letters) (a .targets .now) (a .priorities .now) (a .cycle .now)) seenState (a .n) (a .s) (d .loop .t) (d .loop .w) (d .loop .round) (d .loop .inv)
-    (c .before .before .before .before .before .read-word .result) (c .before .before .before .before .before .read-word .ensures) (c .before .if1 .taken)
+    (c .before .before .before .before .before .seen-word .result) (c .before .before .before .before .before .seen-word .ensures) (c .before .if1 .taken)
 
 watch-next-requires : tie.Need-watch-next-requires Inv-loop μ-loop
 watch-next-requires c κs =
@@ -52,7 +52,7 @@ loop-again : tie.Need-loop-again Inv-loop μ-loop
 loop-again c =
     let d = c .before .before .before .before .before .before .before in
     let a = d .before .before .before .before .before .args in
-    let r = c .before .before .before .before .before .read-word in
+    let r = c .before .before .before .before .before .seen-word in
     let f = seenAfter (a .letters) (a .targets .now) (a .priorities .now) (a .cycle .now) in
     subst (λ (w : Watch). Seeking f seenState (a .n) (a .s) (r .result) w (d .loop .round + 1)) (sym (c .watch-next .ensures))
     (seeking-next f seenState (a .n) (a .s) (d .loop .t) (d .loop .w) (d .loop .round) (d .loop .inv) (r .result) (r .ensures) (c .before .before .before .before .before .before .loop-test .taken))
@@ -63,14 +63,14 @@ returns-2 c =
     let a = d .before .before .before .before .before .args in
     seeking-end (seenAfter (a .letters) (a .targets .now) (a .priorities .now) (a .cycle .now)) seenState (a .n) (a .s) (d .loop .t) (d .loop .w) (d .loop .round) (d .loop .inv) (c .loop-test .left)
 
-pub find-repeat-spec : {M : Type 1} → statement M
-find-repeat-spec =
+pub seen-repeat-spec : {M : Type 1} → statement M
+seen-repeat-spec =
     tie.close
     (tie.spec
     Inv-loop
     μ-loop
     loop-holds
-    read-word-requires
+    seen-word-requires
     add-t13
     returns
     watch-next-requires

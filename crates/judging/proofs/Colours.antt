@@ -1,0 +1,113 @@
+-- Judging a policy: what reading letters collects, and what the search for a repeat and the rounds after it come to; each answer of the definition.
+-- Assumes nothing.
+use Prim.Native.Nat.{ℕ, zero, suc, _+_, _*_, _^_, _≤_, _<_}
+use native.Mathlib.Omega.{arith}
+use mathlib.Core.Path.{_≡_, refl, sym, ap, ap₂, _∙_, subst}
+use mathlib.Core.Bool.{Bool, true, false, _&&_, cond}
+use mathlib.Core.List.{List, [], _∷_, _++_}
+use lib.Bits.{bitOr, or-zero-l, or-zero-r}
+use lib.ListN.{length}
+use borrow.Author.Tests.{lt-ltb, le-ltb}
+use Rattle.recurrence.specs.Recurs.{iter, rounds}
+use Rattle.recurrence.specs.Runs.{after, met, window}
+use Rattle.recurrence.proofs.Runs.{after-keeps}
+use Rattle.recurrence.proofs.Repeats.{iter-keeps}
+use Rattle.masks.specs.Masks.{insert}
+use Rattle.policy.specs.declared.Policy.{Policy}
+use Rattle.policy.specs.Policies.{legal, edges, edgeOf, targetOf, colourOf, edgeColours, inFamily}
+use Rattle.policy.proofs.Laws.{legal-counts, legal-colour, edges-le, edge-lt}
+use Rattle.running.specs.Running.{policyStep, policyMeets}
+use Rattle.running.proofs.Steps.{policy-moves, policy-stays, policy-within}
+use Rattle.judging.specs.declared.PolicyVerdict.{PolicyVerdict}
+use Rattle.judging.specs.declared.PolicyVerdict.the-variants.{Judged, Refused as RefusedPolicy}
+use Rattle.judging.specs.declared.Coloured.{Coloured}
+use Rattle.judging.specs.Judging.{nonEmpty, inRange, setOf, recurringColours, policyVerdict}
+use Rattle.judging.specs.Rounds.{through, Comes, colouredState, colouredStep, colouredAfter}
+use Rattle.judging.proofs.Collect.{through-run, window-value}
+use Rattle.judging.proofs.Laws.{set-append, set-same, none-of, some-of}
+
+abbrev coloured : ℕ → ℕ → Coloured
+coloured v c = record { state = v; colours = c }
+
+module _ (p : Policy) where
+  -- ---- one letter
+  pub coloured-stays : (m : Coloured) (a : ℕ) → p .letters ≤ a → m ≡ colouredStep p m a
+  unfolding colouredStep setOf
+  coloured-stays m a h =
+      let q = policy-stays p (m .state) a (le-ltb a (p .letters) h) in
+      sym (ap₂ coloured (q .0) (ap (λ (l : List ℕ). bitOr (m .colours) (setOf l)) (q .1) ∙ or-zero-r (m .colours)))
+
+  pub coloured-moves : (m : Coloured) (a : ℕ) → a < p .letters
+      → (t c : ℕ) → t ≡ targetOf p (m .state * p .letters + a) → c ≡ insert (m .colours) (colourOf p (m .state * p .letters + a)) → record { state = t; colours = c } ≡ colouredStep p m a
+  unfolding colouredStep setOf insert edgeOf edgeColours
+  coloured-moves m a h t c te ce =
+      let q = policy-moves p (m .state) a (lt-ltb a (p .letters) h) in
+      let one : 2 ^ colourOf p (m .state * p .letters + a) ≡ setOf (policyMeets p (m .state) a) = sym (ap setOf (q .1) ∙ or-zero-l (2 ^ colourOf p (m .state * p .letters + a))) in
+      ap₂ coloured (te ∙ sym (q .0)) (ce ∙ ap (bitOr (m .colours)) one)
+
+  pub edge-small : legal p ≡ true → (v a : ℕ) → v < p .states → a < p .letters → v * p .letters + a < 64
+  unfolding edgeOf
+  edge-small ok v a h l = omega (arith, edge-lt p v a h l, edges-le p ok)
+
+  pub colour-small : legal p ≡ true → (v a : ℕ) → v < p .states → a < p .letters → colourOf p (v * p .letters + a) < 8
+  unfolding edgeOf
+  colour-small ok v a h l = omega (arith, legal-colour p ok (v * p .letters + a) (edge-lt p v a h l), legal-counts p ok .colours-few)
+
+  pub step-within : legal p ≡ true → (m : Coloured) (a : ℕ) → m .state < p .states → colouredStep p m a .state < p .states
+  unfolding colouredStep
+  step-within ok m a h = policy-within p ok (m .state) a h
+
+  moves : (m : Coloured) (a : ℕ) → colouredStep p m a .state ≡ policyStep p (m .state) a
+  unfolding colouredStep
+  moves m a = refl
+
+  adds : (m : Coloured) (a : ℕ) (l : List ℕ) → m .colours ≡ setOf l → colouredStep p m a .colours ≡ setOf (l ++ policyMeets p (m .state) a)
+  unfolding colouredStep
+  adds m a l e = ap (λ (s : ℕ). bitOr s (setOf (policyMeets p (m .state) a))) e ∙ sym (set-append l (policyMeets p (m .state) a))
+
+  word-is : (w : List ℕ) (m : Coloured) → colouredAfter p w m .state ≡ after (policyStep p) (policyMeets p) w (m .state)
+  word-is w m = through-run (policyStep p) (policyMeets p) (colouredStep p) (λ m. m .state) (λ m. m .colours) setOf moves adds w m
+
+  pub word-within : legal p ≡ true → (w : List ℕ) (m : Coloured) → m .state < p .states → colouredAfter p w m .state < p .states
+  word-within ok w m h = subst (λ (v : ℕ). v < p .states) (sym (word-is w m)) (after-keeps (policyStep p) (policyMeets p) (λ v. v < p .states) (policy-within p ok) w (m .state) h)
+
+  pub rounds-within : legal p ≡ true → (loop : List ℕ) (k : ℕ) (m : Coloured) → m .state < p .states → iter (colouredAfter p loop) k m .state < p .states
+  rounds-within ok loop k m h = iter-keeps (colouredAfter p loop) (λ m. m .state < p .states) (λ m h. word-within ok loop m h) m h k
+
+  module _ (v : ℕ) (stem loop : List ℕ) where
+    -- the rounds read after the search meet what recurs
+    pub colours-recur : legal p ≡ true → v < p .states → (s t : Coloured) (k : ℕ) → s ≡ colouredAfter p stem (coloured v 0)
+        → Comes (colouredAfter p loop) colouredState (p .states) s t k
+        → (again : Coloured) → again .state ≡ t .state → again .colours ≡ 0
+        → iter (colouredAfter p loop) k again .colours ≡ recurringColours p v stem loop
+    unfolding recurringColours window setOf
+    colours-recur ok lt s t k e c again same none =
+        window-value (policyStep p) (policyMeets p) (colouredStep p) (λ m. m .state) (λ m. m .colours) setOf moves adds loop set-same
+        (λ v. v) (λ v. v) (λ v. refl) (λ v. refl) (p .states) (policy-within p ok) s t (subst (λ (s : Coloured). s .state < p .states) (sym e) (word-within ok stem (coloured v 0) lt)) k c again same none
+        ∙ ap (λ (x : ℕ). setOf (rounds (after (policyStep p) (policyMeets p) loop) (met (policyStep p) (policyMeets p) loop) x (p .states) (p .states)))
+        (ap (λ (s : Coloured). s .state) e ∙ word-is stem (coloured v 0))
+
+    -- ---- the answers, by the questions in their order
+    pub policy-7 : legal p ≡ false → policyVerdict p v stem loop ≡ RefusedPolicy 7
+    unfolding policyVerdict
+    policy-7 f = rw f refl
+
+    module _ (ok : legal p ≡ true) where
+      pub policy-11 : p .states ≤ v → policyVerdict p v stem loop ≡ RefusedPolicy 11
+      unfolding policyVerdict
+      policy-11 h = rw (ok, le-ltb _ _ h) refl
+
+      module _ (lt : v < p .states) where
+        pub policy-14 : length loop ≡ 0 → policyVerdict p v stem loop ≡ RefusedPolicy 14
+        unfolding policyVerdict
+        policy-14 h = rw (ok, lt-ltb _ _ lt, none-of loop h) refl
+
+        module _ (some : length loop ≡ 0 → ⊥) where
+          pub policy-12 : inRange (p .letters) stem && inRange (p .letters) loop ≡ false → policyVerdict p v stem loop ≡ RefusedPolicy 12
+          unfolding policyVerdict
+          policy-12 f = rw (ok, lt-ltb _ _ lt, some-of loop some, f) refl
+
+          pub policy-judged : inRange (p .letters) stem && inRange (p .letters) loop ≡ true
+              → policyVerdict p v stem loop ≡ Judged (recurringColours p v stem loop) (inFamily p (recurringColours p v stem loop))
+          unfolding policyVerdict
+          policy-judged t = rw (ok, lt-ltb _ _ lt, some-of loop some, t) refl
