@@ -1,2 +1,3 @@
 pub mod Graphs
 pub mod Pairs
+pub mod Tests

@@ -1,0 +1,80 @@
+-- `has_same_targets` meets its contract: each edge passed has one target in both. Assumes nothing.
+use Prim.Native.Nat.{_-_, _≤_, _<_}
+use native.Mathlib.Nat.{le-antisymm}
+use native.Mathlib.Omega.{arith}
+use mathlib.Core.Path.{_≡_, refl, sym, ap, _∙_}
+use mathlib.Core.Bool.{true}
+use borrow.Author.Needs.{needs}
+use Rattle.lists.specs.Lists.{all, below}
+use Rattle.policy.specs.Policies.{edges}
+use Rattle.policy.proofs.Laws.{edges-le}
+use Rattle.comparing.specs.Pairs.{sameTarget, sameTargets}
+use Rattle.comparing.proofs.Tests.{all-more, all-not, target-same, target-other}
+use Rattle.comparing.proofs.has_same_targets.Statement.{statement}
+use Rattle.comparing.proofs.has_same_targets.Tie as tie
+
+abbrev Inv-loop : tie.InvT-loop
+Inv-loop p q n e₀ e = (e ≤ n) × (all (sameTarget p q) (below e) ≡ true)
+
+abbrev μ-loop : tie.MeasureT-loop
+μ-loop p q n e₀ e = n - e
+
+edges-requires : tie.Need-edges-requires Inv-loop μ-loop
+edges-requires c κs = search needs
+
+loop-holds : tie.Need-loop-holds Inv-loop μ-loop
+loop-holds c = (omega arith, refl)
+
+-- in the loop e is an edge
+within : (c : tie.In-loop Inv-loop μ-loop) → c .before .loop .e < edges (c .before .before .before .args .p)
+within c = omega (arith, c .before .before .edges .ensures, c .loop-test .taken)
+
+target-of-requires : tie.Need-target-of-requires Inv-loop μ-loop
+target-of-requires c κs = let s = c .before .before .before in omega (arith, within c, edges-le (s .args .p) (s .pre))
+
+target-of-requires-2 : tie.Need-target-of-requires-2 Inv-loop μ-loop
+target-of-requires-2 c κs = let s = c .before .before .before .before in omega (arith, within (c .before), edges-le (s .args .p) (s .pre))
+
+returns : tie.Need-returns Inv-loop μ-loop
+unfolding sameTargets
+returns c =
+    let d = c .before .before .before in
+    let a = d .before .before .before .args in
+    let e = d .before .loop .e in
+    sym (all-not (sameTarget (a .p) (a .q)) (edges (a .p)) e (within d)
+    (target-other (a .p) (a .q) e (λ h. c .if1 .taken (c .before .before .target-of .ensures ∙ h ∙ sym (c .before .target-of2 .ensures)))))
+
+add-e : tie.Need-add-e Inv-loop μ-loop
+add-e c = omega arith
+
+loop-less : tie.Need-loop-less Inv-loop μ-loop
+loop-less c = omega arith
+
+loop-again : tie.Need-loop-again Inv-loop μ-loop
+loop-again c =
+    let d = c .before .before .before in
+    let a = d .before .before .before .args in
+    let e = d .before .loop .e in
+    (omega arith, all-more (sameTarget (a .p) (a .q)) e (d .before .loop .inv .1) (target-same (a .p) (a .q) e (sym (c .before .before .target-of .ensures) ∙ c .if1 .left ∙ c .before .target-of2 .ensures)))
+
+returns-2 : tie.Need-returns-2 Inv-loop μ-loop
+unfolding sameTargets
+returns-2 c =
+    let a = c .before .before .before .args in
+    sym (ap (λ k. all (sameTarget (a .p) (a .q)) (below k)) (sym (c .before .before .edges .ensures) ∙ le-antisymm (c .loop-test .left) (c .before .loop .inv .0)) ∙ c .before .loop .inv .1)
+
+pub has-same-targets-spec : {M : Type 1} → statement M
+has-same-targets-spec =
+    tie.close
+    (tie.spec
+    Inv-loop
+    μ-loop
+    edges-requires
+    loop-holds
+    target-of-requires
+    target-of-requires-2
+    returns
+    add-e
+    loop-less
+    loop-again
+    returns-2)

@@ -1,0 +1,35 @@
+-- `is_free_at` meets its contract. Assumes nothing.
+use native.Mathlib.Omega.{arith}
+use mathlib.Core.Path.{_≡_, sym, ap, _∙_}
+use mathlib.Core.Bool.{not}
+use Rattle.graph.specs.Through.{cycleThrough}
+use Rattle.comparing.specs.Pairs.{pairEdges, exactly}
+use Rattle.comparing.proofs.Tests.{free-none, free-some}
+use Rattle.comparing.proofs.is_free_at.Statement.{statement}
+use Rattle.comparing.proofs.is_free_at.Tie as tie
+
+cycle-through-requires : tie.Need-cycle-through-requires
+cycle-through-requires c κs = (c .pre .0 .legal-p, c .pre .3, c .pre .2)
+
+-- the set found, by its definition
+found : (c : tie.After-cycle-through) → c .cycle-through .result ≡ cycleThrough (c .before .args .p) (pairEdges (c .before .args .p) (c .before .args .q) (c .before .args .c) (c .before .args .d)) (c .before .args .v)
+found c = let s = c .before in c .cycle-through .ensures ∙ ap (λ m. cycleThrough (s .args .p) m (s .args .v)) (s .pre .1)
+
+returns : tie.Need-returns
+returns c =
+    let a = c .before .before .args in
+    sym (free-none (a .p) (a .q) (a .c) (a .d) (a .v) (sym (found (c .before)) ∙ c .if1 .taken))
+
+has-exactly-requires : tie.Need-has-exactly-requires
+has-exactly-requires c κs = c .before .before .pre .0
+
+returns-2 : tie.Need-returns-2
+returns-2 c =
+    let d = c .before .before in
+    let a = d .before .args in
+    ap not (c .has-exactly .ensures ∙ ap (exactly (a .p) (a .q) (a .c) (a .d)) (found d))
+    ∙ sym (free-some (a .p) (a .q) (a .c) (a .d) (a .v) (λ z. c .before .if1 .left (found d ∙ z)))
+
+pub is-free-at-spec : {M : Type 1} → statement M
+is-free-at-spec =
+    tie.close (tie.spec cycle-through-requires returns has-exactly-requires returns-2)
