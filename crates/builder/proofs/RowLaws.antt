@@ -6,14 +6,14 @@ use native.Mathlib.Nat.{le-refl}
 use native.Mathlib.Decide.{ℕ-discrete}
 use mathlib.Core.Path.{_≡_, refl, sym, ap, _∙_, subst}
 use mathlib.Core.Logic.{_⊎_, inl, inr, _≢_}
-use mathlib.Core.Bool.{Bool, true, false, cond, true≢false, false≢true}
+use mathlib.Core.Bool.{Bool, true, false, not, cond, true≢false, false≢true}
 use mathlib.Core.List.{List, [], _∷_, List·Memᴰ, Memᴰ·cast}
 use lib.Dec.{eqb, ltb}
 use lib.ListN.{length, getD, set, length-set}
 use lib.Seq.{getD-set-same, getD-set-other}
 use Rattle.lists.specs.Lists.{filter, firstOr}
 use Rattle.lists.proofs.Lists.{filter-mem}
-use Rattle.lists.proofs.Bools.{test, eqb≡, ≡eqb, neqb, lt-true, lt-false}
+use Rattle.lists.proofs.Bools.{test, eqb≡, ≡eqb, neqb, lt-true, lt-false, not-true}
 use Rattle.masks.specs.Masks.{has}
 use Rattle.masks.proofs.Bits.{inside-all}
 use Rattle.policy.specs.declared.Policy.{Policy}
@@ -33,7 +33,7 @@ use Rattle.builder.proofs.Branch.{of-child, chain-inside, child-above, 
 use Rattle.builder.proofs.Leaves.{LeafUnder, Meets, of-leaf, leaf-under, leaves-good, meets, root-with, with-root, after-out}
 use Rattle.builder.proofs.Tables.{built-good}
 use Rattle.builder.proofs.Ends.{Raised, raised-none, raised-all, raised-root, raised-kept, raised-more, root-parent}
-use Rattle.builder.proofs.Search.{FirstFrom, leaf-after-self, leaf-after-next, leaf-after-first, bound-number, bound-none, over-leaf, first-number}
+use Rattle.builder.proofs.Search.{FirstFrom, leaf-after-self, leaf-after-next, leaf-after-first, bound-number, bound-none, over-leaf, first-number, over-le, over-mono, leaves-ascend-in}
 
 -- ---- whether a child leads to a leaf
 module _ (p : Policy) (ns : List Node) (laws : ForestLaws p ns) where
@@ -59,6 +59,13 @@ module _ (p : Policy) (ns : List Node) (laws : ForestLaws p ns) where
       go : (n ≡ l) ⊎ ((d : ℕ) × (childOf ns n d ≡ true) × List·Memᴰ d (chain ns l)) → n < lead ns n l
       go (inl q) = absurd (off (sym q))
       go (inr s) = omega (arith, lead-is p ns laws n (s .0) l h (s .1) (s .2), child-lt p ns laws n (s .0) (chain-lt ns parent-lt level-up l (s .0) h (s .2)) (s .1))
+
+  lead-lt : (n l : ℕ) → l < length ns → List·Memᴰ n (chain ns l) → lead ns n l < length ns
+  lead-lt n l h m = go (child-between p ns laws n l h m)
+    where
+      go : (n ≡ l) ⊎ ((d : ℕ) × (childOf ns n d ≡ true) × List·Memᴰ d (chain ns l)) → lead ns n l < length ns
+      go (inl q) = omega (arith, ap (λ (x : ℕ). lead ns x l) q, lead-self l h)
+      go (inr s) = omega (arith, lead-is p ns laws n (s .0) l h (s .1) (s .2), chain-lt ns parent-lt level-up l (s .0) h (s .2))
 
 -- ---- the walk up from a leaf
 -- what is left of the walk at n: 0 past the root
@@ -218,7 +225,7 @@ module _ (p : Policy) (ok : legal p ≡ true) (ls : List ℕ) (col : LeafColumn 
   hw = legal-target p ok e he
 
   -- no root has e: the first state over the target
-  pub target-out : met ≡ false → number p (targetOf p e) (leafAfter (forest p) p e l) ≡ firstOver p (targetOf p e)
+  target-out : met ≡ false → number p (targetOf p e) (leafAfter (forest p) p e l) ≡ firstOver p (targetOf p e)
   target-out f = ap (number p w) (after-out (forest p) p e l (sym (m .in-root) ∙ f)) ∙ first-number p (forest-laws p ok) ls col w hw
 
   module _ (t : met ≡ true) where
@@ -251,7 +258,7 @@ module _ (p : Policy) (ok : legal p ≡ true) (ls : List ℕ) (col : LeafColumn 
     at-bound x r f b = bound-number p (forest-laws p ok) ls col w hw x (leafAfter (forest p) p e l) r f b
 
     -- the leaf is the node met
-    pub target-at : (r : ℕ) → child ≡ at → LowerBound ls (firstOver p (targetOf p e)) (firstOver p (targetOf p e + 1)) at r
+    target-at : (r : ℕ) → child ≡ at → LowerBound ls (firstOver p (targetOf p e)) (firstOver p (targetOf p e + 1)) at r
         → number p (targetOf p e) (leafAfter (forest p) p e l) ≡ r
     target-at r q b = at-bound at r (subst (λ (x : ℕ). FirstFrom (leaves (forest p) p w) x (leafAfter (forest p) p e l)) (sym n≡) (leaf-after-self p (forest p) (forest-laws p ok) e l rooted g (self q))) b
 
@@ -262,7 +269,7 @@ module _ (p : Policy) (ok : legal p ≡ true) (ls : List ℕ) (col : LeafColumn 
         (y .0, of-leaf (forest p) p w (y .0) (y .1 .in-range) (y .1 .is-leaf))
 
     -- a state over the target below a child after the one that leads to l
-    pub target-next : (r : ℕ) → child ≢ at → LowerBound ls (firstOver p (targetOf p e)) (firstOver p (targetOf p e + 1)) (endOf (forest p) child) r
+    target-next : (r : ℕ) → child ≢ at → LowerBound ls (firstOver p (targetOf p e)) (firstOver p (targetOf p e + 1)) (endOf (forest p) child) r
         → r < firstOver p (targetOf p e + 1) → getD ls r 0 < endOf (forest p) at → number p (targetOf p e) (leafAfter (forest p) p e l) ≡ r
     target-next r q b i j =
         at-bound (endOf (forest p) child) r
@@ -271,7 +278,7 @@ module _ (p : Policy) (ok : legal p ≡ true) (ls : List ℕ) (col : LeafColumn 
         (subst (λ (x : ℕ). endOf (forest p) x ≤ getD ls r 0) c≡ (b .after r (le-refl r) i)) (subst (λ (x : ℕ). getD ls r 0 < endOf (forest p) x) n≡ j))) b
 
     -- no such state
-    pub target-first : (r₀ r : ℕ) → child ≢ at → LowerBound ls (firstOver p (targetOf p e)) (firstOver p (targetOf p e + 1)) (endOf (forest p) child) r₀
+    target-first : (r₀ r : ℕ) → child ≢ at → LowerBound ls (firstOver p (targetOf p e)) (firstOver p (targetOf p e + 1)) (endOf (forest p) child) r₀
         → (r₀ < firstOver p (targetOf p e + 1) → getD ls r₀ 0 < endOf (forest p) at → ⊥) → LowerBound ls (firstOver p (targetOf p e)) (firstOver p (targetOf p e + 1)) at r
         → number p (targetOf p e) (leafAfter (forest p) p e l) ≡ r
     target-first r₀ r q b₀ no-leaf b =
@@ -279,6 +286,69 @@ module _ (p : Policy) (ok : legal p ≡ true) (ls : List ℕ) (col : LeafColumn 
         (subst (λ (x : ℕ). FirstFrom (leaves (forest p) p w) x (leafAfter (forest p) p e l)) (sym n≡)
         (leaf-after-first p (forest p) (forest-laws p ok) e l rooted g (off q)
         (λ z k i j. bound-none p (forest-laws p ok) ls col w hw (endOf (forest p) child) (endOf (forest p) at) r₀ b₀ no-leaf z k (subst (λ (x : ℕ). endOf (forest p) x ≤ z) (sym c≡) i) (subst (λ (x : ℕ). z < endOf (forest p) x) (sym n≡) j)))) b
+
+-- ---- the searches over the tables
+-- where the edge meets the branch, and the tables to search
+abbrev pub Place : Policy → ℕ → ℕ → Bool → ℕ → ℕ → ℕ → Type 0
+Place p e l met at child priority =
+    (legal p ≡ true) × (e < edges p) × List·Memᴰ l (orElse 65535 (leaves (forest p) p (source p e))) × Met p e l met at child priority
+
+abbrev pub Search : Policy → List ℕ → List ℕ → ℕ → ℕ → ℕ → Type 0
+Search p ends entries e from to =
+    (length (forest p) ≤ 65535) × Ends p ends × LeafColumn p entries × (from ≡ firstOver p (targetOf p e)) × (to ≡ firstOver p (targetOf p e + 1))
+
+module _ (p : Policy) (ends entries : List ℕ) (e l : ℕ) (met : Bool) (at child priority from to : ℕ) (a : Place p e l met at child priority) (b : Search p ends entries e from to) where
+  stands : Good (forest p) p (source p e) l
+  stands = leaves-good p (forest p) (forest-laws p (a .0)) (source p e) l (a .2)
+
+  bound : (x r : ℕ) → LowerBound entries from to x r → LowerBound entries (firstOver p (targetOf p e)) (firstOver p (targetOf p e + 1)) x r
+  bound x r w = subst (λ (z : ℕ). LowerBound entries (firstOver p (targetOf p e)) z x r) (b .4) (subst (λ (z : ℕ). LowerBound entries z to x r) (b .3) w)
+
+  -- the run to search
+  pub find-run : (from ≤ to) × (to ≤ length entries) × AscendsIn entries from to
+  find-run =
+      (omega (arith, b .3, b .4, over-mono p (targetOf p e)), omega (arith, b .4, over-le p (targetOf p e + 1), b .2 .long),
+      λ i j x y z. leaves-ascend-in p entries (b .2) (targetOf p e) i j (omega (arith, b .3)) y (omega (arith, b .4)))
+
+  pub find-out : not met ≡ true → from ≡ number p (targetOf p e) (leafAfter (forest p) p e l)
+  find-out f = b .3 ∙ sym (target-out p (a .0) entries (b .2) e (a .1) l stands met at child priority (a .3) (not-true met f))
+
+  module _ (f : not met ≡ false) where
+    t : met ≡ true
+    t = go met f
+      where
+        go : (x : Bool) → not x ≡ false → x ≡ true
+        go true q = refl
+        go false q = absurd (true≢false q)
+
+    meeting : Meets (forest p) p e l
+    meeting = meets p (forest p) (forest-laws p (a .0)) e l (a .1) (sym (a .3 .in-root) ∙ t) stands
+
+    at-lt : at < length (forest p)
+    at-lt = omega (arith, a .3 .node-is t, meeting .node-range)
+
+    child-in : child < length (forest p)
+    child-in = omega (arith, a .3 .child-is t, lead-lt p (forest p) (forest-laws p (a .0)) (deepest (forest p) e l) l (meeting .leaf-range) (meeting .node-above))
+
+    -- the places of the node and of the child in the table of ends
+    pub find-in : (at < length ends) × (child < length ends) × (at < 65535) × (child < 65535)
+    find-in =
+        (omega (arith, at-lt, b .1 .long), omega (arith, child-in, b .1 .long), omega (arith, at-lt, b .0), omega (arith, child-in, b .0))
+
+    pub find-at : (r : ℕ) → child ≡ at → LowerBound entries from to at r → r ≡ number p (targetOf p e) (leafAfter (forest p) p e l)
+    find-at r q w = sym (target-at p (a .0) entries (b .2) e (a .1) l stands met at child priority (a .3) t r q (bound at r w))
+
+    module _ (x r₀ : ℕ) (q : child ≢ at) (is : x ≡ getD ends child 0) (w₀ : LowerBound entries from to x r₀) where
+      ended : LowerBound entries (firstOver p (targetOf p e)) (firstOver p (targetOf p e + 1)) (endOf (forest p) child) r₀
+      ended = subst (λ (z : ℕ). LowerBound entries (firstOver p (targetOf p e)) (firstOver p (targetOf p e + 1)) z r₀) (is ∙ b .1 .ends-are child child-in) (bound x r₀ w₀)
+
+      pub find-next : r₀ < to → getD entries r₀ 0 < getD ends at 0 → r₀ ≡ number p (targetOf p e) (leafAfter (forest p) p e l)
+      find-next i j =
+          sym (target-next p (a .0) entries (b .2) e (a .1) l stands met at child priority (a .3) t r₀ q ended (omega (arith, b .4)) (omega (arith, b .1 .ends-are at at-lt)))
+
+      pub find-first : (r : ℕ) → (r₀ < to → getD entries r₀ 0 < getD ends at 0 → ⊥) → LowerBound entries from to at r → r ≡ number p (targetOf p e) (leafAfter (forest p) p e l)
+      find-first r none w =
+          sym (target-first p (a .0) entries (b .2) e (a .1) l stands met at child priority (a .3) t r₀ r q ended (λ i j. none (omega (arith, b .4)) (omega (arith, b .1 .ends-are at at-lt))) (bound at r w))
 
 -- ---- binary search
 -- what is sought lies from low up to high
