@@ -121,8 +121,12 @@ module _ (p : Policy) where
         go : (rootAt ns n ≡ true) ⊎ (rootAt ns n ≡ false) → Climbing e l (parentAt ns n) n
         go (inl t) = inl (root-parent p n (k .0) t, past t (test (inRoot ns e)))
         go (inr t) =
-            inr (omega (arith, laws .parent-lt n (k .0) t, k .0), k .1, chain-trans ns (laws .parent-lt) (laws .level-up) l n (parentAt ns n) (k .1) (k .2) (chain-parent ns (laws .parent-lt) (laws .level-up) n (k .0) t),
-            inr (of-child ns (parentAt ns n) n t refl, k .2, f))
+            inr (
+              omega (arith, laws .parent-lt n (k .0) t, k .0),
+              k .1,
+              chain-trans ns (laws .parent-lt) (laws .level-up) l n (parentAt ns n) (k .1) (k .2) (chain-parent ns (laws .parent-lt) (laws .level-up) n (k .0) t),
+              inr (of-child ns (parentAt ns n) n t refl, k .2, f),
+            )
 
     -- the walk ends: its measure
     climb-less : (n c : ℕ) → Climbing e l n c → n ≢ 65535 → left (parentAt (forest p) n) < left n
@@ -306,9 +310,11 @@ module _ (p : Policy) (ends entries : List ℕ) (e l : ℕ) (met : Bool) (at chi
 
   -- the run to search
   pub find-run : (from ≤ to) × (to ≤ length entries) × AscendsIn entries from to
-  find-run =
-      (omega (arith, b .3, b .4, over-mono p (targetOf p e)), omega (arith, b .4, over-le p (targetOf p e + 1), b .2 .long),
-      λ i j x y z. leaves-ascend-in p entries (b .2) (targetOf p e) i j (omega (arith, b .3)) y (omega (arith, b .4)))
+  find-run = (
+    omega (arith, b .3, b .4, over-mono p (targetOf p e)),
+    omega (arith, b .4, over-le p (targetOf p e + 1), b .2 .long),
+    λ i j x y z. leaves-ascend-in p entries (b .2) (targetOf p e) i j (omega (arith, b .3)) y (omega (arith, b .4)),
+  )
 
   pub find-out : not met ≡ true → from ≡ number p (targetOf p e) (leafAfter (forest p) p e l)
   find-out f = b .3 ∙ sym (target-out p (a .0) entries (b .2) e (a .1) l stands met at child priority (a .3) (not-true met f))

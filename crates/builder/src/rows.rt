@@ -1,7 +1,6 @@
 // One row of the automaton at a time: where each node's descendants end, the walk up from a leaf to the deepest node with an edge, and a binary
 // search among the states over the edge's target.
 use policy::Policy;
-
 ghost use mathlib.Core.Path.{_≡_};
 ghost use mathlib.Core.List.{List·Memᴰ};
 ghost use mathlib.Core.Bool.{true};
@@ -121,7 +120,16 @@ fn climb(p: Policy, masks: &[u64], parents: &[u16], ranks: &[u8], e: usize, leaf
 }
 
 // The state that e leads to from a leaf, among those over its target, which stand from `from` up to `to`.
-fn find(p: Policy, ends: &[u16], entries: &[u16], e: usize, leaf: usize, m: Meeting, from: usize, to: usize) -> usize
+fn find(
+    p: Policy,
+    ends: &[u16],
+    entries: &[u16],
+    e: usize,
+    leaf: usize,
+    m: Meeting,
+    from: usize,
+    to: usize,
+) -> usize
     requires place { ⌜ (legal p ≡ true) × (e < edges p) × List·Memᴰ leaf (orElse 65535 (leaves (forest p) p (source p e))) × Met p e leaf (m .met) (m .node) (m .child) (m .priority) ⌝ }
     requires tables { ⌜ (length (forest p) ≤ 65535) × Ends p (now ends) × LeafColumn p (now entries) × (from ≡ firstOver p (targetOf p e)) × (to ≡ firstOver p (targetOf p e + 1)) ⌝ }
     ensures { λ r. ⌜ r ≡ number p (targetOf p e) (leafAfter (forest p) p e leaf) ⌝ }
@@ -149,7 +157,18 @@ pub struct Row {
 }
 
 // The row of the built state s and a letter.
-pub fn row_of(p: Policy, masks: &[u64], parents: &[u16], ranks: &[u8], ends: &[u16], sources: &[u8], entries: &[u16], starts: &[usize; 17], s: usize, letter: u8) -> Row
+pub fn row_of(
+    p: Policy,
+    masks: &[u64],
+    parents: &[u16],
+    ranks: &[u8],
+    ends: &[u16],
+    sources: &[u8],
+    entries: &[u16],
+    starts: &[usize; 17],
+    s: usize,
+    letter: u8,
+) -> Row
     requires nodes { ⌜ (legal p ≡ true) × Nodes p (now masks) (now parents) (now ranks) × Ends p (now ends) ⌝ }
     requires states { ⌜ States p (now sources) (now entries) × Starts p (now starts) × (s < length (built p)) × (letter < p .letters) ⌝ }
     ensures { λ r. ⌜ (r .target ≡ rowTarget p s letter) × (r .priority ≡ rowPriority p s letter) ⌝ }

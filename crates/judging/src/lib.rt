@@ -110,7 +110,14 @@ fn seen_word(s: Seen, word: &[u8], letters: u8, targets: &[u16], priorities: &[u
 }
 
 // After k rounds.
-fn seen_rounds(s: Seen, k: usize, cycle: &[u8], letters: u8, targets: &[u16], priorities: &[u8]) -> Seen
+fn seen_rounds(
+    s: Seen,
+    k: usize,
+    cycle: &[u8],
+    letters: u8,
+    targets: &[u16],
+    priorities: &[u8],
+) -> Seen
     ensures { λ r. ⌜ r ≡ iter (seenAfter letters (now (targets .entry)) (now (priorities .entry)) (now (cycle .entry))) k s ⌝ }
 {
     let mut t = s;
@@ -129,7 +136,14 @@ pub struct Found {
 }
 
 // Reads rounds until the run comes back to the state that is watched for, or for n rounds.
-fn seen_repeat(s: Seen, n: usize, cycle: &[u8], letters: u8, targets: &[u16], priorities: &[u8]) -> Found
+fn seen_repeat(
+    s: Seen,
+    n: usize,
+    cycle: &[u8],
+    letters: u8,
+    targets: &[u16],
+    priorities: &[u8],
+) -> Found
     requires { ⌜ n < 65536 ⌝ }
     ensures { λ r. ⌜ Comes (seenAfter letters (now (targets .entry)) (now (priorities .entry)) (now (cycle .entry))) seenState n s (r .seen) (r .rounds) ⌝ }
 {
@@ -157,7 +171,14 @@ fn seen_repeat(s: Seen, n: usize, cycle: &[u8], letters: u8, targets: &[u16], pr
 }
 
 // The least priority that the run over the rows meets again and again, from a state over the stem and then the loop without end.
-pub fn judge_rows(letters: u8, targets: &[u16], priorities: &[u8], state: u16, stem: &[u8], cycle: &[u8]) -> RowsVerdict
+pub fn judge_rows(
+    letters: u8,
+    targets: &[u16],
+    priorities: &[u8],
+    state: u16,
+    stem: &[u8],
+    cycle: &[u8],
+) -> RowsVerdict
     ensures { λ r. ⌜ r ≡ rowsVerdict letters (now (targets .entry)) (now (priorities .entry)) (record { state = state }) (now (stem .entry)) (now (cycle .entry)) ⌝ }
 {
     if !running::is_shaped(letters, targets, priorities) {

@@ -73,25 +73,34 @@ module _ (d : Draft) (sound : Sound d) where
     where
       p : Policy
       p = d .policy
+
       n : ℕ
       n = edgeOf p v a
+
       w3 : ltb v (p .states) && ltb a (p .letters) && ltb t (p .states) ≡ true
       w3 = and-l (ltb v (p .states) && ltb a (p .letters) && ltb t (p .states)) (ltb k (p .colours)) w
+
       w2 : ltb v (p .states) && ltb a (p .letters) ≡ true
       w2 = and-l (ltb v (p .states) && ltb a (p .letters)) (ltb t (p .states)) w3
+
       n-lt : n < edges p
       n-lt = edge-lt p v a (ltb-true v (p .states) (and-l (ltb v (p .states)) (ltb a (p .letters)) w2)) (ltb-true a (p .letters) (and-r (ltb v (p .states)) (ltb a (p .letters)) w2))
+
       t-lt : t < p .states
       t-lt = ltb-true t (p .states) (and-r (ltb v (p .states) && ltb a (p .letters)) (ltb t (p .states)) w3)
+
       k-lt : k < p .colours
       k-lt = ltb-true k (p .colours) (and-r (ltb v (p .states) && ltb a (p .letters) && ltb t (p .states)) (ltb k (p .colours)) w)
+
       n-64 : n < 64
       n-64 = omega (arith, n-lt, counts p (sound .counts-fit) .edges-few)
+
       given : (e : ℕ) → Dec (e ≡ n) → (has (d .given) e ≡ true) ⊎ (eqb n e ≡ true) → (e < edges p) × (getD (set (p .target) n t) e 0 < p .states) × (getD (set (p .colour) n k) e 0 < p .colours)
       given e (yes q) h =
           rw q (n-lt, subst (λ (x : ℕ). x < p .states) (sym (getD-set-same (p .target) n t 0 (omega (arith, n-64, sound .targets-long)))) t-lt, subst (λ (x : ℕ). x < p .colours) (sym (getD-set-same (p .colour) n k 0 (omega (arith, n-64, sound .colours-long)))) k-lt)
       given e (no q) (inl h) = rw (getD-set-other (p .target) n e t 0 q, getD-set-other (p .colour) n e k 0 q) (sound .given-edge e h)
       given e (no q) (inr h) = absurd (q (sym (eqb-true n e h)))
+
       other : (e : ℕ) → Dec (e ≡ n) → has (d .given) e || eqb n e ≡ false → (getD (set (p .target) n t) e 0 ≡ 0) × (getD (set (p .colour) n k) e 0 ≡ 0)
       other e (yes q) h = absurd (true≢false (sym (or-right (has (d .given) e) (eqb n e) (eq-eqb n e (sym q))) ∙ h))
       other e (no q) h = rw (getD-set-other (p .target) n e t 0 q, getD-set-other (p .colour) n e k 0 q) (sound .other-edge e (or-none (has (d .given) e) (eqb n e) h))
@@ -109,6 +118,7 @@ module _ (d : Draft) (sound : Sound d) where
     where
       p : Policy
       p = d .policy
+
       go : (x : ℕ) → Dec (x ≡ s) → getD (set (p .family) s true) x false ≡ true → (0 < x) × (x < 2 ^ p .colours)
       go x (yes q) h = rw q (ltb-true 0 s (and-l (ltb 0 s) (ltb s (2 ^ p .colours)) w), ltb-true s (2 ^ p .colours) (and-r (ltb 0 s) (ltb s (2 ^ p .colours)) w))
       go x (no q) h = sound .in-family x (sym (getD-set-other (p .family) s x true false q) ∙ h)
@@ -123,11 +133,13 @@ module _ (d : Draft) (sound : Sound d) where
     where
       p : Policy
       p = d .policy
+
       edge : (e : ℕ) → (ltb e (edges p) ≡ true) ⊎ (ltb e (edges p) ≡ false) → (has (d .given) e ≡ true) ⊎ (has (d .given) e ≡ false) → legalEdge p e ≡ true
       edge e (inl t) (inl h) = let r = sound .given-edge e h in rw t (both (ltb (targetOf p e) (p .states)) (ltb (colourOf p e) (p .colours)) (lt-ltb _ _ (r .1)) (lt-ltb _ _ (r .2)))
       edge e (inl t) (inr h) = absurd (true≢false (sym (all-each (has (d .given)) (below (edges p)) g e (mem-below (edges p) e (ltb-true e (edges p) t))) ∙ h))
       edge e (inr t) (inl h) = absurd (omega (arith, ltb-false e (edges p) t, sound .given-edge e h .0))
       edge e (inr t) (inr h) = let r = sound .other-edge e h in rw t (both (eqb (targetOf p e) 0) (eqb (colourOf p e) 0) (eq-eqb _ _ (r .0)) (eq-eqb _ _ (r .1)))
+
       in-set : (s : ℕ) → (inFamily p s ≡ true) ⊎ (inFamily p s ≡ false) → legalSet p s ≡ true
       in-set s (inl t) = let r = sound .in-family s t in rw t (both (ltb 0 s) (ltb s (2 ^ p .colours)) (lt-ltb _ _ (r .0)) (lt-ltb _ _ (r .1)))
       in-set s (inr f) = rw f

@@ -37,13 +37,12 @@ loop-less c = omega arith
 loop-again : tie.Need-loop-again Inv-loop μ-loop
 loop-again c =
     let d = c .before .before .before in
-    let a = d .before .before .args in
-    (
+    let a = d .before .before .args in (
       omega arith,
       subst (λ (m : Coloured). m .state < a .p .states) (sym (c .coloured-with .ensures)) (step-within (a .p) (d .before .before .pre .0) (d .loop .t) _ (d .loop .inv .1)),
       ap (colouredAfter (a .p) (drop (d .loop .i + 1) (a .word .now))) (c .coloured-with .ensures)
-      ∙ sym (through-turn (colouredStep (a .p)) (a .word .now) (d .loop .i) (d .loop .t) (c .before .before .loop-test .taken))
-      ∙ d .loop .inv .2,
+          ∙ sym (through-turn (colouredStep (a .p)) (a .word .now) (d .loop .i) (d .loop .t) (c .before .before .loop-test .taken))
+          ∙ d .loop .inv .2,
     )
 
 returns : tie.Need-returns Inv-loop μ-loop

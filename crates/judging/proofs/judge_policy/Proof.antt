@@ -31,7 +31,6 @@ returns c =
 ok : (c : tie.Else1) → legal (c .before .before .before .before .args .p) ≡ true
 ok c = sym (c .before .is-legal .ensures) ∙ not-false _ (c .if1 .left)
 
-
 returns-2 : tie.Need-returns-2
 returns-2 c =
     let a = c .before .before .before .before .before .before .args in
@@ -83,7 +82,7 @@ returns-5 c =
     let d = f .before .before in
     let e = d .before .before .before in
     let is = ap (λ (m : Coloured). m .colours) (c .before .coloured-rounds .ensures)
-        ∙ colours-recur (a .p) (a .state) (a .stem .now) (a .cycle .now) (ok (e .before .before .before)) (e .before .if2 .left) _ _ _ (f .before .coloured-word .ensures) (f .coloured-repeat .ensures) _ refl refl in
+    ∙ colours-recur (a .p) (a .state) (a .stem .now) (a .cycle .now) (ok (e .before .before .before)) (e .before .if2 .left) _ _ _ (f .before .coloured-word .ensures) (f .coloured-repeat .ensures) _ refl refl in
     ap₂ Judged is (c .in-family .ensures ∙ ap (inFamily (a .p)) is)
     ∙ sym (policy-judged (a .p) (a .state) (a .stem .now) (a .cycle .now) (ok (e .before .before .before)) (e .before .if2 .left) (e .if3 .left)
     (sym (ap₂ _&&_ (d .before .before .in-range .ensures) (d .before .in-range2 .ensures)) ∙ not-false _ (d .if4 .left)))

@@ -32,7 +32,6 @@ returns c =
 shape : (c : tie.Else1) → let a = c .before .before .before .before .before .before .args in shaped (a .letters) (a .targets .now) (a .priorities .now) ≡ true
 shape c = sym (c .before .is-shaped .ensures) ∙ not-false _ (c .if1 .left)
 
-
 div-n : tie.Need-div-n
 div-n c = omega (arith, shaped-facts _ _ _ (shape c))
 
@@ -65,7 +64,6 @@ returns-4 c =
 -- past question 12
 range : (c : tie.Else4) → let a = c .before .before .before .before .before .before .before .before .before .before .before .args in inRange (a .letters) (a .stem .now) && inRange (a .letters) (a .cycle .now) ≡ true
 range c = sym (ap₂ _&&_ (c .before .before .in-range .ensures) (c .before .in-range2 .ensures)) ∙ not-false _ (c .if4 .left)
-
 
 seen-word-requires : tie.Need-seen-word-requires
 seen-word-requires c κs = search needs

@@ -41,12 +41,11 @@ loop-again : tie.Need-loop-again Inv-loop μ-loop
 unfolding seenStep
 loop-again c =
     let d = c .before .before .before .before .before in
-    let a = d .before .before .before .before .args in
-    (
+    let a = d .before .before .before .before .args in (
       omega arith,
       ap (seenAfter (a .letters) (a .targets .now) (a .priorities .now) (drop (d .loop .i + 1) (a .word .now))) (c .seen-with .ensures ∙ ap (seenWith (d .loop .t)) (c .before .read .ensures))
-      ∙ sym (through-turn (seenStep (a .letters) (a .targets .now) (a .priorities .now)) (a .word .now) (d .loop .i) (d .loop .t) (c .before .before .before .before .loop-test .taken))
-      ∙ d .loop .inv .1,
+          ∙ sym (through-turn (seenStep (a .letters) (a .targets .now) (a .priorities .now)) (a .word .now) (d .loop .i) (d .loop .t) (c .before .before .before .before .loop-test .taken))
+          ∙ d .loop .inv .1,
     )
 
 returns : tie.Need-returns Inv-loop μ-loop
