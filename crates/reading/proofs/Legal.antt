@@ -186,18 +186,18 @@ module _ (b : List ℕ) where
           → Kept (readMost (suc n) b at d .outcome) (readMost (suc n) b at d .policy)
       go (inr f) e ih = rw f refl
       go (inl t) (inl e) ih =
-          let w = passed b at d (eqb-true (refusalOf b at d) 0 t) in
+          let w = passed (eqb-true (refusalOf b at d) 0 t) in
           rw (t, e) (legal-at-end at d (commandAt b at) s (w .place) e (w .complete))
       go (inl t) (inr e) ih =
-          let w = passed b at d (eqb-true (refusalOf b at d) 0 t) in
+          let w = passed (eqb-true (refusalOf b at d) 0 t) in
           rw (t, e) (ih (inr (sound-after at d (commandAt b at) s (w .place) (w .within))))
 
   reading-kept : Kept (readingOf b .outcome) (readingOf b .policy)
   unfolding readingOf readingFrom
   reading-kept = most-kept (length b + 1 - 0) 0 emptyDraft (inl refl)
 
-  pub read-legal : (end : ℕ) → readingOf b .outcome ≡ Read end → legal (readingOf b .policy) ≡ true
-  read-legal end e = subst (λ (o : Outcome). Kept o (readingOf b .policy)) e reading-kept
+  pub read-legal : {end : ℕ} → readingOf b .outcome ≡ Read end → legal (readingOf b .policy) ≡ true
+  read-legal e = subst (λ (o : Outcome). Kept o (readingOf b .policy)) e reading-kept
 
-  pub refused-zero : (number at : ℕ) → readingOf b .outcome ≡ Refused number at → readingOf b .policy ≡ zeroPolicy
-  refused-zero number at e = subst (λ (o : Outcome). Kept o (readingOf b .policy)) e reading-kept
+  pub refused-zero : {number at : ℕ} → readingOf b .outcome ≡ Refused number at → readingOf b .policy ≡ zeroPolicy
+  refused-zero e = subst (λ (o : Outcome). Kept o (readingOf b .policy)) e reading-kept

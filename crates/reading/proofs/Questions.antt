@@ -39,17 +39,17 @@ first-is true = refl
 first-is false = refl
 
 -- ---- operands
-pub shape-count : (c : ℕ) → c ≡ 1 → operandCount c ≡ 4
+pub shape-count : {c : ℕ} → c ≡ 1 → operandCount c ≡ 4
 unfolding operandCount
-shape-count c e = rw (eq-eqb c 1 e)
+shape-count {c} e = rw (eq-eqb c 1 e)
 
-pub edge-count : (c : ℕ) → c ≡ 2 → operandCount c ≡ 4
+pub edge-count : {c : ℕ} → c ≡ 2 → operandCount c ≡ 4
 unfolding operandCount
-edge-count c e = rw e
+edge-count {c} e = rw e
 
-pub accept-count : (c : ℕ) → c ≡ 3 → operandCount c ≡ 1
+pub accept-count : {c : ℕ} → c ≡ 3 → operandCount c ≡ 1
 unfolding operandCount
-accept-count c e = rw e
+accept-count {c} e = rw e
 
 module _ (b : List ℕ) (at n : ℕ) where
   pub room : operandsThere b at ≡ true → operandCount (getD b at 0) ≡ n → at < length b → at + n < length b
@@ -61,7 +61,7 @@ module _ (b : List ℕ) (at n : ℕ) where
   operands-there e h = rw (← e) (le-leb n (length b - (at + 1)) h)
 
 -- ---- edges
-module _ (p : Policy) (bounded : Bounded p) where
+module _ {p : Policy} (bounded : Bounded p) where
   pub edge-within : (v a t k : ℕ) → withinLimits p (Edge v a t k) ≡ true → edgeOf p v a < 64
   unfolding withinLimits edges
   edge-within v a t k e =
@@ -94,6 +94,13 @@ module _ (g : ℕ) where
       go (inr t) = sym t
 
 -- ---- a "no"
+-- the command is known, and its operands are there
+pub record Whole (b : List ℕ) (at : ℕ) (c : Command) : Type 0 where
+  pub byte : at < length b
+  pub known : commandKnown (getD b at 0) ≡ true
+  pub there : operandsThere b at ≡ true
+  pub is : c ≡ commandAt b at
+
 module _ (b : List ℕ) (at : ℕ) (d : Draft) where
   pub no-byte : length b ≤ at → 1 ≡ refusalOf b at d
   unfolding refusalOf
@@ -107,45 +114,38 @@ module _ (b : List ℕ) (at : ℕ) (d : Draft) where
   unfolding refusalOf operandsThere
   no-operands n e h k o = rw (lt-ltb at (length b) h, k, ← e, lt-leb n (length b - (at + 1)) o)
 
-  -- the command is known and its operands are there
-  pub record Whole (c : Command) : Type 0 where
-    pub byte : at < length b
-    pub known : commandKnown (getD b at 0) ≡ true
-    pub there : operandsThere b at ≡ true
-    pub is : c ≡ commandAt b at
+module _ {b : List ℕ} {at : ℕ} {c : Command} (d : Draft) (w : Whole b at c) where
+  pub no-place : inPlace at c ≡ false → 3 ≡ refusalOf b at d
+  unfolding refusalOf
+  no-place h = rw (lt-ltb at (length b) (w .byte), w .known, w .there, ← w .is, h)
 
-  module _ (c : Command) (w : Whole c) where
-    pub no-place : inPlace at c ≡ false → 3 ≡ refusalOf b at d
-    unfolding refusalOf
-    no-place h = rw (lt-ltb at (length b) (w .byte), w .known, w .there, ← w .is, h)
+  pub no-limits : inPlace at c ≡ true → withinLimits (d .policy) c ≡ false → 4 ≡ refusalOf b at d
+  unfolding refusalOf
+  no-limits g h = rw (lt-ltb at (length b) (w .byte), w .known, w .there, ← w .is, g, h)
 
-    pub no-limits : inPlace at c ≡ true → withinLimits (d .policy) c ≡ false → 4 ≡ refusalOf b at d
-    unfolding refusalOf
-    no-limits g h = rw (lt-ltb at (length b) (w .byte), w .known, w .there, ← w .is, g, h)
+  pub no-first : inPlace at c ≡ true → withinLimits (d .policy) c ≡ true → firstTime d c ≡ false → 5 ≡ refusalOf b at d
+  unfolding refusalOf
+  no-first g h i = rw (lt-ltb at (length b) (w .byte), w .known, w .there, ← w .is, g, h, i)
 
-    pub no-first : inPlace at c ≡ true → withinLimits (d .policy) c ≡ true → firstTime d c ≡ false → 5 ≡ refusalOf b at d
-    unfolding refusalOf
-    no-first g h i = rw (lt-ltb at (length b) (w .byte), w .known, w .there, ← w .is, g, h, i)
-
-    pub last-answer : inPlace at c ≡ true → withinLimits (d .policy) c ≡ true → firstTime d c ≡ true → (x : Bool) → x ≡ completeAtEnd d c → cond x 0 6 ≡ refusalOf b at d
-    unfolding refusalOf
-    last-answer g h i x e = rw (lt-ltb at (length b) (w .byte), w .known, w .there, ← w .is, g, h, i, e)
+  pub last-answer : inPlace at c ≡ true → withinLimits (d .policy) c ≡ true → firstTime d c ≡ true → (x : Bool) → x ≡ completeAtEnd d c → cond x 0 6 ≡ refusalOf b at d
+  unfolding refusalOf
+  last-answer g h i x e = rw (lt-ltb at (length b) (w .byte), w .known, w .there, ← w .is, g, h, i, e)
 
 -- ---- every answer is "yes"
 ask-zero : (q : Bool) (n r : ℕ) → ask q (suc n) r ≡ 0 → (q ≡ true) × (r ≡ 0)
 ask-zero true n r e = (refl, e)
 ask-zero false n r e = absurd (omega arith)
 
-module _ (b : List ℕ) (at : ℕ) (d : Draft) where
-  pub record Passed : Type 0 where
-    pub byte : at < length b
-    pub there : operandsThere b at ≡ true
-    pub place : inPlace at (commandAt b at) ≡ true
-    pub within : withinLimits (d .policy) (commandAt b at) ≡ true
-    pub first : firstTime d (commandAt b at) ≡ true
-    pub complete : completeAtEnd d (commandAt b at) ≡ true
+pub record Passed (b : List ℕ) (at : ℕ) (d : Draft) : Type 0 where
+  pub byte : at < length b
+  pub there : operandsThere b at ≡ true
+  pub place : inPlace at (commandAt b at) ≡ true
+  pub within : withinLimits (d .policy) (commandAt b at) ≡ true
+  pub first : firstTime d (commandAt b at) ≡ true
+  pub complete : completeAtEnd d (commandAt b at) ≡ true
 
-  pub passed : refusalOf b at d ≡ 0 → Passed
+module _ {b : List ℕ} {at : ℕ} {d : Draft} where
+  pub passed : refusalOf b at d ≡ 0 → Passed b at d
   unfolding refusalOf
   passed e =
       let c = commandAt b at in

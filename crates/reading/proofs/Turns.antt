@@ -27,7 +27,7 @@ module _ (b : List ℕ) where
   pub next-within : (at : ℕ) (d : Draft) → refusalOf b at d ≡ 0 → (at < nextOffset b at) × (nextOffset b at ≤ length b)
   unfolding nextOffset
   next-within at d z =
-      let w = passed b at d z in
+      let w = passed z in
       (omega arith, omega (arith, room b at (operandCount (getD b at 0)) (w .there) refl (w .byte)))
 
   -- a bound that is not reached does not matter
@@ -85,29 +85,29 @@ pub record Onway (b : List ℕ) (at : ℕ) (d : Draft) : Type 0 where
   pub is : readingFrom b at d ≡ readingOf b
 
 module _ (b : List ℕ) where
-  pub onway-start : (p : Policy) → p ≡ counted 0 0 0 0 → Onway b 0 (record { policy = p; given = 0 })
+  pub onway-start : {p : Policy} → p ≡ counted 0 0 0 0 → Onway b 0 (record { policy = p; given = 0 })
   unfolding readingOf emptyDraft zeroPolicy
-  onway-start p e = rw e (record { within = omega arith; bounded = bounded-zero; is = refl })
+  onway-start e = rw e (record { within = omega arith; bounded = bounded-zero; is = refl })
 
-  module _ (at : ℕ) (d : Draft) (o : Onway b at d) where
-    pub onway-refused : (n : ℕ) (p : Policy) → n ≡ refusalOf b at d → (n ≡ 0 → ⊥) → p ≡ counted 0 0 0 0 → _≡_ {A = Answer} (record { outcome = Refused n at; policy = p }) (readingOf b)
-    unfolding refusedAt zeroPolicy
-    onway-refused n p e h q = rw (e, q) (sym (turn-refused b at d (o .within) (rw e at h)) ∙ o .is)
+module _ {b : List ℕ} {at : ℕ} {d : Draft} (o : Onway b at d) where
+  pub onway-refused : {n : ℕ} {p : Policy} → n ≡ refusalOf b at d → (n ≡ 0 → ⊥) → p ≡ counted 0 0 0 0 → _≡_ {A = Answer} (record { outcome = Refused n at; policy = p }) (readingOf b)
+  unfolding refusedAt zeroPolicy
+  onway-refused e h q = rw (e, q) (sym (turn-refused b at d (o .within) (rw e at h)) ∙ o .is)
 
-    module _ (z : refusalOf b at d ≡ 0) (c : Command) (is-c : c ≡ commandAt b at) where
-      pub onway-end : isEnd c ≡ true → _≡_ {A = Answer} (record { outcome = Read (at + 1); policy = d .policy }) (readingOf b)
-      unfolding readUpTo
-      onway-end t = sym (turn-end b at d (o .within) z (rw is-c at t)) ∙ o .is
+  module _ (z : refusalOf b at d ≡ 0) {c : Command} (is-c : c ≡ commandAt b at) where
+    pub onway-end : isEnd c ≡ true → _≡_ {A = Answer} (record { outcome = Read (at + 1); policy = d .policy }) (readingOf b)
+    unfolding readUpTo
+    onway-end t = sym (turn-end b at d (o .within) z (rw is-c at t)) ∙ o .is
 
-      pub onway-on : isEnd c ≡ false → (e : Draft) → e ≡ after d c → (n : ℕ) → n ≡ operandCount (getD b at 0) → Onway b (at + 1 + n) e
-      unfolding nextOffset
-      onway-on t e q n k =
-          let w = passed b at d z in
-          rw (q, is-c, k) (record {
-            within = next-within b at d z .1;
-            bounded = bounded-after d (commandAt b at) (o .bounded) (w .within);
-            is = sym (turn-on b at d (o .within) z (rw is-c at t)) ∙ o .is;
-          })
+    pub onway-on : isEnd c ≡ false → {e : Draft} → e ≡ after d c → {n : ℕ} → n ≡ operandCount (getD b at 0) → Onway b (at + 1 + n) e
+    unfolding nextOffset
+    onway-on t q k =
+        let w = passed z in
+        rw (q, is-c, k) (record {
+          within = next-within b at d z .1;
+          bounded = bounded-after d (commandAt b at) (o .bounded) (w .within);
+          is = sym (turn-on b at d (o .within) z (rw is-c at t)) ∙ o .is;
+        })
 
 -- ---- where the reading ends
 abbrev EndsWithin : List ℕ → Outcome → Type 0
@@ -122,7 +122,7 @@ most-within b (suc n) at d h = go (test (eqb (refusalOf b at d) 0)) (test (isEnd
     go : (eqb (refusalOf b at d) 0 ≡ true) ⊎ (eqb (refusalOf b at d) 0 ≡ false) → (isEnd (commandAt b at) ≡ true) ⊎ (isEnd (commandAt b at) ≡ false)
         → (nextOffset b at ≤ length b → EndsWithin b (readMost n b (nextOffset b at) (after d (commandAt b at)) .outcome)) → EndsWithin b (readMost (suc n) b at d .outcome)
     go (inr f) e ih = rw f h
-    go (inl t) (inl e) ih = rw (t, e) (omega (arith, passed b at d (eqb-true (refusalOf b at d) 0 t) .byte))
+    go (inl t) (inl e) ih = rw (t, e) (omega (arith, passed (eqb-true (refusalOf b at d) 0 t) .byte))
     go (inl t) (inr e) ih = rw (t, e) (ih (next-within b at d (eqb-true (refusalOf b at d) 0 t) .1))
 
 module _ (b : List ℕ) where
@@ -130,17 +130,17 @@ module _ (b : List ℕ) where
   unfolding readingOf readingFrom
   ends-within = most-within b (length b + 1 - 0) 0 emptyDraft (omega arith)
 
-  pub end-within : (end : ℕ) → readingOf b .outcome ≡ Read end → end ≤ length b
-  end-within end e = subst (EndsWithin b) e ends-within
+  pub end-within : {end : ℕ} → readingOf b .outcome ≡ Read end → end ≤ length b
+  end-within e = subst (EndsWithin b) e ends-within
 
   -- the offset of a refusal is one of the bytes', or their length
-  pub refusal-within : (number at : ℕ) → readingOf b .outcome ≡ Refused number at → at ≤ length b
-  refusal-within number at e = subst (EndsWithin b) e ends-within
+  pub refusal-within : {number at : ℕ} → readingOf b .outcome ≡ Refused number at → at ≤ length b
+  refusal-within e = subst (EndsWithin b) e ends-within
 
-  pub rest-read : (end : ℕ) → readingOf b .outcome ≡ Read end → take (length b - end) (drop end b) ≡ restOf b
+  pub rest-read : {end : ℕ} → readingOf b .outcome ≡ Read end → take (length b - end) (drop end b) ≡ restOf b
   unfolding restOf
-  rest-read end e = take-all (length b - end) (drop end b) (simp length-drop (omega arith)) ∙ sym (ap (partAfter b) e)
+  rest-read {end} e = take-all (length b - end) (drop end b) (simp length-drop (omega arith)) ∙ sym (ap (partAfter b) e)
 
-  pub rest-refused : (number at : ℕ) → readingOf b .outcome ≡ Refused number at → take (length b - length b) (drop (length b) b) ≡ restOf b
+  pub rest-refused : {number at : ℕ} → readingOf b .outcome ≡ Refused number at → take (length b - length b) (drop (length b) b) ≡ restOf b
   unfolding restOf
-  rest-refused number at e = take-all (length b - length b) (drop (length b) b) (simp length-drop (omega arith)) ∙ drop-length b ∙ sym (ap (partAfter b) e)
+  rest-refused e = take-all (length b - length b) (drop (length b) b) (simp length-drop (omega arith)) ∙ drop-length b ∙ sym (ap (partAfter b) e)

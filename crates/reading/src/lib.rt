@@ -284,22 +284,23 @@ fn draft_after(d: Draft, c: Command) -> Draft
 pub fn read(bytes: &[u8]) -> Answer
     ensures { λ r. ⌜ r ≡ readingOf (now (bytes .entry)) ⌝ }
 {
+    let none = counted_policy(0, 0, 0, 0);
     let mut d = Draft {
-        policy: counted_policy(0, 0, 0, 0),
+        policy: none,
         given: 0,
     };
     let mut at = 0;
     loop {
         let number = refusal(bytes, at, d);
+        let p = d.policy;
         if number != 0 {
             return Answer {
                 outcome: Outcome::Refused(number, at),
-                policy: counted_policy(0, 0, 0, 0),
+                policy: none,
             };
         }
         let c = command_at(bytes, at);
         if is_end(c) {
-            let p = d.policy;
             return Answer {
                 outcome: Outcome::Read(at + 1),
                 policy: p,

@@ -15,25 +15,25 @@ add-t7 : tie.Need-add-t7
 add-t7 c = search needs
 
 shared-slice-read-t9 : tie.Need-shared-slice-read-t9
-shared-slice-read-t9 c = omega (arith, room (c .before .before .before .args .bytes .now) (c .before .before .before .args .at) 4 (c .before .before .before .pre .1) (shape-count _ (c .before .if1 .taken)) (c .before .before .before .pre .0))
+shared-slice-read-t9 c = omega (arith, room _ _ 4 (c .before .before .before .pre .1) (shape-count (c .before .if1 .taken)) (c .before .before .before .pre .0))
 
 add-t10 : tie.Need-add-t10
 add-t10 c = search needs
 
 shared-slice-read-t12 : tie.Need-shared-slice-read-t12
-shared-slice-read-t12 c = omega (arith, room (c .before .before .before .before .args .bytes .now) (c .before .before .before .before .args .at) 4 (c .before .before .before .before .pre .1) (shape-count _ (c .before .before .if1 .taken)) (c .before .before .before .before .pre .0))
+shared-slice-read-t12 c = omega (arith, room _ _ 4 (c .before .before .before .before .pre .1) (shape-count (c .before .before .if1 .taken)) (c .before .before .before .before .pre .0))
 
 add-t13 : tie.Need-add-t13
 add-t13 c = search needs
 
 shared-slice-read-t15 : tie.Need-shared-slice-read-t15
-shared-slice-read-t15 c = omega (arith, room (c .before .before .before .before .before .args .bytes .now) (c .before .before .before .before .before .args .at) 4 (c .before .before .before .before .before .pre .1) (shape-count _ (c .before .before .before .if1 .taken)) (c .before .before .before .before .before .pre .0))
+shared-slice-read-t15 c = omega (arith, room _ _ 4 (c .before .before .before .before .before .pre .1) (shape-count (c .before .before .before .if1 .taken)) (c .before .before .before .before .before .pre .0))
 
 add-t16 : tie.Need-add-t16
 add-t16 c = search needs
 
 shared-slice-read-t18 : tie.Need-shared-slice-read-t18
-shared-slice-read-t18 c = omega (arith, room (c .before .before .before .before .before .before .args .bytes .now) (c .before .before .before .before .before .before .args .at) 4 (c .before .before .before .before .before .before .pre .1) (shape-count _ (c .before .before .before .before .if1 .taken)) (c .before .before .before .before .before .before .pre .0))
+shared-slice-read-t18 c = omega (arith, room _ _ 4 (c .before .before .before .before .before .before .pre .1) (shape-count (c .before .before .before .before .if1 .taken)) (c .before .before .before .before .before .before .pre .0))
 
 returns : tie.Need-returns
 unfolding commandAt
@@ -43,25 +43,25 @@ add-t19 : tie.Need-add-t19
 add-t19 c = search needs
 
 shared-slice-read-t21 : tie.Need-shared-slice-read-t21
-shared-slice-read-t21 c = omega (arith, room (c .before .before .before .before .args .bytes .now) (c .before .before .before .before .args .at) 4 (c .before .before .before .before .pre .1) (edge-count _ (c .before .if2 .taken)) (c .before .before .before .before .pre .0))
+shared-slice-read-t21 c = omega (arith, room _ _ 4 (c .before .before .before .before .pre .1) (edge-count (c .before .if2 .taken)) (c .before .before .before .before .pre .0))
 
 add-t22 : tie.Need-add-t22
 add-t22 c = search needs
 
 shared-slice-read-t24 : tie.Need-shared-slice-read-t24
-shared-slice-read-t24 c = omega (arith, room (c .before .before .before .before .before .args .bytes .now) (c .before .before .before .before .before .args .at) 4 (c .before .before .before .before .before .pre .1) (edge-count _ (c .before .before .if2 .taken)) (c .before .before .before .before .before .pre .0))
+shared-slice-read-t24 c = omega (arith, room _ _ 4 (c .before .before .before .before .before .pre .1) (edge-count (c .before .before .if2 .taken)) (c .before .before .before .before .before .pre .0))
 
 add-t25 : tie.Need-add-t25
 add-t25 c = search needs
 
 shared-slice-read-t27 : tie.Need-shared-slice-read-t27
-shared-slice-read-t27 c = omega (arith, room (c .before .before .before .before .before .before .args .bytes .now) (c .before .before .before .before .before .before .args .at) 4 (c .before .before .before .before .before .before .pre .1) (edge-count _ (c .before .before .before .if2 .taken)) (c .before .before .before .before .before .before .pre .0))
+shared-slice-read-t27 c = omega (arith, room _ _ 4 (c .before .before .before .before .before .before .pre .1) (edge-count (c .before .before .before .if2 .taken)) (c .before .before .before .before .before .before .pre .0))
 
 add-t28 : tie.Need-add-t28
 add-t28 c = search needs
 
 shared-slice-read-t30 : tie.Need-shared-slice-read-t30
-shared-slice-read-t30 c = omega (arith, room (c .before .before .before .before .before .before .before .args .bytes .now) (c .before .before .before .before .before .before .before .args .at) 4 (c .before .before .before .before .before .before .before .pre .1) (edge-count _ (c .before .before .before .before .if2 .taken)) (c .before .before .before .before .before .before .before .pre .0))
+shared-slice-read-t30 c = omega (arith, room _ _ 4 (c .before .before .before .before .before .before .before .pre .1) (edge-count (c .before .before .before .before .if2 .taken)) (c .before .before .before .before .before .before .before .pre .0))
 
 returns-2 : tie.Need-returns-2
 unfolding commandAt
@@ -71,7 +71,7 @@ add-t31 : tie.Need-add-t31
 add-t31 c = search needs
 
 shared-slice-read-t33 : tie.Need-shared-slice-read-t33
-shared-slice-read-t33 c = omega (arith, room (c .before .before .before .before .before .args .bytes .now) (c .before .before .before .before .before .args .at) 1 (c .before .before .before .before .before .pre .1) (accept-count _ (c .before .if3 .taken)) (c .before .before .before .before .before .pre .0))
+shared-slice-read-t33 c = omega (arith, room _ _ 1 (c .before .before .before .before .before .pre .1) (accept-count (c .before .if3 .taken)) (c .before .before .before .before .before .pre .0))
 
 returns-3 : tie.Need-returns-3
 unfolding commandAt

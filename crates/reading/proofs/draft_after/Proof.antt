@@ -23,10 +23,10 @@ edge-of-requires : tie.Need-edge-of-requires
 edge-of-requires c κs = search needs
 
 with-edge-requires : tie.Need-with-edge-requires
-with-edge-requires c κs = rw (c .edge-of .ensures) (edge-within (c .before .before .before .before .before .args .d .policy) (c .before .before .before .before .before .pre .0) _ _ _ _ (sym (ap (withinLimits (c .before .before .before .before .before .args .d .policy)) (c .before .before .c2 .given .1)) ∙ c .before .before .before .before .before .pre .1))
+with-edge-requires c κs = rw (c .edge-of .ensures) (edge-within (c .before .before .before .before .before .pre .0) _ _ _ _ (sym (ap (withinLimits (c .before .before .before .before .before .args .d .policy)) (c .before .before .c2 .given .1)) ∙ c .before .before .before .before .before .pre .1))
 
 with-requires : tie.Need-with-requires
-with-requires c κs = rw (c .before .edge-of .ensures) (edge-within (c .before .before .before .before .before .before .args .d .policy) (c .before .before .before .before .before .before .pre .0) _ _ _ _ (sym (ap (withinLimits (c .before .before .before .before .before .before .args .d .policy)) (c .before .before .before .c2 .given .1)) ∙ c .before .before .before .before .before .before .pre .1))
+with-requires c κs = rw (c .before .edge-of .ensures) (edge-within (c .before .before .before .before .before .before .pre .0) _ _ _ _ (sym (ap (withinLimits (c .before .before .before .before .before .before .args .d .policy)) (c .before .before .before .c2 .given .1)) ∙ c .before .before .before .before .before .before .pre .1))
 
 enum-known-c-3 : tie.Need-enum-known-c-3
 enum-known-c-3 c = search needs

@@ -21,7 +21,7 @@ edge-of-requires : tie.Need-edge-of-requires
 edge-of-requires c κs = search needs
 
 has-requires : tie.Need-has-requires
-has-requires c κs = rw (c .edge-of .ensures) (edge-within (c .before .before .before .before .before .args .d .policy) (c .before .before .before .before .before .pre .0) _ _ _ _ (sym (ap (withinLimits (c .before .before .before .before .before .args .d .policy)) (c .before .before .c .given .1)) ∙ c .before .before .before .before .before .pre .1))
+has-requires c κs = rw (c .edge-of .ensures) (edge-within (c .before .before .before .before .before .pre .0) _ _ _ _ (sym (ap (withinLimits (c .before .before .before .before .before .args .d .policy)) (c .before .before .c .given .1)) ∙ c .before .before .before .before .before .pre .1))
 
 enum-known-c-2 : tie.Need-enum-known-c-2
 enum-known-c-2 c = search needs
