@@ -1,11 +1,11 @@
 -- A policy that was read is legal, and after a refusal it is all zero. The invariant holds of every draft after the shape command.
 -- Assumes nothing.
-use Prim.Native.Nat.{ℕ, zero, suc, _+_, _-_, _*_, _^_, _≤_, _<_}
+use Prim.Native.Nat.{ℕ, zero, suc, _+_, _-_, _^_, _<_}
 use native.Mathlib.Omega.{arith}
 use native.Mathlib.Decide.{ℕ-discrete}
-use mathlib.Core.Path.{_≡_, refl, sym, ap, _∙_, subst}
+use mathlib.Core.Path.{_≡_, refl, sym, _∙_, subst}
 use mathlib.Core.Logic.{_⊎_, inl, inr}
-use mathlib.Core.Bool.{Bool, true, false, not, _&&_, _||_, cond, true≢false, false≢true}
+use mathlib.Core.Bool.{Bool, true, false, _&&_, _||_, true≢false, false≢true}
 use mathlib.Core.List.{List}
 use lib.Dec.{eqb, ltb}
 use lib.ListN.{length, getD, set, replicate, length-set}
@@ -14,7 +14,7 @@ use borrow.Author.Tests.{lt-ltb, ltb-true, ltb-false, eq-eqb, eqb-true}
 use Rattle.lists.specs.Lists.{all, below}
 use Rattle.lists.proofs.Bools.{test, and-l, and-r, both, or-cases, or-right}
 use Rattle.lists.proofs.Lists.{all-each, each-all, mem-below}
-use Rattle.masks.specs.Masks.{has, insert}
+use Rattle.masks.specs.Masks.{has}
 use Rattle.masks.proofs.Bits.{has-none, has-insert}
 use Rattle.policy.specs.declared.Policy.{Policy}
 use Rattle.policy.specs.Policies.{edges, edgeOf, targetOf, colourOf, inFamily, legalCounts, legalEdge, legalSet, legal}
@@ -24,9 +24,8 @@ use Rattle.reading.specs.declared.Outcome.{Outcome}
 use Rattle.reading.specs.declared.Outcome.the-variants.{Read, Refused}
 use Rattle.reading.specs.declared.Command.{Command}
 use Rattle.reading.specs.declared.Command.the-variants.{End, Shape, Edge, Accept}
-use Rattle.reading.specs.Reading.{after, allGiven, commandAt, completeAtEnd, counted, emptyDraft, firstTime, inPlace, isEnd, isShape, nextOffset, readMost, readUpTo, readingFrom, readingOf, refusalOf, refusedAt, withEdge, withSet, withinLimits, zeroPolicy}
+use Rattle.reading.specs.Reading.{after, allGiven, commandAt, completeAtEnd, counted, emptyDraft, inPlace, isEnd, isShape, nextOffset, readMost, readUpTo, readingFrom, readingOf, refusalOf, refusedAt, withEdge, withSet, withinLimits, zeroPolicy}
 use Rattle.reading.proofs.Questions.{passed}
-use Rattle.reading.proofs.Turns.{next-within}
 
 -- the entries of given edges are in range, all others are 0, and each set of the family is in range
 pub record Sound (d : Draft) : Type 0 where

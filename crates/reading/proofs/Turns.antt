@@ -1,10 +1,10 @@
 -- One command at a time: what a refusal, the end command and any other command make of the reading from an offset on.
 -- Assumes nothing.
-use Prim.Native.Nat.{ℕ, zero, suc, _+_, _-_, _*_, _^_, _≤_, _<_}
+use Prim.Native.Nat.{ℕ, zero, suc, _+_, _-_, _≤_, _<_}
 use native.Mathlib.Omega.{arith}
 use mathlib.Core.Path.{_≡_, refl, sym, ap, _∙_, subst}
 use mathlib.Core.Logic.{_⊎_, inl, inr}
-use mathlib.Core.Bool.{Bool, true, false, cond}
+use mathlib.Core.Bool.{true, false}
 use mathlib.Core.List.{List}
 use lib.Dec.{eqb, lit≤}
 use lib.ListN.{length, getD, take, drop, length-drop}
@@ -20,7 +20,7 @@ use Rattle.reading.specs.declared.Command.the-variants.{End, Shape, Edge
 use Rattle.reading.specs.declared.Outcome.{Outcome}
 use Rattle.reading.specs.declared.Outcome.the-variants.{Read, Refused}
 use Rattle.reading.specs.Reading.{Bounded, after, commandAt, counted, emptyDraft, isEnd, nextOffset, operandCount, partAfter, readMost, readUpTo, readingFrom, readingOf, refusalOf, refusedAt, restOf, withEdge, withSet, withinLimits, zeroPolicy}
-use Rattle.reading.proofs.Questions.{Passed, passed, room}
+use Rattle.reading.proofs.Questions.{passed, room}
 
 module _ (b : List ℕ) where
   -- a command that is not refused ends within the bytes

@@ -1,10 +1,10 @@
 // Reading a policy from command bytes: each command is asked document 01's questions in order, and then taken into the draft.
 ghost use mathlib.Core.Path.{_≡_};
 ghost use mathlib.Core.Bool.{true};
-ghost use Prim.Native.Nat.{ℕ, _+_, _-_, _*_, _<_, _≤_, _^_};
-ghost use lib.ListN.{getD, length};
+ghost use Prim.Native.Nat.{_+_, _-_, _*_, _<_, _≤_, _^_};
+ghost use lib.ListN.{length};
 ghost use Rattle.policy.specs.Policies.{edgeOf, legalCounts};
-ghost use Rattle.reading.specs.Reading.{Bounded, after, allGiven, commandAt, commandKnown, completeAtEnd, counted, emptyDraft, firstTime, inPlace, isEnd, nextOffset, operandCount, operandsThere, readUpTo, readingOf, refusalOf, refusedAt, restOf, withEdge, withSet, withinLimits, zeroPolicy};
+ghost use Rattle.reading.specs.Reading.{Bounded, after, allGiven, commandAt, commandKnown, completeAtEnd, counted, firstTime, inPlace, isEnd, operandCount, operandsThere, readingOf, refusalOf, restOf, withEdge, withSet, withinLimits};
 
 // A command with its operands.
 pub enum Command {
