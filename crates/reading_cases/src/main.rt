@@ -145,17 +145,23 @@ fn full() -> [u8; 326] {
     bytes
 }
 
-fn limits() {
+fn shapes() {
     let bytes = full();
     show(b"8 states with 8 letters", &bytes, 64);
     report(b"9 states with 8 letters", b"\x01\x09\x08\x01\x00");
     report(b"0 states", b"\x01\x00\x01\x01\x00");
     report(b"17 states", b"\x01\x11\x01\x01\x00");
+}
+
+fn other_shapes() {
     report(b"0 letters", b"\x01\x01\x00\x01\x00");
     report(b"9 letters", b"\x01\x01\x09\x01\x00");
     report(b"0 colours", b"\x01\x01\x01\x00\x00");
     report(b"9 colours", b"\x01\x01\x01\x09\x00");
     report(b"initial state beyond the states", b"\x01\x02\x01\x01\x02");
+}
+
+fn sets() {
     report(
         b"set 7 with three colours",
         b"\x01\x01\x01\x03\x00\x02\x00\x00\x00\x00\x03\x07\x00",
@@ -172,6 +178,9 @@ fn limits() {
         b"empty set",
         b"\x01\x01\x01\x03\x00\x02\x00\x00\x00\x00\x03\x00\x00",
     );
+}
+
+fn edges() {
     report(
         b"state of an edge beyond the states",
         b"\x01\x02\x03\x04\x00\x02\x02\x00\x00\x00",
@@ -190,7 +199,7 @@ fn limits() {
     );
 }
 
-fn order() {
+fn first_commands() {
     report(b"empty bytes", b"");
     report(b"end first", b"\x00");
     report(b"edge before shape", b"\x02\x00\x00\x00\x00");
@@ -199,9 +208,15 @@ fn order() {
         b"\x02\x00\x00\x00",
     );
     report(b"accept before shape", b"\x03\x01");
+}
+
+fn unknown_commands() {
     report(b"byte 4 first", b"\x04");
     report(b"byte 4 later", b"\x01\x01\x01\x01\x00\x04\x00\x00\x00\x00");
     report(b"byte 255", b"\xff");
+}
+
+fn shapes_twice() {
     report(b"shape twice", b"\x01\x01\x01\x01\x00\x01\x01\x01\x01\x00");
     report(
         b"shape twice, an operand missing",
@@ -211,6 +226,9 @@ fn order() {
         b"shape twice, beyond the limits",
         b"\x01\x01\x01\x01\x00\x01\x63\x01\x01\x00",
     );
+}
+
+fn given_twice() {
     report(
         b"doubled edge",
         b"\x01\x01\x01\x01\x00\x02\x00\x00\x00\x00\x02\x00\x00\x00\x00\x00",
@@ -223,6 +241,9 @@ fn order() {
         b"doubled set",
         b"\x01\x01\x01\x02\x00\x03\x02\x02\x00\x00\x00\x00\x03\x02\x00",
     );
+}
+
+fn ends() {
     report(
         b"edge missing at end",
         b"\x01\x01\x02\x01\x00\x02\x00\x01\x00\x00\x00",
@@ -246,7 +267,7 @@ fn order() {
     );
 }
 
-fn main() {
+fn known_policies() {
     let b =
         b"\x01\x02\x02\x02\x00\x02\x00\x00\x00\x00\x02\x00\x01\x01\x01\x02\x01\x00\x00\x00\x02\x01\x01\x01\x01\x03\x01\x03\x02\x00";
     show(
@@ -260,7 +281,18 @@ fn main() {
         b"\x01\x02\x01\x01\x00\x02\x01\x00\x01\x00\x03\x01\x02\x00\x00\x01\x00\x00",
         2,
     );
-    limits();
-    order();
     cuts(b);
+}
+
+fn main() {
+    known_policies();
+    shapes();
+    other_shapes();
+    sets();
+    edges();
+    first_commands();
+    unknown_commands();
+    shapes_twice();
+    given_twice();
+    ends();
 }
