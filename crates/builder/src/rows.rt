@@ -150,6 +150,22 @@ fn find(
     lower_bound(entries, from, to, node)
 }
 
+// The edge of a state and a letter.
+fn edge(p: Policy, source: u8, letter: u8) -> usize
+    requires { ⌜ (legal p ≡ true) × (source < p .states) × (letter < p .letters) ⌝ }
+    ensures { λ r. ⌜ (r ≡ edgeOf p source letter) × (r < 64) ⌝ }
+{
+    byte(source) * byte(p.letters) + byte(letter)
+}
+
+// The state that an edge leads to.
+fn target(p: Policy, e: usize) -> usize
+    requires { ⌜ e < 64 ⌝ }
+    ensures { λ r. ⌜ r ≡ targetOf p e ⌝ }
+{
+    byte(p.target[e])
+}
+
 // A row of the automaton.
 pub struct Row {
     pub target: u16,
@@ -173,13 +189,13 @@ pub fn row_of(
     requires states { ⌜ States p (now sources) (now entries) × Starts p (now starts) × (s < length (built p)) × (letter < p .letters) ⌝ }
     ensures { λ r. ⌜ (r .target ≡ rowTarget p s letter) × (r .priority ≡ rowPriority p s letter) ⌝ }
 {
-    let e = byte(sources[s]) * byte(p.letters) + byte(letter);
-    let w = byte(p.target[e]);
+    let e = edge(p, sources[s], letter);
     let leaf = wide(entries[s]);
+    let w = target(p, e);
     let m = climb(p, masks, parents, ranks, e, leaf);
-    let target = find(p, ends, entries, e, leaf, m, starts[w], starts[w + 1]);
+    let t = find(p, ends, entries, e, leaf, m, starts[w], starts[w + 1]);
     Row {
-        target: target as u16,
+        target: t as u16,
         priority: m.priority,
     }
 }
