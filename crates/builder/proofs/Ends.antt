@@ -14,9 +14,9 @@ use Rattle.lists.specs.Lists.{any, filter, below}
 use Rattle.lists.proofs.Bools.{test, eqb≡, ≡eqb}
 use Rattle.lists.proofs.Lists.{any-some, some-any}
 use Rattle.policy.specs.declared.Policy.{Policy}
-use Rattle.decomposition.specs.Forest.{Node, node, chain, childOf, forest}
+use Rattle.decomposition.specs.Forest.{Node, chain, childOf, forest}
 use Rattle.decomposition.specs.Laws.{ForestLaws, parentAt, rootAt}
-use Rattle.decomposition.proofs.Chains.{chain-self, chain-le, chain-lt, chain-trans}
+use Rattle.decomposition.proofs.Chains.{chain-self, chain-lt, chain-trans}
 use Rattle.decomposition.proofs.Children.{root-few, child-fewer, ordered-children, ordered-roots}
 use Rattle.decomposition.proofs.Numbered.{numbered}
 use Rattle.decomposition.proofs.Forest.{contiguous}

@@ -1,9 +1,9 @@
 pub mod Branch
 pub mod Closed
 pub mod EdgeRuns
+pub mod Ends
 pub mod Leaves
 pub mod Next
-pub mod Tables
-pub mod Ends
-pub mod Search
 pub mod RowLaws
+pub mod Search
+pub mod Tables

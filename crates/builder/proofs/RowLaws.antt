@@ -7,7 +7,7 @@ use native.Mathlib.Decide.{ℕ-discrete}
 use mathlib.Core.Path.{_≡_, refl, sym, ap, ap₂, _∙_, subst}
 use mathlib.Core.Logic.{_⊎_, inl, inr, _≢_}
 use mathlib.Core.Bool.{Bool, true, false, not, cond, true≢false, false≢true}
-use mathlib.Core.List.{List, [], _∷_, List·Memᴰ, Memᴰ·cast}
+use mathlib.Core.List.{List, [], List·Memᴰ}
 use lib.Dec.{eqb, ltb}
 use lib.ListN.{length, getD, set, length-set}
 use lib.Seq.{getD-set-same, getD-set-other}
@@ -18,22 +18,29 @@ use Rattle.masks.specs.Masks.{has}
 use Rattle.masks.proofs.Bits.{inside-all}
 use Rattle.policy.specs.declared.Policy.{Policy}
 use Rattle.policy.specs.Policies.{edges, edgeOf, source, targetOf, legal}
-use Rattle.policy.proofs.Laws.{Counts, legal-counts, legal-target, edges-le, source-edge, edge-lt}
+use Rattle.policy.proofs.Laws.{legal-counts, legal-target, edges-le, source-edge, edge-lt}
 use Rattle.graph.proofs.Cycles.{some-contains}
 use Rattle.decomposition.specs.Forest.{Node, forest, priority, transientPriority, node, chain, childOf, inRoot}
 use Rattle.decomposition.specs.Laws.{ForestLaws, maskAt, parentAt, rootAt}
 use Rattle.decomposition.proofs.Chains.{chain-self, chain-le, chain-lt, chain-parent, chain-trans, chain-linear, chain-top}
 use Rattle.decomposition.proofs.Forest.{forest-laws}
-use Rattle.builder.specs.Automaton.{orElse, deepest, lead, isLeaf, leaves, firstLeaf, leafAfter, priorityAfter, built, stateAt, number, rowTarget, rowPriority}
+use Rattle.builder.specs.Automaton.{orElse, deepest, lead, leaves, leafAfter, priorityAfter, built, stateAt, number, rowTarget, rowPriority}
 use Rattle.builder.specs.Stages.{endOf, firstOver, Nodes, Ends, States, Starts}
 use Rattle.builder.specs.Rows.{ParentColumn, LeafColumn, AscendsIn, LowerBound, Met, raisedTo}
 use Rattle.builder.proofs.EdgeRuns.{Good}
 use Rattle.builder.proofs.Next.{first-cases}
-use Rattle.builder.proofs.Branch.{of-child, chain-inside, child-above, child-lt, child-between, lead-is, deepest-mem, deepest-under, deepest-at}
-use Rattle.builder.proofs.Leaves.{LeafUnder, Meets, of-leaf, leaf-under, leaves-good, good-leaves, leaf-after-good, meets, root-with, with-root, after-out}
+use Rattle.builder.proofs.Branch.{of-child, chain-inside, child-lt, child-between, lead-is, deepest-mem, deepest-under, deepest-at}
+use Rattle.builder.proofs.Leaves.{Meets, of-leaf, leaf-under, leaves-good, good-leaves, leaf-after-good, meets, root-with, with-root, after-out}
 use Rattle.builder.proofs.Tables.{built-good, number-at}
 use Rattle.builder.proofs.Ends.{Raised, raised-none, raised-all, raised-root, raised-kept, raised-more, root-parent}
 use Rattle.builder.proofs.Search.{FirstFrom, leaf-after-self, leaf-after-next, leaf-after-first, bound-number, bound-none, over-leaf, first-number, over-le, over-mono, leaves-ascend-in}
+
+-- ---- columns of the tables
+pub nodes-parents : (p : Policy) (masks parents ranks : List ℕ) → Nodes p masks parents ranks → ParentColumn p parents
+nodes-parents p masks parents ranks t = record { few = t .few; long = t .parents-long; are = t .parents-are }
+
+pub states-leaves : (p : Policy) (sources entries : List ℕ) → States p sources entries → LeafColumn p entries
+states-leaves p sources entries t = record { few = t .few; long = t .leaves-long; are = t .leaves-are }
 
 -- ---- whether a child leads to a leaf
 module _ (p : Policy) (ns : List Node) (laws : ForestLaws p ns) where
@@ -366,9 +373,6 @@ pub record Narrowed (l : List ℕ) (from to x low high : ℕ) : Type 0 where
   pub after : (i : ℕ) → high ≤ i → i < to → x ≤ getD l i 0
 
 module _ (l : List ℕ) (from to x : ℕ) where
-  pub narrowed-start : from ≤ to → Narrowed l from to x from to
-  narrowed-start h = record { from-low = le-refl from; low-high = h; high-to = le-refl to; before = λ i a b. absurd (omega arith); after = λ i a b. absurd (omega arith) }
-
   pub narrowed-up : (low high m : ℕ) → AscendsIn l from to → Narrowed l from to x low high → low ≤ m → m < high → getD l m 0 < x → Narrowed l from to x (m + 1) high
   narrowed-up low high m s r a b q = record { from-low = omega (arith, r .from-low); low-high = omega arith; high-to = r .high-to; before = λ i j k. go i j (ℕ-discrete i m) k; after = r .after }
     where
@@ -506,9 +510,13 @@ module _ (p : Policy) (masks parents ranks ends sources entries starts : List �
     row-place met at child priority m = (ok, he, on-leaf, m)
 
     pub row-search : (w : ℕ) → w ≡ targetOf p e → Search p ends entries e (getD starts w 0) (getD starts (w + 1) 0)
-    row-search w is =
-        (a .1 .few, a .2, record { few = b .0 .few; long = b .0 .leaves-long; are = b .0 .leaves-are },
-        b .1 w (omega (arith, legal-target p ok e he)) ∙ ap (firstOver p) is, b .1 (w + 1) (omega (arith, legal-target p ok e he)) ∙ ap (λ (x : ℕ). firstOver p (x + 1)) is)
+    row-search w is = (
+      a .1 .few,
+      a .2,
+      states-leaves p sources entries (b .0),
+      b .1 w (omega (arith, legal-target p ok e he)) ∙ ap (firstOver p) is,
+      b .1 (w + 1) (omega (arith, legal-target p ok e he)) ∙ ap (λ (x : ℕ). firstOver p (x + 1)) is,
+    )
 
     pub row-fits : number p (targetOf p e) (leafAfter (forest p) p e leaf) < 65536
     row-fits =

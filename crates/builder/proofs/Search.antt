@@ -3,24 +3,23 @@
 use Prim.Native.Nat.{ℕ, zero, suc, _+_, _≤_, _<_}
 use native.Mathlib.Omega.{arith}
 use native.Mathlib.Nat.{le-refl}
-use native.Mathlib.Decide.{ℕ-discrete, decLt, decLe}
+use native.Mathlib.Decide.{ℕ-discrete, decLt}
 use mathlib.Core.Path.{_≡_, refl, sym, ap, _∙_, subst}
 use mathlib.Core.Logic.{_⊎_, inl, inr, _≢_, _↔_}
 use mathlib.Core.Bool.{Bool, true, false, cond, true≢false}
-use mathlib.Core.List.{List, [], _∷_, List·Memᴰ, List·Memᴰ·head, List·Memᴰ·not-nil}
+use mathlib.Core.List.{List, [], _∷_, List·Memᴰ, List·Memᴰ·head}
 use lib.Dec.{eqb, ltb, lt→ltb}
 use lib.ListN.{length, getD}
 use Rattle.lists.specs.Lists.{any, filter, firstOr}
 use Rattle.lists.proofs.Bools.{test, T→≡, ≡eqb, neqb, lt-true}
 use Rattle.lists.proofs.Lists.{some-any, filter-mem, mem-filter, mem-at, ascending-filter}
-use Rattle.masks.specs.Masks.{has}
 use Rattle.policy.specs.declared.Policy.{Policy}
 use Rattle.policy.specs.Policies.{targetOf}
 use Rattle.graph.specs.Cycles.{contains}
 use Rattle.graph.proofs.Cycles.{contains-inside}
 use Rattle.decomposition.specs.Forest.{Node, forest, chain, childOf, inRoot}
-use Rattle.decomposition.specs.Laws.{ForestLaws, maskAt, parentAt, rootAt}
-use Rattle.decomposition.proofs.Chains.{chain-self, chain-le, chain-lt}
+use Rattle.decomposition.specs.Laws.{ForestLaws, maskAt}
+use Rattle.decomposition.proofs.Chains.{chain-lt}
 use Rattle.builder.specs.Automaton.{Built, next, deepest, lead, kids, isLeaf, leaves, firstLeaf, entered, firstLeafBelow, leafAfter, built, stateAt, number}
 use Rattle.builder.specs.Stages.{endOf, firstOver}
 use Rattle.builder.specs.Rows.{LeafColumn, AscendsIn, LowerBound}
@@ -29,7 +28,7 @@ use Rattle.builder.proofs.Next.{first-le, next-above}
 use Rattle.builder.proofs.Branch.{chain-inside, child-above, child-lt, child-between, lead-is}
 use Rattle.builder.proofs.Leaves.{LeafUnder, Meets, kid, is-kid, kids-ascend, leaf-contains, leaf-childless, leaf-of, of-leaf, leaves-ascend, entered-next, entered-kid, inner-kid, after-at, after-in, leaf-under, first-below, first-good}
 use Rattle.builder.proofs.Tables.{Earlier, built-ordered, built-good, number-at}
-use Rattle.builder.proofs.Ends.{end-gt, end-le, under-end, end-under, end-mono, child-ends}
+use Rattle.builder.proofs.Ends.{end-gt, under-end, end-under, end-mono, child-ends}
 
 -- y is the first of l from x on
 pub record FirstFrom (l : List ℕ) (x y : ℕ) : Type 0 where

@@ -158,14 +158,6 @@ fn edge(p: Policy, source: u8, letter: u8) -> usize
     byte(source) * byte(p.letters) + byte(letter)
 }
 
-// The state that an edge leads to.
-fn target(p: Policy, e: usize) -> usize
-    requires { ⌜ e < 64 ⌝ }
-    ensures { λ r. ⌜ r ≡ targetOf p e ⌝ }
-{
-    byte(p.target[e])
-}
-
 // A row of the automaton.
 pub struct Row {
     pub target: u16,
@@ -191,7 +183,7 @@ pub fn row_of(
 {
     let e = edge(p, sources[s], letter);
     let leaf = wide(entries[s]);
-    let w = target(p, e);
+    let w = byte(policy::target_of(p, e));
     let m = climb(p, masks, parents, ranks, e, leaf);
     let t = find(p, ends, entries, e, leaf, m, starts[w], starts[w + 1]);
     Row {

@@ -1,13 +1,12 @@
-use Rattle.builder.proofs.RowLaws.{Own, own-more}
-use lib.ListN.{length}
-use mathlib.Core.Path.{_≡_}
+-- `fill_own` meets its contract. The invariant: the first n places hold their successors. Assumes nothing.
 use Prim.Native.Nat.{_≤_, _-_}
 use native.Mathlib.Omega.{arith}
+use mathlib.Core.Path.{_≡_}
+use lib.ListN.{length}
 use borrow.Author.Needs.{needs}
+use Rattle.builder.proofs.RowLaws.{Own, own-more}
 use Rattle.builder.proofs.rows.fill_own.Statement.{statement}
 use Rattle.builder.proofs.rows.fill_own.Tie as tie
-use Rattle.builder.proofs.rows.fill_own.Reads as reads
-use Rattle.builder.proofs.rows.fill_own.Lts as lts
 
 abbrev Inv-loop : tie.InvT-loop
 Inv-loop count ends₀ n₀ ends n = (n ≤ count) × (length ends ≡ length ends₀) × Own ends n
@@ -15,43 +14,33 @@ Inv-loop count ends₀ n₀ ends n = (n ≤ count) × (length ends ≡ length en
 abbrev μ-loop : tie.MeasureT-loop
 μ-loop count ends₀ n₀ ends n = count - n
 
--- src/rows.rt:54:5
 loop-holds : tie.Need-loop-holds Inv-loop μ-loop
 loop-holds c = search needs
 
--- src/rows.rt:55:20
 add-ends : tie.Need-add-ends Inv-loop μ-loop
 add-ends c = search needs
 
--- src/rows.rt:55:19
 cast-ends : tie.Need-cast-ends Inv-loop μ-loop
 cast-ends c = search needs
 
--- src/rows.rt:55:9
 mul-ends : tie.Need-mul-ends Inv-loop μ-loop
 mul-ends c = search needs
 
--- src/rows.rt:55:9
 slice-write-ends : tie.Need-slice-write-ends Inv-loop μ-loop
 slice-write-ends c = search needs
 
--- src/rows.rt:56:9
 add-n : tie.Need-add-n Inv-loop μ-loop
 add-n c = search needs
 
--- src/rows.rt:54:5
 loop-less : tie.Need-loop-less Inv-loop μ-loop
 loop-less c = search needs
 
--- src/rows.rt:54:5
 loop-again : tie.Need-loop-again Inv-loop μ-loop
 loop-again c = (search needs, search needs, own-more (c .before .loop .ends) (c .before .loop .n) (omega arith) (c .before .loop .inv .2))
 
--- src/rows.rt:49:1
 same-length : tie.Need-same-length Inv-loop μ-loop
 same-length c = search needs
 
--- src/rows.rt:49:1
 returns : tie.Need-returns Inv-loop μ-loop
 returns c = (search needs, λ n q. c .before .loop .inv .2 n (omega arith))
 

@@ -1,46 +1,35 @@
-use Rattle.builder.specs.Rows.{raisedTo}
-use borrow.Author.Tests.{lt-ltb, le-ltb}
-use native.Mathlib.Omega.{arith}
+-- `raise` meets its contract. Assumes nothing.
 use borrow.Author.Needs.{needs}
+use borrow.Author.Tests.{lt-ltb, le-ltb}
+use Rattle.builder.specs.Rows.{raisedTo}
 use Rattle.builder.proofs.rows.raise.Statement.{statement}
 use Rattle.builder.proofs.rows.raise.Tie as tie
-use Rattle.builder.proofs.rows.raise.Reads as reads
-use Rattle.builder.proofs.rows.raise.Lts as lts
 
--- src/rows.rt:65:15
 mul-end : tie.Need-mul-end
 mul-end c = search needs
 
--- src/rows.rt:65:15
 slice-read-end : tie.Need-slice-read-end
 slice-read-end c = search needs
 
--- src/rows.rt:66:8
 mul-if1 : tie.Need-mul-if1
 mul-if1 c = search needs
 
--- src/rows.rt:66:8
 slice-read-if1 : tie.Need-slice-read-if1
 slice-read-if1 c = search needs
 
--- src/rows.rt:67:9
 mul-ends : tie.Need-mul-ends
 mul-ends c = search needs
 
--- src/rows.rt:67:9
 slice-write-ends : tie.Need-slice-write-ends
 slice-write-ends c = search needs
 
--- src/rows.rt:61:1
 same-length : tie.Need-same-length
 same-length c = search needs
 
--- src/rows.rt:61:1
 returns : tie.Need-returns
 unfolding raisedTo
 returns c = simp (lt-ltb _ _ (c .if1 .taken))
 
--- src/rows.rt:61:1
 returns-2 : tie.Need-returns-2
 unfolding raisedTo
 returns-2 c = simp (le-ltb _ _ (c .if1 .left))
