@@ -8,7 +8,7 @@ ghost use Prim.Native.Nat.{ℕ, _+_, _≤_, _<_};
 ghost use lib.ListN.{length, getD};
 ghost use Rattle.policy.specs.Policies.{legal, edges, edgeOf, source, targetOf};
 ghost use Rattle.decomposition.specs.Forest.{forest};
-ghost use Rattle.builder.specs.Automaton.{orElse, leaves, leafAfter, built, stateAt, number, rowTarget, rowPriority};
+ghost use Rattle.builder.specs.Automaton.{orElse, leaves, leafAfter, built, number, rowTarget, rowPriority};
 ghost use Rattle.builder.specs.Stages.{firstOver, Nodes, Ends, States, Starts};
 ghost use Rattle.builder.specs.Rows.{ParentColumn, LeafColumn, AscendsIn, LowerBound, raisedTo, Met};
 
