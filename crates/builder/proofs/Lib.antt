@@ -7,3 +7,4 @@ pub mod Next
 pub mod RowLaws
 pub mod Search
 pub mod Tables
+pub mod StateLaws

@@ -7,3 +7,4 @@ pub enum Translation {
 }
 
 pub mod rows;
+pub mod states;

@@ -1,0 +1,39 @@
+-- `states::start_of` meets its contract. Assumes nothing.
+use mathlib.Core.Path.{_≡_, sym, _∙_}
+use native.Mathlib.Omega.{arith}
+use lib.ListN.{getD}
+use Rattle.policy.proofs.Laws.{legal-counts}
+use Rattle.builder.specs.Stages.{firstOver}
+use Rattle.builder.proofs.StateLaws.{start-is, start-few}
+use borrow.Author.Needs.{needs}
+use Rattle.builder.proofs.states.start_of.Statement.{statement}
+use Rattle.builder.proofs.states.start_of.Tie as tie
+use Rattle.builder.proofs.states.start_of.Reads as reads
+use Rattle.builder.proofs.states.start_of.Lts as lts
+
+-- src/states.rt:138:12
+cast-result : tie.Need-cast-result
+cast-result c = search needs
+
+-- src/states.rt:138:5
+mul-result : tie.Need-mul-result
+mul-result c = search needs
+
+-- the initial state's place among the starts
+first-is : (c : lts.After-struct-known reads.Pre reads.Post) → getD (c .before .args .t2) (c .before .args .p .initial) 0 ≡ firstOver (c .before .args .p) (c .before .args .p .initial)
+first-is c = let s = c .before in s .pre .1 (s .args .p .initial) (omega (arith, legal-counts (s .args .p) (s .pre .0) .initial-lt))
+
+-- src/states.rt:138:5
+array-read-result : tie.Need-array-read-result
+array-read-result c = let s = c .before in omega (arith, legal-counts (s .args .p) (s .pre .0) .initial-lt, legal-counts (s .args .p) (s .pre .0) .states-few)
+
+-- src/states.rt:138:5
+cast-result-2 : tie.Need-cast-result-2
+cast-result-2 c = let s = c .before in omega (arith, first-is c, start-few (s .args .p) (s .args .p .initial) (s .pre .2))
+
+-- src/states.rt:134:1
+returns : tie.Need-returns
+returns c = let s = c .before in first-is c ∙ sym (start-is (s .args .p) (s .pre .0) (s .pre .2))
+
+pub start-of-spec : {M : Type 1} → statement M
+start-of-spec = tie.close (tie.spec cast-result mul-result array-read-result cast-result-2 returns)
