@@ -3,38 +3,38 @@
 -- Assumes nothing.
 use Prim.Native.Nat.{ℕ, zero, suc, _+_, _-_, _*_, _/_, _%_, _^_, _≤_, _<_, min}
 use native.Mathlib.Omega.{arith}
-use native.Mathlib.Nat.{add-zero, zero-add, add-suc, suc-add, mod-lt, div-add-mod', le-refl}
+use native.Mathlib.Nat.{add-zero, zero-add, add-suc, suc-add, mod-lt, div-add-mod'}
 use native.Mathlib.Decide.{ℕ-discrete, decLt, decLe}
 use native.Mathlib.Numerals.{add-one}
 use mathlib.Core.Path.{_≡_, refl, sym, ap, ap₂, _∙_, subst}
 use mathlib.Core.Logic.{_⊎_, inl, inr, _≢_}
-use mathlib.Core.Bool.{Bool, true, false, not, _&&_, cond, true≢false, false≢true}
+use mathlib.Core.Bool.{Bool, true, false, not, _&&_, cond, true≢false}
 use mathlib.Core.List.{List, [], _∷_, _++_, map, append-nil, append-assoc, map-append, List·Memᴰ, List·Memᴰ·head, List·Memᴰ·tail}
 use lib.Bits.{bitAnd, and-le-r}
 use lib.Dec.{eqb, ltb, leb}
-use lib.ListN.{length, getD, set, take, drop, replicate, length-append, length-set, length-map, length-replicate, replicate-append-replicate, List·getD-append, List·getD-map}
+use lib.ListN.{length, getD, set, drop, replicate, length-append, length-set, length-map, length-replicate, replicate-append-replicate, List·getD-map}
 use lib.Pow.{pow-pos, shr-shr}
 use lib.Seq.{sets, length-sets, sets-eq, getD-set-same, getD-set-other}
 use borrow.Author.Tests.{lt-ltb, le-ltb, le-leb}
 use Rattle.lists.specs.Lists.{any, filter, flat, below}
-use Rattle.lists.proofs.Bools.{test, eqb≡, ≡eqb, neqb, lt-true, le-true, and-l, and-r, both, bool-ext, not-true, not-false}
+use Rattle.lists.proofs.Bools.{test, eqb≡, ≡eqb, le-true, and-l, and-r, both, bool-ext, not-true, not-false}
 use Rattle.lists.proofs.Lists.{any-some, some-any, none-any, none-true, mem-below, below-lt, flat-mem, map-mem}
+use Rattle.tables.specs.Tables.{padded, zeros}
+use Rattle.tables.proofs.Tables.{getD-padded}
 use Rattle.masks.specs.Masks.{has}
 use Rattle.masks.proofs.Bits.{has-and, has-none, has-full, mask-ext-to}
 use Rattle.policy.specs.declared.Policy.{Policy}
-use Rattle.policy.specs.Policies.{edges, edgeOf, source, legal}
-use Rattle.policy.proofs.Laws.{legal-counts, source-edge, edge-lt}
+use Rattle.policy.specs.Policies.{edgeOf, source, legal}
+use Rattle.policy.proofs.Laws.{legal-counts, edges-le, source-edge, edge-lt}
 use Rattle.graph.specs.Cycles.{contains}
-use Rattle.graph.proofs.CodeLaws.{edge-number-few}
 use Rattle.graph.proofs.Cycles.{some-nonzero, contains-some, some-contains}
 use Rattle.decomposition.specs.Forest.{Node, forest, chain, childOf}
 use Rattle.decomposition.specs.Laws.{ForestLaws, maskAt}
 use Rattle.decomposition.proofs.Chains.{chain-le}
 use Rattle.decomposition.proofs.Forest.{forest-laws}
-use Rattle.builder.specs.Automaton.{Built, orElse, holds, isLeaf, leaves, firstLeaf, statesOver, builtStates, built, stateAt, number, start}
-use Rattle.builder.specs.Stages.{endOf, firstOver, States, Starts}
-use Rattle.builder.specs.Tables.{padded, zeros, places, stateSources, stateLeaves}
-use Rattle.builder.specs.Rows.{LeafColumn}
+use Rattle.builder.specs.Automaton.{Built, orElse, holds, isLeaf, leaves, statesOver, builtStates, built, stateAt, start}
+use Rattle.builder.specs.Stages.{endOf, firstOver, States}
+use Rattle.builder.specs.Tables.{places, stateSources, stateLeaves}
 use Rattle.builder.specs.Placing.{MaskColumn, builtBelow, leavesBelow, leavesOver, Stored, Filled}
 use Rattle.builder.proofs.Branch.{child-above, child-lt, child-between}
 use Rattle.builder.proofs.Ends.{end-gt, end-le, under-end, end-under, end-mono, child-ends}
@@ -89,7 +89,8 @@ module _ (p : Policy) (ok : legal p ≡ true) (v m : ℕ) (h : v < p .states) wh
 
   -- where they stand
   pub leaving-lt : v * p .letters < 64
-  leaving-lt = omega (arith, edge-number-few p ok v 1 h (legal-counts p ok .letters-some))
+  unfolding edgeOf
+  leaving-lt = omega (arith, edge-lt p v 0 h (legal-counts p ok .letters-some), edges-le p ok)
 
 -- ---- the children of a node
 -- at j on the way over the children of n: j is a child of n, or the end of n; no child passed contains v
@@ -485,7 +486,7 @@ module _ (p : Policy) (sources₀ leaves₀ : List ℕ) where
 
   -- where they fit, the tables begin with the built states
   pub filled-states : (sources leaves starts : List ℕ) (fits : Bool) (count : ℕ) → Filled p sources₀ leaves₀ sources leaves fits count starts → length sources₀ ≡ length leaves₀ → fits ≡ true → States p sources leaves
-  unfolding places padded stateSources stateLeaves stateAt
+  unfolding places stateSources stateLeaves stateAt
   filled-states sources leaves starts fits count f same t =
       let l = le-true (length (built p)) (min (length sources₀) 65535) (sym (f .fits-is) ∙ t) in
       record {
@@ -498,5 +499,5 @@ module _ (p : Policy) (sources₀ leaves₀ : List ℕ) where
     where
       column : (g : Built → ℕ) → g (record { state = 0; leaf = 0 }) ≡ 0 → (n s : ℕ) → s < length (built p) → getD (padded n (map g (built p))) s 0 ≡ g (stateAt p s)
       column g z n s h =
-          List·getD-append (map g (built p)) (replicate (n - length (map g (built p))) 0) 0 s (omega (arith, length-map (built p) g)) ∙ ap (getD (map g (built p)) s) (sym z)
+          getD-padded n (map g (built p)) s (omega (arith, length-map (built p) g)) ∙ ap (getD (map g (built p)) s) (sym z)
           ∙ List·getD-map g (built p) s (record { state = 0; leaf = 0 })

@@ -8,11 +8,12 @@ use lib.Dec.{leb}
 use lib.ListN.{length, getD}
 use lib.Seq.{sets}
 use Rattle.lists.specs.Lists.{filter, flat, below}
+use Rattle.tables.specs.Tables.{padded}
 use Rattle.policy.specs.declared.Policy.{Policy}
 use Rattle.decomposition.specs.Forest.{forest, node}
 use Rattle.builder.specs.Automaton.{Built, orElse, isLeaf, leaves, statesOver, built}
 use Rattle.builder.specs.Stages.{Starts}
-use Rattle.builder.specs.Tables.{padded, places, stateSources, stateLeaves}
+use Rattle.builder.specs.Tables.{places, stateSources, stateLeaves}
 
 -- a table that begins with the masks of the nodes
 pub record MaskColumn (p : Policy) (masks : List ℕ) : Type 0 where

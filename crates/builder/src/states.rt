@@ -6,12 +6,12 @@ ghost use mathlib.Core.Bool.{true};
 ghost use Prim.Native.Nat.{_+_, _-_, _≤_, _<_};
 ghost use lib.ListN.{length, set, replicate};
 ghost use lib.Seq.{sets};
+ghost use Rattle.tables.specs.Tables.{zeros};
 ghost use Rattle.policy.specs.Policies.{legal};
 ghost use Rattle.graph.specs.Cycles.{contains};
 ghost use Rattle.decomposition.specs.Forest.{forest};
 ghost use Rattle.builder.specs.Automaton.{isLeaf, built, start};
 ghost use Rattle.builder.specs.Stages.{Ends, Starts};
-ghost use Rattle.builder.specs.Tables.{zeros};
 ghost use Rattle.builder.specs.Placing.{MaskColumn, leavesBelow, leavesOver, Stored, Filled};
 
 // Whether an edge of m leaves state v. The edges that leave v stand side by side.

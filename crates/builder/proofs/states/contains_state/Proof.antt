@@ -1,6 +1,6 @@
 -- `states::contains_state` meets its contract. Assumes nothing.
 use mathlib.Core.Path.{_∙_, ap}
-use Prim.Native.Nat.{ℕ, _*_, _/_, _-_, _<_, _^_}
+use Prim.Native.Nat.{ℕ, _*_, _/_, _<_, _^_}
 use lib.Bits.{bitAnd}
 use native.Mathlib.Omega.{arith}
 use Rattle.policy.proofs.Laws.{legal-counts}
@@ -13,30 +13,24 @@ use Rattle.builder.proofs.states.contains_state.Lts as lts
 use Rattle.masks.proofs.both.Reads as both-reads
 use Rattle.masks.proofs.full.Reads as full-reads
 
--- src/states.rt:22:19
 cast-letters : tie.Need-cast-letters
 cast-letters c = search needs
 
 shifts : (c : lts.After-struct-known (full-reads.Asked, full-reads.Learnt, both-reads.Asked, both-reads.Learnt) reads.Pre reads.Post) → c .before .args .v * c .before .args .p .letters < 64
 shifts c = leaving-lt (c .before .args .p) (c .before .pre .0) (c .before .args .v) (c .before .args .m) (c .before .pre .1)
 
--- src/states.rt:23:17
 mul-first : tie.Need-mul-first
 mul-first c = record { fits = omega (arith, shifts c) }
 
--- src/states.rt:24:17
 shr-both : tie.Need-shr-both
 shr-both c = shifts c
 
--- src/states.rt:24:29
 full-requires : tie.Need-full-requires
 full-requires c κs = omega (arith, legal-counts (c .before .args .p) (c .before .pre .0) .letters-few)
 
--- src/states.rt:24:5
 both-requires : tie.Need-both-requires
 both-requires c κs = search needs
 
--- src/states.rt:18:1
 returns : tie.Need-returns
 returns c = 
     let s = c .before .before .before in

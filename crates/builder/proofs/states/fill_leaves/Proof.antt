@@ -1,18 +1,12 @@
 -- `states::fill_leaves` meets its contract. The invariant: the leaves below n are written. Assumes nothing.
-use mathlib.Core.Path.{_≡_, refl, sym, ap, _∙_, subst}
+use mathlib.Core.Path.{_≡_, refl, _∙_, subst}
 use mathlib.Core.Logic.{⊎-elim, inl, inr}
 use Prim.Native.Nat.{ℕ, _+_, _-_, _≤_}
-use native.Mathlib.Nat.{le-antisymm}
 use native.Mathlib.Omega.{arith}
 use Rattle.builder.specs.Placing.{Stored, leavesBelow}
 use Rattle.builder.proofs.StateLaws.{stored-length, leaves-none, leaves-turn}
-use borrow.Author.Needs.{needs}
 use Rattle.builder.proofs.states.fill_leaves.Statement.{statement}
 use Rattle.builder.proofs.states.fill_leaves.Tie as tie
-use Rattle.builder.proofs.states.fill_leaves.Reads as reads
-use Rattle.builder.proofs.states.fill_leaves.Lts as lts
-use Rattle.builder.proofs.states.is_leaf.Reads as is-leaf-reads
-use Rattle.builder.proofs.states.put_leaf.Reads as put-leaf-reads
 
 abbrev Inv-loop : tie.InvT-loop
 Inv-loop p masks ends count v at leaves₀ next₀ n₀ leaves next n = (n ≤ count) × (next ≤ at + n) × Stored leaves₀ leaves at next (leavesBelow p v n)
@@ -20,31 +14,24 @@ Inv-loop p masks ends count v at leaves₀ next₀ n₀ leaves next n = (n ≤ c
 abbrev μ-loop : tie.MeasureT-loop
 μ-loop p masks ends count v at leaves₀ next₀ n₀ leaves next n = count - n
 
--- src/states.rt:72:5
 loop-holds : tie.Need-loop-holds Inv-loop μ-loop
 loop-holds c = let a = c .before .before .before .args in (omega arith, omega arith, leaves-none (a .p) (a .v) (a .leaves .now) (a .leaves .now) (a .at) (a .at) 0 refl refl refl)
 
--- src/states.rt:73:12
 is-leaf-requires : tie.Need-is-leaf-requires Inv-loop μ-loop
 is-leaf-requires c κs = let s = c .before .before .before .before .before in (s .pre .0, s .pre .1, s .pre .2, s .pre .4, omega (arith, s .pre .3))
 
--- src/states.rt:74:13
 put-leaf-requires : tie.Need-put-leaf-requires Inv-loop μ-loop
 put-leaf-requires c κs = let s = c .before .before .before .before .before .before .before .before in omega (arith, s .pre .3, s .pre .1 .few)
 
--- src/states.rt:75:20
 add-next : tie.Need-add-next Inv-loop μ-loop
 add-next c = let s = c .before .before .before .before .before .before .before .before .before .before .before in omega (arith, s .pre .3, s .pre .1 .few, s .pre .5)
 
--- src/states.rt:72:9
 add-n : tie.Need-add-n Inv-loop μ-loop
 add-n c = let s = c .before .before .before .before .before .before .before in omega (arith, s .pre .3, s .pre .1 .few)
 
--- src/states.rt:72:5
 loop-less : tie.Need-loop-less Inv-loop μ-loop
 loop-less c = omega arith
 
--- src/states.rt:72:5
 loop-again : tie.Need-loop-again Inv-loop μ-loop
 loop-again c = 
     let l = c .before .before .before in
@@ -53,11 +40,9 @@ loop-again c =
         (⊎-elim (λ w. inl (w .0 .taken, w .5 ∙ w .2 .ensures, w .6)) (λ w. inr (w .0 .left, w .1, w .2)) (c .if1 .came)) in
     (omega arith, omega (arith, r .1), r .0)
 
--- src/states.rt:67:1
 same-length : tie.Need-same-length Inv-loop μ-loop
 same-length c = stored-length (c .before .loop .inv .2)
 
--- src/states.rt:67:1
 returns : tie.Need-returns Inv-loop μ-loop
 returns c = 
     let s = c .before .before .before .before .before in

@@ -4,39 +4,28 @@ use Rattle.builder.proofs.StateLaws.{over-none, over-some}
 use borrow.Author.Needs.{needs}
 use Rattle.builder.proofs.states.fill_over.Statement.{statement}
 use Rattle.builder.proofs.states.fill_over.Tie as tie
-use Rattle.builder.proofs.states.fill_over.Reads as reads
-use Rattle.builder.proofs.states.fill_over.Lts as lts
-use Rattle.builder.proofs.states.fill_leaves.Reads as fill-leaves-reads
-use Rattle.builder.proofs.states.put_leaf.Reads as put-leaf-reads
 
--- src/states.rt:86:9
 fill-leaves-requires : tie.Need-fill-leaves-requires
 fill-leaves-requires c κs = search needs
 
--- src/states.rt:88:9
 put-leaf-requires : tie.Need-put-leaf-requires
 put-leaf-requires c κs = search needs
 
--- src/states.rt:89:16
 add-result : tie.Need-add-result
 add-result c = search needs
 
--- src/states.rt:89:9
 same-length : tie.Need-same-length
 same-length c = search needs
 
--- src/states.rt:89:9
 returns : tie.Need-returns
 returns c = 
     let s = c .before .before .before .before .before .before .before .before .before .before .before .before in
     let r = c .before .before .before .before .before .before .before .fill-leaves in
     (over-none (s .args .p) (s .args .v) (s .args .leaves .now) _ (s .args .at) (r .result) (s .args .count) (s .pre .3) (r .ensures .0) (c .before .before .before .before .if1 .taken) (c .before .before .put-leaf .last .0) (c .before .before .put-leaf .ensures), omega arith)
 
--- src/states.rt:82:1
 same-length-2 : tie.Need-same-length-2
 same-length-2 c = search needs
 
--- src/states.rt:82:1
 returns-2 : tie.Need-returns-2
 returns-2 c = 
     let s = c .before .before .before .before .before .before .before .before in

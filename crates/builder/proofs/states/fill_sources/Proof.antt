@@ -1,5 +1,5 @@
 -- `states::fill_sources` meets its contract. The invariant: v stands from `from` up to i. Assumes nothing.
-use mathlib.Core.Path.{_≡_, sym, ap, _∙_}
+use mathlib.Core.Path.{_≡_, ap, _∙_}
 use Prim.Native.Nat.{_-_, _≤_}
 use native.Mathlib.Nat.{le-antisymm}
 use native.Mathlib.Omega.{arith}
@@ -9,9 +9,6 @@ use Rattle.builder.proofs.StateLaws.{replicate-none, replicate-more}
 use borrow.Author.Needs.{needs}
 use Rattle.builder.proofs.states.fill_sources.Statement.{statement}
 use Rattle.builder.proofs.states.fill_sources.Tie as tie
-use Rattle.builder.proofs.states.fill_sources.Reads as reads
-use Rattle.builder.proofs.states.fill_sources.Lts as lts
-use Rattle.builder.proofs.states.put_source.Reads as put-source-reads
 
 abbrev Inv-loop : tie.InvT-loop
 Inv-loop sources₀ from to v i₀ sources i = (from ≤ i) × (i ≤ to) × (sources ≡ sets sources₀ from (replicate (i - from) v))
@@ -19,34 +16,27 @@ Inv-loop sources₀ from to v i₀ sources i = (from ≤ i) × (i ≤ to) × (so
 abbrev μ-loop : tie.MeasureT-loop
 μ-loop sources₀ from to v i₀ sources i = to - i
 
--- src/states.rt:99:5
 loop-holds : tie.Need-loop-holds Inv-loop μ-loop
 loop-holds c = let a = c .before .args in (omega arith, omega arith, replicate-none (a .sources .now) (a .from) (a .v))
 
--- src/states.rt:100:9
 put-source-requires : tie.Need-put-source-requires Inv-loop μ-loop
 put-source-requires c κs = search needs
 
--- src/states.rt:99:9
 add-i : tie.Need-add-i Inv-loop μ-loop
 add-i c = omega arith
 
--- src/states.rt:99:5
 loop-less : tie.Need-loop-less Inv-loop μ-loop
 loop-less c = omega arith
 
--- src/states.rt:99:5
 loop-again : tie.Need-loop-again Inv-loop μ-loop
 loop-again c = 
     let l = c .before .before .before .before .before in
     let a = c .before .before .before .before .before .before .before .args in
     (omega arith, omega arith, c .before .before .put-source .ensures ∙ replicate-more (a .sources .now) (l .loop .sources) (a .from) (l .loop .i) (a .v) (omega arith) (l .loop .inv .2))
 
--- src/states.rt:95:1
 same-length : tie.Need-same-length Inv-loop μ-loop
 same-length c = let a = c .before .before .before .args in ap length (c .before .loop .inv .2) ∙ length-sets (a .sources .now) (a .from) (replicate (c .before .loop .i - a .from) (a .v))
 
--- src/states.rt:95:1
 returns : tie.Need-returns Inv-loop μ-loop
 returns c = cc (le-antisymm (c .before .loop .inv .1) (c .loop-test .left))
 

@@ -1,17 +1,12 @@
 -- `states::fill_states` meets its contract. The invariant: the states over the policy states below v are written. Assumes nothing.
-use mathlib.Core.Path.{_≡_, refl, sym, ap, _∙_}
-use Prim.Native.Nat.{ℕ, _-_, _≤_}
+use mathlib.Core.Path.{refl}
+use Prim.Native.Nat.{_-_}
 use native.Mathlib.Omega.{arith}
-use lib.ListN.{length}
 use Rattle.policy.proofs.Laws.{legal-counts}
 use Rattle.builder.proofs.StateLaws.{stored-length, Placing, placing-none, placing-more, placing-all}
 use borrow.Author.Needs.{needs}
 use Rattle.builder.proofs.states.fill_states.Statement.{statement}
 use Rattle.builder.proofs.states.fill_states.Tie as tie
-use Rattle.builder.proofs.states.fill_states.Reads as reads
-use Rattle.builder.proofs.states.fill_states.Lts as lts
-use Rattle.builder.proofs.states.fill_over.Reads as fill-over-reads
-use Rattle.builder.proofs.states.fill_sources.Reads as fill-sources-reads
 
 abbrev Inv-loop : tie.InvT-loop
 Inv-loop p masks ends count sources₀ leaves₀ states starts₀ at₀ v₀ sources leaves starts at v = Placing p sources₀ leaves₀ sources leaves starts v at
@@ -19,48 +14,38 @@ Inv-loop p masks ends count sources₀ leaves₀ states starts₀ at₀ v₀ sou
 abbrev μ-loop : tie.MeasureT-loop
 μ-loop p masks ends count sources₀ leaves₀ states starts₀ at₀ v₀ sources leaves starts at v = states - v
 
--- src/states.rt:117:18
 cast-states : tie.Need-cast-states Inv-loop μ-loop
 cast-states c = search needs
 
--- src/states.rt:120:5
 loop-holds : tie.Need-loop-holds Inv-loop μ-loop
 loop-holds c = let a = c .before .before .before .before .before .args in placing-none (a .p) (a .sources .now) (a .leaves .now) _ refl
 
--- src/states.rt:121:13
 fill-over-requires : tie.Need-fill-over-requires Inv-loop μ-loop
 fill-over-requires c κs = 
     let s = c .before .before .before .before .before .before .before .before in
     let l = c .before .before .loop in
     (s .pre .0 .0, s .pre .0 .1, s .pre .0 .2, s .pre .0 .3, c .before .loop-test .taken, omega (arith, l .inv .few, legal-counts (s .args .p) (s .pre .0 .0) .states-few))
 
--- src/states.rt:122:9
 fill-sources-requires : tie.Need-fill-sources-requires Inv-loop μ-loop
 fill-sources-requires c κs = 
     let s = c .before .before .before .before .before .before .before .before .before .before .before .before in
     (omega (arith, c .before .before .before .fill-over .ensures .0 .next-is), omega (arith, legal-counts (s .args .p) (s .pre .0 .0) .states-few))
 
--- src/states.rt:123:16
 add-starts : tie.Need-add-starts Inv-loop μ-loop
 add-starts c = let s = c .before .before .before .before .before .before .before .before .before .before .before .before .before .before .before in omega (arith, legal-counts (s .args .p) (s .pre .0 .0) .states-few)
 
--- src/states.rt:123:9
 mul-starts : tie.Need-mul-starts Inv-loop μ-loop
 mul-starts c = let s = c .before .before .before .before .before .before .before .before .before .before .before .before .before .before .before in omega (arith, legal-counts (s .args .p) (s .pre .0 .0) .states-few)
 
--- src/states.rt:123:9
 array-write-starts : tie.Need-array-write-starts Inv-loop μ-loop
 array-write-starts c = let s = c .before .before .before .before .before .before .before .before .before .before .before .before .before .before .before in omega (arith, legal-counts (s .args .p) (s .pre .0 .0) .states-few)
 
--- src/states.rt:120:9
 add-v : tie.Need-add-v Inv-loop μ-loop
 add-v c = let s = c .before .before .before .before .before .before .before .before .before .before .before .before .before .before .before in omega (arith, legal-counts (s .args .p) (s .pre .0 .0) .states-few)
 
--- src/states.rt:120:5
 loop-less : tie.Need-loop-less Inv-loop μ-loop
 loop-less c = omega arith
 
--- src/states.rt:120:5
 loop-again : tie.Need-loop-again Inv-loop μ-loop
 loop-again c = 
     let l = c .before .before .before .before .before .before .before .before .before .loop in
@@ -68,15 +53,12 @@ loop-again c =
     let o = c .before .before .before .before .before .before .fill-over in
     placing-more (s .args .p) (s .args .sources .now) (s .args .leaves .now) (l .sources) (l .leaves) (l .starts) (l .v) (l .at) (l .inv) (c .before .before .before .before .before .before .before .before .loop-test .taken) (legal-counts (s .args .p) (s .pre .0 .0) .states-few) _ _ (o .result) (o .ensures .0) (o .ensures .1) (c .before .before .fill-sources .ensures)
 
--- src/states.rt:112:1
 same-length : tie.Need-same-length Inv-loop μ-loop
 same-length c = stored-length (c .before .loop .inv .sources-are)
 
--- src/states.rt:112:1
 same-length-2 : tie.Need-same-length-2 Inv-loop μ-loop
 same-length-2 c = stored-length (c .before .loop .inv .leaves-are)
 
--- src/states.rt:112:1
 returns : tie.Need-returns Inv-loop μ-loop
 returns c = 
     let l = c .before .loop in

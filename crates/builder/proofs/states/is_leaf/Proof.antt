@@ -1,5 +1,5 @@
 -- `states::is_leaf` meets its contract. The invariant: j is a child of n, or the end of n, and no child passed contains v. Assumes nothing.
-use mathlib.Core.Path.{_≡_, refl, sym, _∙_, subst}
+use mathlib.Core.Path.{_≡_, refl, sym, subst}
 use mathlib.Core.Bool.{Bool, true, false, not, true≢false}
 use Prim.Native.Nat.{ℕ, _-_, _<_}
 use native.Mathlib.Omega.{arith}
@@ -10,7 +10,6 @@ use Rattle.decomposition.proofs.Forest.{forest-laws}
 use Rattle.builder.specs.Stages.{endOf}
 use Rattle.builder.proofs.Ends.{end-gt, end-le}
 use Rattle.builder.proofs.StateLaws.{Hopping, hop-start, hop-in, hop-next, hop-found, hop-done, leaf-out, column-contains}
-use borrow.Author.Needs.{needs}
 use Rattle.builder.proofs.states.is_leaf.Statement.{statement}
 use Rattle.builder.proofs.states.is_leaf.Tie as tie
 use Rattle.builder.proofs.states.is_leaf.Reads as reads
@@ -23,41 +22,32 @@ Inv-loop p masks ends v n end j₀ j = (end ≡ endOf (forest p) n) × Hopping p
 abbrev μ-loop : tie.MeasureT-loop
 μ-loop p masks ends v n end j₀ j = end - j
 
--- src/states.rt:33:30
 mul-contains-state : tie.Need-mul-contains-state Inv-loop μ-loop
 mul-contains-state c = let s = c .before .before in omega (arith, s .pre .1 .few, s .pre .4)
 
--- src/states.rt:33:30
 shared-slice-read-contains-state : tie.Need-shared-slice-read-contains-state Inv-loop μ-loop
 shared-slice-read-contains-state c = let s = c .before .before .before in omega (arith, s .pre .1 .long, s .pre .4)
 
--- src/states.rt:33:9
 contains-state-requires : tie.Need-contains-state-requires Inv-loop μ-loop
 contains-state-requires c κs = let s = c .before .before .before in (s .pre .0, s .pre .3)
 
--- src/states.rt:34:9
 returns : tie.Need-returns Inv-loop μ-loop
 returns c = 
     let s = c .before .before .before .before .before in
     sym (leaf-out (s .args .p) (forest (s .args .p)) (s .args .v) (s .args .n) (column-contains (s .args .p) (s .args .masks .now) (s .pre .1) (s .args .v) (s .args .n) (c .before .contains-state .result) false (s .pre .4) (c .before .contains-state .ensures) (not-true (c .before .contains-state .result) (c .if1 .taken))))
 
--- src/states.rt:36:15
 mul-end : tie.Need-mul-end Inv-loop μ-loop
 mul-end c = let s = c .before .before .before .before .before in omega (arith, s .pre .1 .few, s .pre .4)
 
--- src/states.rt:36:15
 shared-slice-read-end : tie.Need-shared-slice-read-end Inv-loop μ-loop
 shared-slice-read-end c = let s = c .before .before .before .before .before .before in omega (arith, s .pre .2 .long, s .pre .4)
 
--- src/states.rt:36:15
 cast-end : tie.Need-cast-end Inv-loop μ-loop
 cast-end c = let s = c .before .before .before .before .before .before in omega (arith, s .pre .1 .few, s .pre .2 .ends-are (s .args .n) (s .pre .4), end-le (s .args .p) (forest (s .args .p)) (forest-laws (s .args .p) (s .pre .0)) (s .args .n) (s .pre .4))
 
--- src/states.rt:37:17
 add-j : tie.Need-add-j Inv-loop μ-loop
 add-j c = let s = c .before .before .before .before .before .before in omega (arith, s .pre .1 .few, s .pre .4)
 
--- src/states.rt:38:5
 loop-holds : tie.Need-loop-holds Inv-loop μ-loop
 loop-holds c = 
     let s = c .before .before .before .before .before .before in
@@ -73,19 +63,15 @@ inside c =
     let s = c .before .before .before .before .before .before .before .before in
     hop-in (s .args .p) (forest (s .args .p)) (forest-laws (s .args .p) (s .pre .0)) (s .args .v) (s .args .n) (s .pre .4) (c .before .loop .j) (c .before .loop .inv .1) (before-end c)
 
--- src/states.rt:39:33
 mul-contains-state-2 : tie.Need-mul-contains-state-2 Inv-loop μ-loop
 mul-contains-state-2 c = let s = c .before .before .before .before .before .before .before .before in omega (arith, s .pre .1 .few, inside c)
 
--- src/states.rt:39:33
 shared-slice-read-contains-state-2 : tie.Need-shared-slice-read-contains-state-2 Inv-loop μ-loop
 shared-slice-read-contains-state-2 c = let s = c .before .before .before .before .before .before .before .before .before in omega (arith, s .pre .1 .long, inside (c .before))
 
--- src/states.rt:39:12
 contains-state-requires-2 : tie.Need-contains-state-requires-2 Inv-loop μ-loop
 contains-state-requires-2 c κs = let s = c .before .before .before .before .before .before .before .before .before in (s .pre .0, s .pre .3)
 
--- src/states.rt:40:13
 returns-2 : tie.Need-returns-2 Inv-loop μ-loop
 returns-2 c = 
     let l = c .before .before .before .before in
@@ -95,11 +81,9 @@ returns-2 c =
     sym (hop-found p (forest p) (forest-laws p (s .pre .0)) (s .args .v) (s .args .n) (s .pre .4) j (l .loop .inv .1) (before-end (c .before .before .before))
     (column-contains p (s .args .masks .now) (s .pre .1) (s .args .v) j (c .before .contains-state2 .result) true (inside (c .before .before .before)) (c .before .contains-state2 .ensures) (c .if2 .taken)))
 
--- src/states.rt:42:13
 mul-j : tie.Need-mul-j Inv-loop μ-loop
 mul-j c = let s = c .before .before .before .before .before .before .before .before .before .before .before in omega (arith, s .pre .1 .few, inside (c .before .before .before))
 
--- src/states.rt:42:13
 shared-slice-read-j : tie.Need-shared-slice-read-j Inv-loop μ-loop
 shared-slice-read-j c = let s = c .before .before .before .before .before .before .before .before .before .before .before .before in omega (arith, s .pre .2 .long, inside (c .before .before .before .before))
 
@@ -108,15 +92,12 @@ end-is : (c : lts.After-shared-slice-known6 (contains-state-reads.Asked, contain
     → getD (c .before .before .before .before .before .before .before .before .before .before .before .before .args .ends .now) (c .before .before .before .before .before .loop .j) 0 ≡ endOf (forest (c .before .before .before .before .before .before .before .before .before .before .before .before .args .p)) (c .before .before .before .before .before .loop .j)
 end-is c = c .before .before .before .before .before .before .before .before .before .before .before .before .pre .2 .ends-are (c .before .before .before .before .before .loop .j) (inside (c .before .before .before .before))
 
--- src/states.rt:42:13
 cast-j : tie.Need-cast-j Inv-loop μ-loop
 cast-j c = let s = c .before .before .before .before .before .before .before .before .before .before .before .before in omega (arith, s .pre .1 .few, end-is c, end-le (s .args .p) (forest (s .args .p)) (forest-laws (s .args .p) (s .pre .0)) (c .before .before .before .before .before .loop .j) (inside (c .before .before .before .before)))
 
--- src/states.rt:38:5
 loop-less : tie.Need-loop-less Inv-loop μ-loop
 loop-less c = let s = c .before .before .before .before .before .before .before .before .before .before .before .before in let l = c .before .before .before .before .before in omega (arith, before-end (c .before .before .before .before), l .loop .inv .0, end-is c, end-gt (s .args .p) (forest (s .args .p)) (forest-laws (s .args .p) (s .pre .0)) (l .loop .j) (inside (c .before .before .before .before)))
 
--- src/states.rt:38:5
 loop-again : tie.Need-loop-again Inv-loop μ-loop
 loop-again c = 
     let l = c .before .before .before .before .before in
@@ -131,7 +112,6 @@ unnot : (b : Bool) → not b ≡ false → b ≡ true
 unnot true e = refl
 unnot false e = absurd (true≢false e)
 
--- src/states.rt:29:1
 returns-3 : tie.Need-returns-3 Inv-loop μ-loop
 returns-3 c = 
     let l = c .before in

