@@ -1,6 +1,5 @@
 // The built states: for each policy state its leaves by number, or 65,535 where it is in no cycle.
 use policy::Policy;
-
 ghost use mathlib.Core.Path.{_≡_};
 ghost use mathlib.Core.Bool.{true};
 ghost use Prim.Native.Nat.{_+_, _-_, _≤_, _<_};
@@ -44,7 +43,7 @@ pub fn is_leaf(p: Policy, masks: &[u64], ends: &[u16], v: usize, n: usize) -> bo
     true
 }
 
-// x in its place, if there is one.
+// x in its place, if the table has it.
 fn put_leaf(t: &mut [u16], at: usize, x: usize)
     requires { ⌜ x < 65536 ⌝ }
     ensures { λ _. ⌜ now (t .exit) ≡ set (now (t .entry)) at x ⌝ }
@@ -54,6 +53,7 @@ fn put_leaf(t: &mut [u16], at: usize, x: usize)
     }
 }
 
+// The same in the table of policy states.
 fn put_source(t: &mut [u8], at: usize, x: usize)
     requires { ⌜ x < 256 ⌝ }
     ensures { λ _. ⌜ now (t .exit) ≡ set (now (t .entry)) at x ⌝ }
@@ -63,8 +63,17 @@ fn put_source(t: &mut [u8], at: usize, x: usize)
     }
 }
 
-// The leaves of v among the first `count` nodes, from `at` on; the place after them.
-fn fill_leaves(p: Policy, masks: &[u64], ends: &[u16], count: usize, v: usize, at: usize, leaves: &mut [u16]) -> usize
+// The leaves of v, from `at` on; the place after them. There are at most 16 times 65,536 built states, so a place never overflows; those past the end
+// of the table are counted, and not written.
+fn fill_leaves(
+    p: Policy,
+    masks: &[u64],
+    ends: &[u16],
+    count: usize,
+    v: usize,
+    at: usize,
+    leaves: &mut [u16],
+) -> usize
     requires { ⌜ (legal p ≡ true) × MaskColumn p (now masks) × Ends p (now ends) × (count ≡ length (forest p)) × (v < p .states) × (at ≤ 1048576) ⌝ }
     ensures { λ r. ⌜ Stored (now (leaves .entry)) (now (leaves .exit)) at r (leavesBelow p v count) × (r ≤ at + 65535) ⌝ }
 {
@@ -78,8 +87,16 @@ fn fill_leaves(p: Policy, masks: &[u64], ends: &[u16], count: usize, v: usize, a
     next
 }
 
-// The leaves of the states over v.
-fn fill_over(p: Policy, masks: &[u64], ends: &[u16], count: usize, v: usize, at: usize, leaves: &mut [u16]) -> usize
+// The leaves of the states over v: 65,535 alone where v is in no cycle.
+fn fill_over(
+    p: Policy,
+    masks: &[u64],
+    ends: &[u16],
+    count: usize,
+    v: usize,
+    at: usize,
+    leaves: &mut [u16],
+) -> usize
     requires { ⌜ (legal p ≡ true) × MaskColumn p (now masks) × Ends p (now ends) × (count ≡ length (forest p)) × (v < p .states) × (at ≤ 1048576) ⌝ }
     ensures { λ r. ⌜ Stored (now (leaves .entry)) (now (leaves .exit)) at r (leavesOver p v) × (r ≤ at + 65536) ⌝ }
 {
@@ -109,7 +126,14 @@ pub struct Placed {
 }
 
 // The built states by policy state and then by leaf.
-pub fn fill_states(p: Policy, masks: &[u64], ends: &[u16], count: usize, sources: &mut [u8], leaves: &mut [u16]) -> Placed
+pub fn fill_states(
+    p: Policy,
+    masks: &[u64],
+    ends: &[u16],
+    count: usize,
+    sources: &mut [u8],
+    leaves: &mut [u16],
+) -> Placed
     requires nodes { ⌜ (legal p ≡ true) × MaskColumn p (now masks) × Ends p (now ends) × (count ≡ length (forest p)) ⌝ }
     requires tables { ⌜ (length (now sources) ≡ length (now leaves)) × (now sources ≡ zeros (now sources)) × (now leaves ≡ zeros (now leaves)) ⌝ }
     ensures { λ r. ⌜ Filled p (now (sources .entry)) (now (leaves .entry)) (now (sources .exit)) (now (leaves .exit)) (r .fits) (r .count) (r .starts) ⌝ }

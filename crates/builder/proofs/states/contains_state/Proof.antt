@@ -32,7 +32,7 @@ both-requires : tie.Need-both-requires
 both-requires c κs = search needs
 
 returns : tie.Need-returns
-returns c = 
+returns c =
     let s = c .before .before .before in
     contains-is (s .args .p) (s .pre .0) (s .args .v) (s .args .m) (s .pre .1) (c .both .result) (c .both .ensures ∙ ap (λ (x : ℕ). bitAnd (s .args .m / 2 ^ (s .args .v * s .args .p .letters)) x) (c .before .full .ensures))
 

@@ -33,18 +33,18 @@ loop-less : tie.Need-loop-less Inv-loop μ-loop
 loop-less c = omega arith
 
 loop-again : tie.Need-loop-again Inv-loop μ-loop
-loop-again c = 
+loop-again c =
     let l = c .before .before .before in
     let a = c .before .before .before .before .before .before .before .args in
     let r = leaves-turn (a .p) (a .v) (a .leaves .now) (l .loop .leaves) (a .at) (l .loop .next) (l .loop .n) (c .before .is-leaf .result) (c .before .is-leaf .ensures) (l .loop .inv .2) (c .if1 .leaves) (c .if1 .next)
-        (⊎-elim (λ w. inl (w .0 .taken, w .5 ∙ w .2 .ensures, w .6)) (λ w. inr (w .0 .left, w .1, w .2)) (c .if1 .came)) in
+    (⊎-elim (λ w. inl (w .0 .taken, w .5 ∙ w .2 .ensures, w .6)) (λ w. inr (w .0 .left, w .1, w .2)) (c .if1 .came)) in
     (omega arith, omega (arith, r .1), r .0)
 
 same-length : tie.Need-same-length Inv-loop μ-loop
 same-length c = stored-length (c .before .loop .inv .2)
 
 returns : tie.Need-returns Inv-loop μ-loop
-returns c = 
+returns c =
     let s = c .before .before .before .before .before in
     let l = c .before .loop in
     let e : l .n ≡ s .args .count = omega arith in

@@ -18,7 +18,7 @@ same-length : tie.Need-same-length
 same-length c = search needs
 
 returns : tie.Need-returns
-returns c = 
+returns c =
     let s = c .before .before .before .before .before .before .before .before .before .before .before .before in
     let r = c .before .before .before .before .before .before .before .fill-leaves in
     (over-none (s .args .p) (s .args .v) (s .args .leaves .now) _ (s .args .at) (r .result) (s .args .count) (s .pre .3) (r .ensures .0) (c .before .before .before .before .if1 .taken) (c .before .before .put-leaf .last .0) (c .before .before .put-leaf .ensures), omega arith)
@@ -27,7 +27,7 @@ same-length-2 : tie.Need-same-length-2
 same-length-2 c = search needs
 
 returns-2 : tie.Need-returns-2
-returns-2 c = 
+returns-2 c =
     let s = c .before .before .before .before .before .before .before .before in
     let r = c .before .before .before .fill-leaves in
     (over-some (s .args .p) (s .args .v) (s .args .leaves .now) _ (s .args .at) (r .result) (s .args .count) (s .pre .3) (r .ensures .0) (c .if1 .left), omega (arith, r .ensures .1))

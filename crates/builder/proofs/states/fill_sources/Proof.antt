@@ -29,7 +29,7 @@ loop-less : tie.Need-loop-less Inv-loop μ-loop
 loop-less c = omega arith
 
 loop-again : tie.Need-loop-again Inv-loop μ-loop
-loop-again c = 
+loop-again c =
     let l = c .before .before .before .before .before in
     let a = c .before .before .before .before .before .before .before .args in
     (omega arith, omega arith, c .before .before .put-source .ensures ∙ replicate-more (a .sources .now) (l .loop .sources) (a .from) (l .loop .i) (a .v) (omega arith) (l .loop .inv .2))

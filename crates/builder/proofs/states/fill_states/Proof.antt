@@ -21,13 +21,13 @@ loop-holds : tie.Need-loop-holds Inv-loop μ-loop
 loop-holds c = let a = c .before .before .before .before .before .args in placing-none (a .p) (a .sources .now) (a .leaves .now) _ refl
 
 fill-over-requires : tie.Need-fill-over-requires Inv-loop μ-loop
-fill-over-requires c κs = 
+fill-over-requires c κs =
     let s = c .before .before .before .before .before .before .before .before in
     let l = c .before .before .loop in
     (s .pre .0 .0, s .pre .0 .1, s .pre .0 .2, s .pre .0 .3, c .before .loop-test .taken, omega (arith, l .inv .few, legal-counts (s .args .p) (s .pre .0 .0) .states-few))
 
 fill-sources-requires : tie.Need-fill-sources-requires Inv-loop μ-loop
-fill-sources-requires c κs = 
+fill-sources-requires c κs =
     let s = c .before .before .before .before .before .before .before .before .before .before .before .before in
     (omega (arith, c .before .before .before .fill-over .ensures .0 .next-is), omega (arith, legal-counts (s .args .p) (s .pre .0 .0) .states-few))
 
@@ -47,7 +47,7 @@ loop-less : tie.Need-loop-less Inv-loop μ-loop
 loop-less c = omega arith
 
 loop-again : tie.Need-loop-again Inv-loop μ-loop
-loop-again c = 
+loop-again c =
     let l = c .before .before .before .before .before .before .before .before .before .loop in
     let s = c .before .before .before .before .before .before .before .before .before .before .before .before .before .before .before in
     let o = c .before .before .before .before .before .before .fill-over in
@@ -60,7 +60,7 @@ same-length-2 : tie.Need-same-length-2 Inv-loop μ-loop
 same-length-2 c = stored-length (c .before .loop .inv .leaves-are)
 
 returns : tie.Need-returns Inv-loop μ-loop
-returns c = 
+returns c =
     let l = c .before .loop in
     let s = c .before .before .before .before .before .before .before in
     placing-all (s .args .p) (s .args .sources .now) (s .args .leaves .now) (l .sources) (l .leaves) (l .starts) (l .v) (l .at) (l .inv) (c .loop-test .left) (s .pre .1 .0) (s .pre .1 .1) (s .pre .1 .2)

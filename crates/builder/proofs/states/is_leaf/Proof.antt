@@ -32,7 +32,7 @@ contains-state-requires : tie.Need-contains-state-requires Inv-loop μ-loop
 contains-state-requires c κs = let s = c .before .before .before in (s .pre .0, s .pre .3)
 
 returns : tie.Need-returns Inv-loop μ-loop
-returns c = 
+returns c =
     let s = c .before .before .before .before .before in
     sym (leaf-out (s .args .p) (forest (s .args .p)) (s .args .v) (s .args .n) (column-contains (s .args .p) (s .args .masks .now) (s .pre .1) (s .args .v) (s .args .n) (c .before .contains-state .result) false (s .pre .4) (c .before .contains-state .ensures) (not-true (c .before .contains-state .result) (c .if1 .taken))))
 
@@ -49,7 +49,7 @@ add-j : tie.Need-add-j Inv-loop μ-loop
 add-j c = let s = c .before .before .before .before .before .before in omega (arith, s .pre .1 .few, s .pre .4)
 
 loop-holds : tie.Need-loop-holds Inv-loop μ-loop
-loop-holds c = 
+loop-holds c =
     let s = c .before .before .before .before .before .before in
     (s .pre .2 .ends-are (s .args .n) (s .pre .4), hop-start (s .args .p) (forest (s .args .p)) (forest-laws (s .args .p) (s .pre .0)) (s .args .v) (s .args .n) (s .pre .4))
 
@@ -73,7 +73,7 @@ contains-state-requires-2 : tie.Need-contains-state-requires-2 Inv-loop μ-loop
 contains-state-requires-2 c κs = let s = c .before .before .before .before .before .before .before .before .before in (s .pre .0, s .pre .3)
 
 returns-2 : tie.Need-returns-2 Inv-loop μ-loop
-returns-2 c = 
+returns-2 c =
     let l = c .before .before .before .before in
     let s = c .before .before .before .before .before .before .before .before .before .before .before in
     let p = s .args .p in
@@ -99,21 +99,23 @@ loop-less : tie.Need-loop-less Inv-loop μ-loop
 loop-less c = let s = c .before .before .before .before .before .before .before .before .before .before .before .before in let l = c .before .before .before .before .before in omega (arith, before-end (c .before .before .before .before), l .loop .inv .0, end-is c, end-gt (s .args .p) (forest (s .args .p)) (forest-laws (s .args .p) (s .pre .0)) (l .loop .j) (inside (c .before .before .before .before)))
 
 loop-again : tie.Need-loop-again Inv-loop μ-loop
-loop-again c = 
+loop-again c =
     let l = c .before .before .before .before .before in
     let s = c .before .before .before .before .before .before .before .before .before .before .before .before in
     let p = s .args .p in
-    let j = l .loop .j in
-    (l .loop .inv .0, subst (λ (x : ℕ). Hopping p (forest p) (s .args .v) (s .args .n) x) (sym (end-is c))
-    (hop-next p (forest p) (forest-laws p (s .pre .0)) (s .args .v) (s .args .n) (s .pre .4) j (l .loop .inv .1) (before-end (c .before .before .before .before))
-    (column-contains p (s .args .masks .now) (s .pre .1) (s .args .v) j (c .before .before .contains-state2 .result) false (inside (c .before .before .before .before)) (c .before .before .contains-state2 .ensures) (c .before .if2 .left))))
+    let j = l .loop .j in (
+      l .loop .inv .0,
+      subst (λ (x : ℕ). Hopping p (forest p) (s .args .v) (s .args .n) x) (sym (end-is c))
+          (hop-next p (forest p) (forest-laws p (s .pre .0)) (s .args .v) (s .args .n) (s .pre .4) j (l .loop .inv .1) (before-end (c .before .before .before .before))
+          (column-contains p (s .args .masks .now) (s .pre .1) (s .args .v) j (c .before .before .contains-state2 .result) false (inside (c .before .before .before .before)) (c .before .before .contains-state2 .ensures) (c .before .if2 .left))),
+    )
 
 unnot : (b : Bool) → not b ≡ false → b ≡ true
 unnot true e = refl
 unnot false e = absurd (true≢false e)
 
 returns-3 : tie.Need-returns-3 Inv-loop μ-loop
-returns-3 c = 
+returns-3 c =
     let l = c .before in
     let s = c .before .before .before .before .before .before .before .before in
     let p = s .args .p in
