@@ -3,3 +3,4 @@ pub mod Collect
 pub mod Laws
 pub mod Rows
 pub mod Colours
+pub mod Meaning

@@ -1,2 +1,3 @@
 pub mod Judging
 pub mod Rounds
+pub mod Strays

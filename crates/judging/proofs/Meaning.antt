@@ -1,0 +1,224 @@
+-- What the definitions of judging mean: the recurring colours are the colours that recur, the least recurring priority is the least that recurs, and question
+-- 13 is answered no exactly if the run ever reads a row whose target is no state. Assumes nothing.
+use Prim.Native.Nat.{ℕ, zero, suc, _+_, _≤_, _<_}
+use native.Mathlib.Omega.{arith}
+use mathlib.Core.Path.{_≡_, refl, sym, ap, ap₂, _∙_, subst}
+use mathlib.Core.Logic.{_⊎_, inl, inr, _↔_}
+use mathlib.Core.Bool.{Bool, true, false, _||_, cond, true≢false, false≢true}
+use mathlib.Core.List.{List, [], _∷_, _++_, List·Memᴰ, List·Memᴰ·head, Memᴰ·append-left, Memᴰ·append-right, List·Memᴰ·append-cases, head-eq-of-cons-eq, tail-eq-of-cons-eq, nil≢cons}
+use lib.Dec.{ltb}
+use lib.ListN.{getD}
+use borrow.Author.Tests.{lt-ltb, le-ltb}
+use Rattle.lists.specs.Lists.{all}
+use Rattle.lists.proofs.Bools.{test, and-l, or-cases, or-left, or-right, lt-true, lt-false}
+use Rattle.masks.specs.Masks.{has}
+use Rattle.recurrence.specs.Recurs.{iter, rounds}
+use Rattle.recurrence.specs.Runs.{times, after, met, Recurring, window}
+use Rattle.recurrence.proofs.Periods.{rounds-mem, mem-rounds}
+use Rattle.recurrence.proofs.Runs.{met-append, after-keeps, met-times, recurring-window, numbered-recurring}
+use Rattle.recurrence.proofs.Repeats.{iter-keeps, met-first}
+use Rattle.policy.specs.declared.Policy.{Policy}
+use Rattle.policy.specs.Policies.{legal}
+use Rattle.running.specs.declared.Run.{Run}
+use Rattle.running.specs.declared.Reading.{Reading}
+use Rattle.running.specs.declared.Reading.the-variants.{Moved, Refused as NotRead}
+use Rattle.running.specs.Running.{policyStep, policyMeets, rowOf, rowStates, shaped, readingOf, rowStep, rowMeets}
+use Rattle.running.proofs.Steps.{policy-within, row-moves, row-within}
+use Rattle.judging.specs.Judging.{nonEmpty, inRange, leastOf, recurringColours, noState, strayMeets, everStray, leastRecurring}
+use Rattle.judging.specs.Strays.{Strays}
+use Rattle.judging.proofs.Laws.{set-has, least-le, least-mem, some-member, member-some, nonEmpty-append}
+
+-- ---- the recurring colours
+pub recurring-colours : (p : Policy) → legal p ≡ true → (v : ℕ) → v < p .states → (stem loop : List ℕ) (c : ℕ)
+    → (has (recurringColours p v stem loop) c ≡ true) ↔ Recurring (policyStep p) (policyMeets p) stem loop v c
+unfolding recurringColours
+recurring-colours p ok v h stem loop c =
+    let held = window (policyStep p) (policyMeets p) (p .states) stem loop v in
+    let w = recurring-window (policyStep p) (policyMeets p) (p .states) (policy-within p ok) stem loop v h c in
+    (λ t. w .1 (set-has held c .0 t), λ q. set-has held c .1 (w .0 q))
+
+-- ---- a run is the same whatever is looked for
+after-any : {S A B : Type 0} (step : S → ℕ → S) (m : S → ℕ → List A) (m′ : S → ℕ → List B) (w : List ℕ) (s : S) → after step m w s ≡ after step m′ w s
+unfolding after
+after-any step m m′ [] s = refl
+after-any step m m′ (a ∷ w) s = after-any step m m′ w (step s a)
+
+iter-any : {A : Type 0} (f g : A → A) → ((x : A) → f x ≡ g x) → (k : ℕ) (x : A) → iter f k x ≡ iter g k x
+unfolding iter
+iter-any f g h zero x = refl
+iter-any f g h (suc k) x = h (iter f k x) ∙ ap g (iter-any f g h k x)
+
+module _ (letters : ℕ) (targets priorities : List ℕ) where
+  abbrev step : Run → ℕ → Run
+  step = rowStep letters targets priorities
+
+  abbrev strays : Run → ℕ → List ℕ
+  strays = strayMeets letters targets priorities
+
+  abbrev states : ℕ
+  states = rowStates letters targets priorities
+
+  -- ---- one letter
+  -- question 13 is the only one whose number is 13
+  asked-13 : (x y z w : Bool) (r r′ : Run) (k : ℕ) → let q = cond x (cond y (cond z (cond w (Moved r′ k) (NotRead 13 r)) (NotRead 12 r)) (NotRead 11 r)) (NotRead 8 r) in
+      noState q ≡ true → q ≡ NotRead 13 r
+  asked-13 true true true true r r′ k e = absurd (false≢true e)
+  asked-13 true true true false r r′ k e = refl
+  asked-13 true true false w r r′ k e = absurd (false≢true e)
+  asked-13 true false z w r r′ k e = absurd (false≢true e)
+  asked-13 false y z w r r′ k e = absurd (false≢true e)
+
+  stray-answer : (r : Run) (a : ℕ) → nonEmpty (strays r a) ≡ true → readingOf letters targets priorities r a ≡ NotRead 13 r
+  unfolding strayMeets readingOf
+  stray-answer r a t = asked-13 (shaped letters targets priorities) (ltb (r .state) states) (ltb a letters) (ltb (getD targets (rowOf letters (r .state) a) 0) states) r
+      (record { state = getD targets (rowOf letters (r .state) a) 0 }) (getD priorities (rowOf letters (r .state) a) 0) (go (noState (readingOf letters targets priorities r a)) t)
+    where
+      go : (b : Bool) → nonEmpty (cond b (a ∷ []) []) ≡ true → b ≡ true
+      go true t = refl
+      go false t = absurd (false≢true t)
+
+  answer-stray : (r : Run) (a : ℕ) → readingOf letters targets priorities r a ≡ NotRead 13 r → List·Memᴰ a (strays r a)
+  unfolding strayMeets
+  answer-stray r a e = rw e (List·Memᴰ·head refl)
+
+  -- for rows of the right shape, a state and a letter of theirs: the row's target is no state
+  pub stray-target : (r : Run) (a : ℕ) → shaped letters targets priorities ≡ true → r .state < states → a < letters
+      → (readingOf letters targets priorities r a ≡ NotRead 13 r) ↔ (states ≤ getD targets (rowOf letters (r .state) a) 0)
+  unfolding readingOf
+  stray-target r a ok s l = (to (test (ltb t states)), λ h. rw (ok, lt-ltb _ _ s, lt-ltb _ _ l, le-ltb _ _ h) refl)
+    where
+      t : ℕ
+      t = getD targets (rowOf letters (r .state) a) 0
+
+      to : (ltb t states ≡ true) ⊎ (ltb t states ≡ false) → readingOf letters targets priorities r a ≡ NotRead 13 r → states ≤ t
+      to (inl y) e =
+          let moved : readingOf letters targets priorities r a ≡ Moved (record { state = t }) (getD priorities (rowOf letters (r .state) a) 0) = rw (ok, lt-ltb _ _ s, lt-ltb _ _ l, y) refl in
+          let z : _≡_ {A = ℕ} 0 1 = cc in
+          absurd (omega arith)
+      to (inr n) e = lt-false t states n
+
+  -- ---- a list of letters
+  met-strays : (w : List ℕ) (r : Run) → nonEmpty (met step strays w r) ≡ true → Strays letters targets priorities r w
+  unfolding met after
+  met-strays [] r t = absurd (false≢true t)
+  met-strays (a ∷ w) r t = go (or-cases (nonEmpty (strays r a)) (nonEmpty (met step strays w (step r a))) (sym (nonEmpty-append (strays r a) (met step strays w (step r a))) ∙ t)) (met-strays w (step r a))
+    where
+      go : (nonEmpty (strays r a) ≡ true) ⊎ (nonEmpty (met step strays w (step r a)) ≡ true) → (nonEmpty (met step strays w (step r a)) ≡ true → Strays letters targets priorities (step r a) w)
+          → Strays letters targets priorities r (a ∷ w)
+      go (inl q) ih = record { start = []; letter = a; rest = w; letters-are = refl; answered = stray-answer r a q }
+      go (inr q) ih = let s = ih q in record { start = a ∷ s .start; letter = s .letter; rest = s .rest; letters-are = ap (λ (l : List ℕ). a ∷ l) (s .letters-are); answered = s .answered }
+
+  strays-met : (w : List ℕ) (r : Run) → Strays letters targets priorities r w → (y : ℕ) × List·Memᴰ y (met step strays w r)
+  unfolding met
+  strays-met w r s =
+      let same = after-any step (rowMeets letters targets priorities) strays (s .start) r in
+      let last = after step strays (s .start) r in
+      let here : List·Memᴰ (s .letter) (strays last (s .letter)) = answer-stray last (s .letter) (subst (λ (x : Run). readingOf letters targets priorities x (s .letter) ≡ NotRead 13 x) same (s .answered)) in
+      (
+        s .letter,
+        subst (List·Memᴰ (s .letter)) (sym (ap (λ (l : List ℕ). met step strays l r) (s .letters-are) ∙ met-append step strays (s .start) (s .letter ∷ s .rest) r))
+        (Memᴰ·append-right (met step strays (s .start) r) (Memᴰ·append-left (met step strays (s .rest) (step last (s .letter))) here)),
+      )
+
+  module _ (r : Run) (stem loop : List ℕ) where
+    -- the stem's end
+    abbrev begun : Run
+    begun = after step strays stem r
+
+    abbrev round : Run → Run
+    round = after step strays loop
+
+    abbrev found : Run → List ℕ
+    found = met step strays loop
+
+    -- all that the stem and k rounds meet
+    met-all : (k : ℕ) → met step strays (stem ++ times k loop) r ≡ met step strays stem r ++ rounds round found begun 0 k
+    unfolding iter
+    met-all k = met-append step strays stem (times k loop) r ∙ ap (λ (l : List ℕ). met step strays stem r ++ l) (met-times step strays loop begun 0 k)
+
+    ever-met : everStray letters targets priorities r stem loop ≡ nonEmpty (met step strays (stem ++ times states loop) r)
+    unfolding everStray
+    ever-met = sym (ap nonEmpty (met-all states) ∙ nonEmpty-append (met step strays stem r) (rounds round found begun 0 states))
+
+    module _ (h : r .state < states) where
+      -- the run keeps to the states
+      begun-lt : {B : Type 0} (m : Run → ℕ → List B) (w : List ℕ) (x : Run) → x .state < states → after step m w x .state < states
+      begun-lt m w x l = after-keeps step m (λ x. x .state < states) (row-within letters targets priorities) w x l
+
+      -- what any round meets, one of the first rounds meets
+      met-once : (t y : ℕ) → List·Memᴰ y (found (iter round t begun)) → everStray letters targets priorities r stem loop ≡ true
+      met-once t y m =
+          let q = met-first round found begun (λ r. r .state) (λ n. record { state = n }) (λ r. refl) (λ n. refl) states (λ x l. begun-lt strays loop x l) (begun-lt strays stem r h) t y m in
+          ever-met ∙ ap nonEmpty (met-all states) ∙ member-some (met step strays stem r ++ rounds round found begun 0 states) y (Memᴰ·append-right (met step strays stem r) q)
+
+      -- question 13: the run ever reads such a row
+      pub stray : (everStray letters targets priorities r stem loop ≡ true) ↔ ((k : ℕ) × Strays letters targets priorities r (stem ++ times k loop))
+      stray = (λ t. (states, met-strays (stem ++ times states loop) r (sym ever-met ∙ t)), λ q. from (q .0) (strays-met (stem ++ times (q .0) loop) r (q .1)))
+        where
+          from : (k : ℕ) → ((y : ℕ) × List·Memᴰ y (met step strays (stem ++ times k loop) r)) → everStray letters targets priorities r stem loop ≡ true
+          from k q = cases (List·Memᴰ·append-cases (met step strays stem r) (subst (List·Memᴰ (q .0)) (met-all k) (q .1)))
+            where
+              cases : List·Memᴰ (q .0) (met step strays stem r) ⊎ List·Memᴰ (q .0) (rounds round found begun 0 k) → everStray letters targets priorities r stem loop ≡ true
+              cases (inl m) = ever-met ∙ ap nonEmpty (met-all states) ∙ member-some (met step strays stem r ++ rounds round found begun 0 states) (q .0) (Memᴰ·append-left (rounds round found begun 0 states) m)
+              cases (inr m) = let w = mem-rounds round found begun 0 k (q .0) m in met-once (w .0) (q .0) (w .3)
+
+      -- ---- the least recurring priority
+      abbrev meets : Run → ℕ → List ℕ
+      meets = rowMeets letters targets priorities
+
+      -- the end of round t
+      abbrev at : ℕ → Run
+      at t = iter (after step meets loop) t (after step meets stem r)
+
+      at-same : (t : ℕ) → at t ≡ iter round t begun
+      at-same t = iter-any (after step meets loop) round (λ x. after-any step meets strays loop x) t (after step meets stem r) ∙ ap (iter round t) (after-any step meets strays stem r)
+
+      -- where no such row is read, a round meets a priority of the table
+      round-meets : shaped letters targets priorities ≡ true → inRange letters loop ≡ true → nonEmpty loop ≡ true → everStray letters targets priorities r stem loop ≡ false
+          → (t : ℕ) → (i : ℕ) × List·Memᴰ (getD priorities i 0) (met step meets loop (at t))
+      unfolding met inRange
+      round-meets ok range some none t = go loop refl some range
+        where
+          go : (l : List ℕ) → loop ≡ l → nonEmpty l ≡ true → inRange letters l ≡ true → (i : ℕ) × List·Memᴰ (getD priorities i 0) (met step meets l (at t))
+          go [] e s q = absurd (false≢true s)
+          go (a ∷ w) e s q = (
+            rowOf letters (at t .state) a,
+            Memᴰ·append-left (met step meets w (step (at t) a)) (subst (List·Memᴰ (getD priorities (rowOf letters (at t .state) a) 0)) (sym (row-moves letters targets priorities (at t) a ok inside a-letter (target (test (ltb to states))) .1)) (List·Memᴰ·head refl)),
+          )
+            where
+              to : ℕ
+              to = getD targets (rowOf letters (at t .state) a) 0
+
+              a-letter : ltb a letters ≡ true
+              a-letter = and-l (ltb a letters) (all (λ a. ltb a letters) w) q
+
+              inside : at t .state < states
+              inside = iter-keeps (after step meets loop) (λ x. x .state < states) (λ x l. begun-lt meets loop x l) (after step meets stem r) (begun-lt meets stem r h) t
+
+              met-here : readingOf letters targets priorities (at t) a ≡ NotRead 13 (at t) → List·Memᴰ a (met step strays (a ∷ w) (iter round t begun))
+              met-here k = Memᴰ·append-left (met step strays w (step (iter round t begun) a)) (answer-stray (iter round t begun) a (subst (λ (x : Run). readingOf letters targets priorities x a ≡ NotRead 13 x) (at-same t) k))
+
+              target : (ltb to states ≡ true) ⊎ (ltb to states ≡ false) → to < states
+              target (inl y) = lt-true to states y
+              target (inr n) =
+                  let k = stray-target (at t) a ok inside (lt-true a letters a-letter) .1 (lt-false to states n) in
+                  absurd (true≢false (sym (met-once t a (subst (λ (l : List ℕ). List·Memᴰ a (met step strays l (iter round t begun))) (sym e) (met-here k))) ∙ none))
+
+      pub least-recurring : shaped letters targets priorities ≡ true → nonEmpty loop ≡ true → inRange letters loop ≡ true → everStray letters targets priorities r stem loop ≡ false
+          → ((i : ℕ) → getD priorities i 0 ≤ 255)
+          → Recurring (rowStep letters targets priorities) (rowMeets letters targets priorities) stem loop r (leastRecurring letters targets priorities r stem loop)
+          × ((k : ℕ) → Recurring (rowStep letters targets priorities) (rowMeets letters targets priorities) stem loop r k → leastRecurring letters targets priorities r stem loop ≤ k)
+      unfolding leastRecurring window
+      least-recurring ok some range none bytes = (recurs (leastOf held) .1 (least-mem held (getD priorities (one .0) 0) in-held (bytes (one .0))), λ k q. least-le held k (recurs k .0 q))
+        where
+          held : List ℕ
+          held = window step meets states stem loop r
+
+          recurs : (k : ℕ) → Recurring step meets stem loop r k ↔ List·Memᴰ k held
+          recurs k = numbered-recurring step meets (λ r. r .state) (λ n. record { state = n }) (λ r. refl) (λ n. refl) states (row-within letters targets priorities) stem loop r h k
+
+          one : (i : ℕ) × List·Memᴰ (getD priorities i 0) (met step meets loop (at states))
+          one = round-meets ok range some none states
+
+          in-held : List·Memᴰ (getD priorities (one .0) 0) held
+          in-held = rounds-mem (after step meets loop) (met step meets loop) (after step meets stem r) states states states (getD priorities (one .0) 0) (omega arith) (omega arith) (one .1)
