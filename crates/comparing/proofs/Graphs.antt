@@ -60,7 +60,7 @@ module _ (p q : Policy) where
     subst (λ (x : ℕ). Path q (below (edges q)) x w v) (same-target h e (below-lt (edges p) e (a .1))) (same-path h (targetOf p e) w v (a .2)),
   )
 
-  same-cycle : sameGraph p q ≡ true → (m : ℕ) → Cycle p m → Cycle q m
+  pub same-cycle : sameGraph p q ≡ true → (m : ℕ) → Cycle p m → Cycle q m
   same-cycle h m c = record {
     first = c .first;
     rest = c .rest;

@@ -1,3 +1,4 @@
 pub mod Graphs
+pub mod Meaning
 pub mod Pairs
 pub mod Tests
