@@ -55,11 +55,19 @@ module _ (p : Policy) where
       )
       (ap (λ (n : ℕ). leb n 65535) (states-are (c .letters-some)) ∙ le-leb (length (built p)) 65535 few)
 
+  -- the row of a built state and a letter
+  pub row-target : (s a : ℕ) → s < length (built p) → a < p .letters → getD (rowTargets p) (rowOf (p .letters) s a) 0 ≡ rowTarget p s a
+  unfolding rowTargets
+  row-target = place (rowTarget p)
+
+  pub row-priority : (s a : ℕ) → s < length (built p) → a < p .letters → getD (rowPriorities p) (rowOf (p .letters) s a) 0 ≡ rowPriority p s a
+  unfolding rowPriorities
+  row-priority = place (rowPriority p)
+
 pub rows-of : (p : Policy) → legal p ≡ true → length (built p) ≤ 65535 → Rows p (rowTargets p) (rowPriorities p)
-unfolding rowTargets rowPriorities
 rows-of p ok few = record {
   passes = shape p ok few;
   enough = omega (arith, states-are p (legal-counts p ok .letters-some));
-  targets-are = λ s a h l. place p (rowTarget p) s a h l;
-  priorities-are = λ s a h l. place p (rowPriority p) s a h l;
+  targets-are = row-target p;
+  priorities-are = row-priority p;
 }

@@ -4,3 +4,6 @@ pub mod Period
 pub mod Demand3
 pub mod DefinedRows
 pub mod Recurring
+pub mod Translated
+pub mod Chains
+pub mod Contracts
