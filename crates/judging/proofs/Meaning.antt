@@ -113,11 +113,10 @@ module _ (letters : ℕ) (targets priorities : List ℕ) where
   strays-met w r s =
       let same = after-any step (rowMeets letters targets priorities) strays (s .start) r in
       let last = after step strays (s .start) r in
-      let here : List·Memᴰ (s .letter) (strays last (s .letter)) = answer-stray last (s .letter) (subst (λ (x : Run). readingOf letters targets priorities x (s .letter) ≡ NotRead 13 x) same (s .answered)) in
-      (
+      let here : List·Memᴰ (s .letter) (strays last (s .letter)) = answer-stray last (s .letter) (subst (λ (x : Run). readingOf letters targets priorities x (s .letter) ≡ NotRead 13 x) same (s .answered)) in (
         s .letter,
         subst (List·Memᴰ (s .letter)) (sym (ap (λ (l : List ℕ). met step strays l r) (s .letters-are) ∙ met-append step strays (s .start) (s .letter ∷ s .rest) r))
-        (Memᴰ·append-right (met step strays (s .start) r) (Memᴰ·append-left (met step strays (s .rest) (step last (s .letter))) here)),
+            (Memᴰ·append-right (met step strays (s .start) r) (Memᴰ·append-left (met step strays (s .rest) (step last (s .letter))) here)),
       )
 
   module _ (r : Run) (stem loop : List ℕ) where
