@@ -1,15 +1,14 @@
 -- Two policies over one graph: they have the same edges, and the same cycles. Assumes nothing.
 use Prim.Native.Nat.{ℕ, _*_, _/_, _<_}
-use native.Mathlib.Omega.{arith}
 use mathlib.Core.Path.{_≡_, refl, sym, ap, ap₂, _∙_, subst}
-use mathlib.Core.Bool.{Bool, true, false, _&&_}
+use mathlib.Core.Bool.{true, _&&_}
 use mathlib.Core.List.{List, [], _∷_, List·Memᴰ}
 use lib.Dec.{eqb}
-use Rattle.lists.specs.Lists.{all, below}
+use Rattle.lists.specs.Lists.{below}
 use Rattle.lists.proofs.Bools.{and-l, and-r, both, eqb≡, ≡eqb, bool-ext}
 use Rattle.lists.proofs.Lists.{all-each, each-all, mem-below, below-lt}
 use Rattle.policy.specs.declared.Policy.{Policy}
-use Rattle.policy.specs.Policies.{edges, source, targetOf, legal}
+use Rattle.policy.specs.Policies.{edges, source, targetOf}
 use Rattle.policy.proofs.Laws.{legal-target}
 use Rattle.graph.specs.Cycles.{Path, Cycle, isCycle}
 use Rattle.graph.proofs.Cycles.{cycle-sound, cycle-complete}

@@ -3,17 +3,17 @@
 use Prim.Native.Nat.{ℕ, _^_, _<_}
 use mathlib.Core.Path.{_≡_, refl, sym, ap, ap₂, _∙_, subst}
 use mathlib.Core.Logic.{_⊎_, inl, inr, _≢_}
-use mathlib.Core.Bool.{Bool, true, false, not, _&&_, _||_, true≢false, false≢true}
+use mathlib.Core.Bool.{true, false, not, true≢false}
 use mathlib.Core.List.{List·Memᴰ}
 use lib.Dec.{eqb}
 use Rattle.lists.specs.Lists.{all, below}
 use Rattle.lists.proofs.Bools.{test, and-l, and-r, both, or-cases, or-left, or-right, eqb≡, ≡eqb, not-true, not-false, bool-ext}
 use Rattle.lists.proofs.Lists.{all-each, each-all, mem-below, below-lt}
-use Rattle.masks.specs.Masks.{has, inside, gather}
+use Rattle.masks.specs.Masks.{has, inside}
 use Rattle.masks.proofs.Bits.{inside-all, all-inside, inside-refl, inside-antisym, inside-trans}
 use Rattle.masks.proofs.Gather.{has-gather, gather-lt}
 use Rattle.policy.specs.declared.Policy.{Policy}
-use Rattle.policy.specs.Policies.{edges, edgeColours, coloursOf, inFamily, accepting, legal}
+use Rattle.policy.specs.Policies.{edges, edgeColours, coloursOf, inFamily, accepting}
 use Rattle.policy.proofs.Laws.{legal-target, colours-some, some-colours, colours-up, colours-lt, accepting-is}
 use Rattle.graph.specs.Cycles.{isCycle, contains}
 use Rattle.graph.specs.Through.{cycleThrough}
@@ -28,7 +28,7 @@ use Rattle.comparing.proofs.Graphs.{same-edges}
 
 module _ (p q : Policy) where
   -- ---- the edges with colours in c and d
-  pub pair-some : (c d e : ℕ) → has (pairEdges p q c d) e ≡ true
+  pair-some : (c d e : ℕ) → has (pairEdges p q c d) e ≡ true
       → (e < edges p) × ((x : ℕ) → List·Memᴰ x (edgeColours p e) → has c x ≡ true) × ((x : ℕ) → List·Memᴰ x (edgeColours q e) → has d x ≡ true)
   unfolding pairEdges inPair
   pair-some c d e h =
@@ -111,10 +111,10 @@ module _ (p q : Policy) where
       each-all (freeAt p q c d) (below (p .states)) (λ v k. at-free c d v (λ nz x. true≢false (sym (exactly-up c d (cycleThrough p m v) m (through-inside p m v) (inside-refl m) x) ∙ f)))
 
   -- ---- verdicts
-  pub verdict-p : (c d m : ℕ) → exactly p q c d m ≡ true → accepting p m ≡ inFamily p c
+  verdict-p : (c d m : ℕ) → exactly p q c d m ≡ true → accepting p m ≡ inFamily p c
   verdict-p c d m t = accepting-is p m ∙ ap (inFamily p) (exactly-p c d m t)
 
-  pub verdict-q : (c d m : ℕ) → exactly p q c d m ≡ true → accepting q m ≡ inFamily q d
+  verdict-q : (c d m : ℕ) → exactly p q c d m ≡ true → accepting q m ≡ inFamily q d
   verdict-q c d m t = accepting-is q m ∙ ap (inFamily q) (exactly-q c d m t)
 
   module _ (k : Comparable p q) where

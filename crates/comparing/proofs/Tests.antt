@@ -5,7 +5,6 @@ use lib.Pow.{pow-mono}
 use mathlib.Core.Path.{_≡_, refl, sym, ap, ap₂, _∙_}
 use mathlib.Core.Logic.{_⊎_, inl, inr, _≢_}
 use mathlib.Core.Bool.{Bool, true, false, not, _&&_, _||_, true≢false, and-true, Bool·beq}
-use lib.Dec.{eqb}
 use Rattle.lists.specs.Lists.{all, below}
 use Rattle.lists.proofs.Bools.{test, ≡eqb, neqb}
 use Rattle.lists.proofs.Lists.{all-each, mem-below}
@@ -35,6 +34,13 @@ all-not t n i l f = go (test (all t (below n)))
 -- all sets of at most 8 colours are bytes
 pub sets-few : (n d : ℕ) → n ≤ 8 → d < 2 ^ n → d < 256
 sets-few n d h l = omega (arith, pow-mono {i = n} {j = 8} h)
+
+-- two verdicts agree, as a definition says it and as the code does
+agree-is : (a b : Bool) → not (differs a b) ≡ Bool·beq a b
+agree-is true true = refl
+agree-is true false = refl
+agree-is false true = refl
+agree-is false false = refl
 
 module _ (p q : Policy) where
   -- ---- targets
@@ -69,13 +75,7 @@ module _ (p q : Policy) where
   unfolding freeAt
   free-some c d v z = ap (λ (b : Bool). b || not (exactly p q c d (cycleThrough p (pairEdges p q c d) v))) (neqb (cycleThrough p (pairEdges p q c d) v) 0 z)
 
-  agree-is : (a b : Bool) → not (differs a b) ≡ Bool·beq a b
-  agree-is true true = refl
-  agree-is true false = refl
-  agree-is false true = refl
-  agree-is false false = refl
-
-  pub pair-is : (c d : ℕ) (a b : Bool) → a ≡ inFamily p c → b ≡ inFamily q d → pairAgrees p q c d ≡ Bool·beq a b || isFree p q c d
+  pair-is : (c d : ℕ) (a b : Bool) → a ≡ inFamily p c → b ≡ inFamily q d → pairAgrees p q c d ≡ Bool·beq a b || isFree p q c d
   unfolding pairAgrees
   pair-is c d a b h g = ap (λ (x : Bool). x || isFree p q c d) (sym (ap₂ (λ (x y : Bool). not (differs x y)) h g) ∙ agree-is a b)
 

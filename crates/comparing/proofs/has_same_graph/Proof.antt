@@ -1,9 +1,6 @@
 -- `has_same_graph` meets its contract. Assumes nothing.
-use mathlib.Core.Path.{_≡_, refl, sym, ap, ap₂, _∙_}
-use mathlib.Core.Bool.{Bool, _&&_}
 use borrow.Author.Needs.{needs}
 use borrow.Author.Tests.{eq-eqb, ne-eqb}
-use Rattle.comparing.specs.Pairs.{sameTargets}
 use Rattle.comparing.proofs.Graphs.{same-graph-is}
 use Rattle.comparing.proofs.has_same_graph.Statement.{statement}
 use Rattle.comparing.proofs.has_same_graph.Tie as tie

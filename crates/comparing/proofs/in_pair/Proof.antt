@@ -1,6 +1,6 @@
 -- `in_pair` meets its contract: an edge has one colour in each policy. Assumes nothing.
 use native.Mathlib.Omega.{arith}
-use mathlib.Core.Path.{refl, sym, ap, ap₂, _∙_}
+use mathlib.Core.Path.{sym, ap, ap₂, _∙_}
 use mathlib.Core.Bool.{_&&_}
 use Rattle.masks.specs.Masks.{has}
 use Rattle.comparing.proofs.Tests.{edge-few, colour-p, colour-q, in-pair-is}

@@ -1,5 +1,4 @@
 -- `is_free_at` meets its contract. Assumes nothing.
-use native.Mathlib.Omega.{arith}
 use mathlib.Core.Path.{_≡_, sym, ap, _∙_}
 use mathlib.Core.Bool.{not}
 use Rattle.graph.specs.Through.{cycleThrough}

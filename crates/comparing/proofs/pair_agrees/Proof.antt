@@ -1,6 +1,5 @@
 -- `pair_agrees` meets its contract. Assumes nothing.
 use mathlib.Core.Path.{_≡_, sym, ap, _∙_}
-use mathlib.Core.Bool.{false}
 use borrow.Author.Needs.{needs}
 use borrow.Author.Tests.{not-true}
 use Rattle.comparing.specs.Pairs.{exactly, isFree, pairAgrees}
