@@ -6,12 +6,11 @@ use mathlib.Core.Logic.{_↔_}
 use mathlib.Core.Bool.{true}
 use mathlib.Core.List.{List, [], _∷_, List·Memᴰ}
 use lib.Dec.{ltb}
-use lib.ListN.{length, getD}
+use lib.ListN.{getD}
 use Rattle.lists.specs.Lists.{any}
 use Rattle.recurrence.specs.Runs.{after}
 use Rattle.policy.specs.declared.Policy.{Policy}
 use Rattle.policy.specs.Policies.{legal}
-use Rattle.builder.specs.Automaton.{built, stateAt}
 use Rattle.builder.specs.Tables.{Tables}
 use Rattle.builder.specs.declared.Translation.{Translation}
 use Rattle.running.specs.declared.Run.{Run}
@@ -21,7 +20,7 @@ use Rattle.correctness.specs.Demand3.{Rows, StandsOver, RecurringColour,
 use Rattle.correctness.specs.Contracts.{Succeeded, Beginning, letterAt, RecursAmong, policyState, coloursMet, Chain, prioritiesMet, Decided, Agreement}
 use Rattle.correctness.proofs.Joint.{stands-after}
 use Rattle.correctness.proofs.Demand3.{demand3}
-use Rattle.correctness.proofs.Translated.{success-legal, success-counts, source-after, rows-after}
+use Rattle.correctness.proofs.Translated.{success-legal, stands-over, over-stands, rows-after}
 use Rattle.correctness.proofs.Chains.{recurs-along}
 
 -- ---- over any rows of a legal policy
@@ -77,8 +76,8 @@ pub demand3-contracts : (p : Policy) (entry exit : Tables) (answer : Translation
     → (stem loop : List ℕ) (runs : ℕ → Run) (answers : ℕ → Reading) → Chain (p .letters) targets priorities stem loop runs answers
     → runs 0 .state < states → (v : ℕ) → v ≡ getD (exit .sources) (runs 0 .state) 0 → Agreement p stem loop answers v states (exit .sources) runs
 demand3-contracts p entry exit answer nodes states first done targets priorities b stem loop runs answers chain h v e = record {
-  stands = λ i. subst (λ (n : ℕ). runs i .state < n) (sym counted) (stand i .is-built);
-  over = λ i. source (runs i .state) (stand i .is-built) ∙ stand i .over;
+  stands = λ i. stand i .0;
+  over = λ i. stand i .1;
   decided = decide p ok targets priorities rows stem loop runs answers chain v begins;
 }
   where
@@ -88,14 +87,9 @@ demand3-contracts p entry exit answer nodes states first done targets priorities
     rows : Rows p targets priorities
     rows = rows-after p entry exit answer nodes states first done targets priorities b
 
-    counted : states ≡ length (built p)
-    counted = success-counts p entry exit answer nodes states first done .1
-
-    source : (s : ℕ) → s < length (built p) → getD (exit .sources) s 0 ≡ stateAt p s .state
-    source = source-after p entry exit answer nodes states first done
-
     begins : StandsOver p (runs 0) v
-    begins = let l = subst (λ (n : ℕ). runs 0 .state < n) counted h in record { is-built = l; over = sym (source (runs 0 .state) l) ∙ sym e }
+    begins = stands-over p entry exit answer nodes states first done (runs 0) v h e
 
-    stand : (i : ℕ) → StandsOver p (runs i) (policyState p v stem loop i)
-    stand = together p ok targets priorities rows stem loop runs answers chain v begins
+    stand : (i : ℕ) → (runs i .state < states) × (getD (exit .sources) (runs i .state) 0 ≡ policyState p v stem loop i)
+    stand i =
+        over-stands p entry exit answer nodes states first done (runs i) (policyState p v stem loop i) (together p ok targets priorities rows stem loop runs answers chain v begins i)

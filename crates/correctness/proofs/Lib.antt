@@ -7,3 +7,4 @@ pub mod Recurring
 pub mod Translated
 pub mod Chains
 pub mod Contracts
+pub mod Judgings

@@ -1,16 +1,16 @@
 -- What a translation that succeeded has said: the policy is legal, the counts and the start are the defined ones, the source column has the policy's state
--- under each built state, and a beginning of the row tables is rows. Assumes nothing.
-use Prim.Native.Nat.{ℕ, _*_, _/_, _≤_, _<_}
+-- under each built state, a beginning of the row tables is rows, and there is one. Assumes nothing.
+use Prim.Native.Nat.{ℕ, _-_, _*_, _/_, _≤_, _<_, min}
 use native.Mathlib.Omega.{arith}
 use native.Mathlib.Nat.{div-lt-iff-lt-mul}
 use native.Mathlib.Decide.{decLe}
 use mathlib.Core.Path.{_≡_, refl, sym, ap, _∙_, subst}
 use mathlib.Core.Bool.{Bool, true, false, cond, true≢false}
-use mathlib.Core.List.{List}
+use mathlib.Core.List.{List, _++_}
 use lib.Arith.{digits-lt}
-use lib.ListN.{length, getD, take, length-map, length-take, List·getD-map}
-use lib.Seq.{getD-take}
-use Rattle.lists.proofs.Bools.{both}
+use lib.ListN.{length, getD, take, replicate, length-map, length-take, List·getD-map}
+use lib.Seq.{getD-take, take-append-seam}
+use Rattle.lists.proofs.Bools.{both, le-true}
 use Rattle.tables.specs.Tables.{padded}
 use Rattle.tables.proofs.Tables.{getD-padded}
 use Rattle.policy.specs.declared.Policy.{Policy}
@@ -18,13 +18,15 @@ use Rattle.policy.specs.Policies.{legal}
 use Rattle.policy.proofs.Laws.{legal-counts}
 use Rattle.decomposition.specs.Forest.{forest}
 use Rattle.builder.specs.Automaton.{Built, built, stateAt, start, rowTargets, rowPriorities}
-use Rattle.builder.specs.Tables.{Tables, stateSources, lengthsFit, nodesFit, statesFit, filled, translationOf, tablesAfter}
+use Rattle.builder.specs.Tables.{Tables, places, stateSources, lengthsFit, nodesFit, statesFit, filled, translationOf, tablesAfter}
 use Rattle.builder.specs.declared.Translation.{Translation}
 use Rattle.builder.specs.declared.Translation.the-variants.{Translated, Refused}
+use Rattle.running.specs.declared.Run.{Run}
 use Rattle.running.specs.Running.{rowOf, rowStates}
-use Rattle.correctness.specs.Demand3.{Rows}
+use Rattle.correctness.specs.Demand3.{Rows, StandsOver}
 use Rattle.correctness.specs.Contracts.{Succeeded, Beginning}
-use Rattle.correctness.proofs.DefinedRows.{targets-long, priorities-long, row-target, row-priority}
+use Rattle.correctness.proofs.DefinedRows.{targets-long, priorities-long, row-target, row-priority, rows-of}
+use Rattle.correctness.proofs.Joint.{start-stands}
 
 -- ---- the answer
 abbrev succeeds : Translation → Bool
@@ -104,7 +106,38 @@ module _ (p : Policy) (entry exit : Tables) (answer : Translation) (nodes states
       ∙ getD-padded (length (entry .sources)) (stateSources p) s (subst (λ (n : ℕ). s < n) (sym (length-map (built p) (λ (b : Built). b .state))) h)
       ∙ List·getD-map (λ (b : Built). b .state) (built p) s (record { state = 0; leaf = 0 })
 
+  -- a run in a built state, and the policy's state under it
+  pub stands-over : (r : Run) (v : ℕ) → r .state < states → v ≡ getD (exit .sources) (r .state) 0 → StandsOver p r v
+  stands-over r v h e =
+      let l = subst (λ (n : ℕ). r .state < n) (answered .states-are) h in
+      record { is-built = l; over = sym (source-after (r .state) l) ∙ sym e }
+
+  pub over-stands : (r : Run) (v : ℕ) → StandsOver p r v → (r .state < states) × (getD (exit .sources) (r .state) 0 ≡ v)
+  over-stands r v h = (subst (λ (n : ℕ). r .state < n) (sym (answered .states-are)) (h .is-built), source-after (r .state) (h .is-built) ∙ h .over)
+
+  -- the start answered is a built state over the initial state
+  pub success-start : (first < states) × (getD (exit .sources) first 0 ≡ p .initial)
+  success-start = over-stands (record { state = first }) (p .initial) (subst (λ (s : ℕ). StandsOver p (record { state = s }) (p .initial)) (sym (answered .first-is)) (start-stands p success-legal))
+
   -- ---- a beginning of the row tables
+  take-padded : (n m : ℕ) (l : List ℕ) → length l ≡ m → l ≡ take m (padded n l)
+  unfolding padded
+  take-padded n m l e = sym (take-append-seam l (replicate (n - length l) 0)) ∙ ap (λ (k : ℕ). take k (l ++ replicate (n - length l) 0)) e
+
+  few : length (built p) ≤ 65535
+  unfolding statesFit places
+  few = omega (arith, le-true (length (built p)) (min (length (entry .sources)) 65535) (answered .fourth-yes))
+
+  -- there is one: exactly the rows of the built states
+  pub exact-beginning : Beginning (p .letters) states exit (rowTargets p) (rowPriorities p)
+  exact-beginning = record {
+    size = length (built p) * p .letters;
+    targets-are = take-padded (length (entry .targets)) (length (built p) * p .letters) (rowTargets p) (targets-long p) ∙ ap (take (length (built p) * p .letters)) (sym targets-padded);
+    priorities-are = take-padded (length (entry .priorities)) (length (built p) * p .letters) (rowPriorities p) (priorities-long p) ∙ ap (take (length (built p) * p .letters)) (sym priorities-padded);
+    holds-rows = omega (arith, ap (λ (n : ℕ). n * p .letters) (answered .states-are), targets-long p);
+    passes = rows-of p success-legal few .passes;
+  }
+
   module _ (targets priorities : List ℕ) (b : Beginning (p .letters) states exit targets priorities) where
     long : length (built p) * p .letters ≤ length targets
     long = subst (λ (n : ℕ). n * p .letters ≤ length targets) (answered .states-are) (b .holds-rows)

@@ -1,5 +1,5 @@
 -- Demand 3 over what the contracts of translating and of Run::read themselves say (document 01, "The two runs"): a translation that succeeded, a beginning
--- of the row tables that it left, the letters of a stem and a loop without end, and any chain of readings over them.
+-- of the row tables that it left, the letters of a stem and a loop without end, and any chain of readings over them. And what judging both sides answers.
 use Prim.Native.Nat.{ℕ, zero, suc, _+_, _-_, _*_, _%_, _≤_, _<_}
 use mathlib.Core.Path.{_≡_}
 use mathlib.Core.Logic.{_↔_}
@@ -18,6 +18,9 @@ use Rattle.builder.specs.declared.Translation.the-variants.{Translated}
 use Rattle.running.specs.declared.Run.{Run}
 use Rattle.running.specs.declared.Reading.{Reading}
 use Rattle.running.specs.Running.{policyStep, policyMeets, shaped, readingOf, runAfter, prioritiesOf}
+use Rattle.judging.specs.Judging.{policyVerdict, rowsVerdict}
+use Rattle.judging.specs.declared.PolicyVerdict.the-variants.{Judged}
+use Rattle.judging.specs.declared.RowsVerdict.the-variants.{Least}
 
 -- ---- a translation that succeeded
 -- what translating promises of its answer and of the tables at exit; and the answer is both counts and the state begun in
@@ -82,3 +85,10 @@ module _ (p : Policy) (stem loop : List ℕ) (answers : ℕ → Reading) (v : �
     pub stands : (i : ℕ) → runs i .state < states
     pub over : (i : ℕ) → getD sources (runs i .state) 0 ≡ policyState p v stem loop i
     pub decided : any (λ a. ltb a (p .letters)) loop ≡ true → Decided
+
+-- ---- judging both sides: the policy from v answers yes exactly if the least priority that the rows from r answer is even
+pub record JudgedAlike (p : Policy) (targets priorities stem loop : List ℕ) (r : Run) (v : ℕ) : Type 0 where
+  pub least : ℕ
+  pub colours : ℕ
+  pub rows-answer : rowsVerdict (p .letters) targets priorities r stem loop ≡ Least least
+  pub policy-answers : policyVerdict p v stem loop ≡ Judged colours (even least)

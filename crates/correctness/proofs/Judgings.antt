@@ -1,0 +1,224 @@
+-- Judging the policy and judging the built rows come to the same: over any rows of a legal policy, and so after a translation that succeeded, the least
+-- recurring priority is even exactly if the recurring colours are in the family; and where no letter is refused both calls answer so. Assumes nothing.
+use Prim.Native.Nat.{ℕ, zero, suc, _≤_, _<_}
+use native.Mathlib.Omega.{arith}
+use native.Mathlib.Decide.{decLt}
+use mathlib.Core.Path.{_≡_, refl, sym, ap, ap₂, _∙_, subst}
+use mathlib.Core.Logic.{_⊎_, inl, inr, _≢_, _↔_}
+use mathlib.Core.Bool.{Bool, true, false, cond, false≢true}
+use mathlib.Core.List.{List, [], _∷_, _++_, List·Memᴰ, List·Memᴰ·head, List·Memᴰ·tail, nil≢cons}
+use lib.Dec.{ltb}
+use lib.ListN.{length, getD, List·getD-eq-default}
+use borrow.Author.Tests.{lt-ltb}
+use Rattle.lists.specs.Lists.{any, all}
+use Rattle.lists.proofs.Bools.{test, and-l, or-left, both, bool-ext}
+use Rattle.masks.specs.Masks.{has}
+use Rattle.masks.proofs.Bits.{mask-ext}
+use Rattle.recurrence.specs.Recurs.{iter, rounds}
+use Rattle.recurrence.specs.Runs.{after, met, window}
+use Rattle.recurrence.proofs.Runs.{numbered-recurring}
+use Rattle.recurrence.proofs.Repeats.{iter-keeps}
+use Rattle.policy.specs.declared.Policy.{Policy}
+use Rattle.policy.specs.Policies.{legal, inFamily}
+use Rattle.policy.proofs.Laws.{legal-counts}
+use Rattle.decomposition.specs.Forest.{Node, forest, node, priority, transientPriority, inRoot, even}
+use Rattle.decomposition.proofs.Forest.{forest-laws}
+use Rattle.decomposition.proofs.Priorities.{priority-few}
+use Rattle.builder.specs.Automaton.{built, stateAt, deepest, priorityAfter}
+use Rattle.builder.specs.Tables.{Tables}
+use Rattle.builder.specs.declared.Translation.{Translation}
+use Rattle.builder.proofs.EdgeRuns.{metRun}
+use Rattle.running.specs.declared.Run.{Run}
+use Rattle.running.specs.declared.Reading.{Reading}
+use Rattle.running.specs.declared.Reading.the-variants.{Moved, Refused as NotRead}
+use Rattle.running.specs.Running.{policyStep, policyMeets, rowStates, shaped, readingOf, prioritiesOf, rowStep, rowMeets}
+use Rattle.running.proofs.Steps.{row-within}
+use Rattle.judging.specs.Judging.{nonEmpty, inRange, setOf, leastOf, recurringColours, policyVerdict, noState, strayMeets, everStray, leastRecurring, rowsVerdict}
+use Rattle.judging.proofs.Laws.{set-has, least-le, least-mem}
+use Rattle.correctness.specs.Demand3.{Rows, StandsOver, RecurringColour, RecurringPriority, Demand3}
+use Rattle.correctness.specs.Contracts.{Succeeded, Beginning, JudgedAlike}
+use Rattle.correctness.proofs.Joint.{Read, in-good, read, stands-after}
+use Rattle.correctness.proofs.Demand3.{demand3}
+use Rattle.correctness.proofs.Recurring.{recurring-colours}
+use Rattle.correctness.proofs.Translated.{success-legal, stands-over, rows-after}
+
+-- ---- lists
+-- rounds that meet nothing
+rounds-none : {A B : Type 0} (f : A → A) (out : A → List B) (x : A) → ((t : ℕ) → out (iter f t x) ≡ []) → (i k : ℕ) → rounds f out x i k ≡ []
+unfolding rounds
+rounds-none f out x h i zero = refl
+rounds-none f out x h i (suc k) = ap₂ (λ (l r : List _). l ++ r) (h i) (rounds-none f out x h (suc i) k)
+
+-- a loop whose letters are all the policy's has one
+some-letter : (letters : ℕ) (loop : List ℕ) → nonEmpty loop ≡ true → inRange letters loop ≡ true → any (λ a. ltb a letters) loop ≡ true
+unfolding inRange
+some-letter letters [] some range = absurd (false≢true some)
+some-letter letters (a ∷ w) some range = or-left (ltb a letters) (any (λ a. ltb a letters) w) (and-l (ltb a letters) (all (λ a. ltb a letters) w) range)
+
+-- ---- a reading that is not answered 13
+met-no-stray : (q : Reading) (k : ℕ) (ks : List ℕ) → prioritiesOf q ++ [] ≡ k ∷ ks → noState q ≡ false
+met-no-stray (Moved r k′) k ks e = refl
+met-no-stray (NotRead n r) k ks e = absurd (nil≢cons e)
+
+refused-no-stray : (letters : ℕ) (targets priorities : List ℕ) (r : Run) (a : ℕ) → ltb a letters ≡ false → noState (readingOf letters targets priorities r a) ≡ false
+unfolding readingOf
+refused-no-stray letters targets priorities r a f = rw f (go (shaped letters targets priorities) (ltb (r .state) (rowStates letters targets priorities)))
+  where
+    go : (x y : Bool) → noState (cond x (cond y (NotRead 12 r) (NotRead 11 r)) (NotRead 8 r)) ≡ false
+    go true true = refl
+    go true false = refl
+    go false y = refl
+
+module _ (p : Policy) (ok : legal p ≡ true) where
+  -- ---- a priority of the built automaton is at most 8
+  node-few : (n : ℕ) → priority p (node (forest p) n) ≤ 8
+  unfolding node
+  node-few n = go (decLt n (length (forest p)))
+    where
+      go : Dec (n < length (forest p)) → priority p (node (forest p) n) ≤ 8
+      go (yes h) = omega (arith, priority-few p (node (forest p) n), forest-laws p ok .levels n h, legal-counts p ok .colours-few)
+      go (no h) =
+          let none : Node = record { mask = 0; parent = 0; level = 0; accepted = false } in
+          omega (arith, priority-few p (node (forest p) n), ap (λ (x : Node). x .level) (List·getD-eq-default (forest p) none {n = n} (omega arith)))
+
+  priority-after-few : (e l : ℕ) → priorityAfter (forest p) p e l ≤ 8
+  unfolding priorityAfter transientPriority
+  priority-after-few e l = go (inRoot (forest p) e)
+    where
+      go : (b : Bool) → cond b (priority p (node (forest p) (deepest (forest p) e l))) 0 ≤ 8
+      go true = node-few (deepest (forest p) e l)
+      go false = omega arith
+
+  met-few : (es : List ℕ) (l k : ℕ) → List·Memᴰ k (metRun (forest p) p es l) → k ≤ 8
+  unfolding metRun
+  met-few (e ∷ es) l k (List·Memᴰ·head q) = subst (λ (x : ℕ). x ≤ 8) (sym q) (priority-after-few e l)
+  met-few (e ∷ es) l k (List·Memᴰ·tail m) = met-few es _ k m
+
+  module _ (targets priorities : List ℕ) (rows : Rows p targets priorities) where
+    abbrev step : Run → ℕ → Run
+    step = rowStep (p .letters) targets priorities
+
+    abbrev meets : Run → ℕ → List ℕ
+    meets = rowMeets (p .letters) targets priorities
+
+    abbrev strays : Run → ℕ → List ℕ
+    strays = strayMeets (p .letters) targets priorities
+
+    -- ---- from a built state
+    abbrev IsBuilt : Run → Type 0
+    IsBuilt r = r .state < length (built p)
+
+    keeps : (w : List ℕ) (r : Run) → IsBuilt r → IsBuilt (after step meets w r)
+    keeps w r h = stands-after p ok targets priorities rows w r (stateAt p (r .state) .state) (record { is-built = h; over = refl }) .is-built
+
+    reading : (w : List ℕ) (r : Run) → IsBuilt r → Read p targets priorities w r (stateAt p (r .state) .state) (stateAt p (r .state) .leaf)
+    reading w r h = read p ok targets priorities rows w r (stateAt p (r .state) .state) (stateAt p (r .state) .leaf) (record { is-built = h; over = refl; leaf-is = refl })
+
+    recurring-few : (stem loop : List ℕ) (r : Run) → IsBuilt r → (k : ℕ) → RecurringPriority p targets priorities stem loop r k → k ≤ 8
+    recurring-few stem loop r h k rec =
+        let q = rec 0 in
+        let end = iter (after step meets loop) (q .0) (after step meets stem r) in
+        let i = reading loop end (iter-keeps (after step meets loop) IsBuilt (keeps loop) (after step meets stem r) (keeps stem r h) (q .0)) in
+        met-few (i .taken) (stateAt p (end .state) .leaf) k (subst (List·Memᴰ k) (i .priorities-are) (q .2))
+
+    -- ---- no letter is answered 13
+    no-stray : (r : Run) (a : ℕ) → IsBuilt r → noState (readingOf (p .letters) targets priorities r a) ≡ false
+    unfolding met metRun rowMeets
+    no-stray r a h = go (test (ltb a (p .letters)))
+      where
+        taken : (es : List ℕ) (l : ℕ) → es ≢ [] → met step meets (a ∷ []) r ≡ metRun (forest p) p es l → noState (readingOf (p .letters) targets priorities r a) ≡ false
+        taken [] l some e = absurd (some refl)
+        taken (x ∷ es) l some e = met-no-stray (readingOf (p .letters) targets priorities r a) _ _ e
+
+        go : (ltb a (p .letters) ≡ true) ⊎ (ltb a (p .letters) ≡ false) → noState (readingOf (p .letters) targets priorities r a) ≡ false
+        go (inl t) =
+            let i = reading (a ∷ []) r h in
+            taken (i .taken) (stateAt p (r .state) .leaf) (i .some (or-left (ltb a (p .letters)) false t)) (i .priorities-are)
+        go (inr f) = refused-no-stray (p .letters) targets priorities r a f
+
+    stray-none : (w : List ℕ) (r : Run) → IsBuilt r → (met step strays w r ≡ []) × IsBuilt (after step strays w r)
+    unfolding met after strayMeets
+    stray-none [] r h = (refl, h)
+    stray-none (a ∷ w) r h =
+        let i = stray-none w (step r a) (keeps (a ∷ []) r h) in
+        (rw (no-stray r a h) (i .0), i .1)
+
+    never-stray : (stem loop : List ℕ) (r : Run) → IsBuilt r → everStray (p .letters) targets priorities r stem loop ≡ false
+    unfolding everStray
+    never-stray stem loop r h =
+        let s = stray-none stem r h in
+        rw (
+          s .0,
+          rounds-none (after step strays loop) (met step strays loop) (after step strays stem r)
+              (λ t. stray-none loop _ (iter-keeps (after step strays loop) IsBuilt (λ x l. stray-none loop x l .1) (after step strays stem r) (s .1) t) .0) 0 (rowStates (p .letters) targets priorities),
+        )
+        refl
+
+    module _ (stem loop : List ℕ) (some : any (λ a. ltb a (p .letters)) loop ≡ true) (r : Run) (v : ℕ) (begins : StandsOver p r v) where
+      decided : Demand3 p targets priorities stem loop r v
+      decided = demand3 p ok targets priorities rows stem loop some r v begins
+
+      v-lt : v < p .states
+      v-lt = in-good p ok r v (stateAt p (r .state) .leaf) (record { is-built = begins .is-built; over = begins .over; leaf-is = refl }) .0
+
+      -- ---- the computed answers are what recurs
+      least-is : leastRecurring (p .letters) targets priorities r stem loop ≡ decided .least
+      unfolding leastRecurring
+      least-is =
+          omega (arith, least-le held (decided .least) least-held, decided .least-lowest (leastOf held) (recurs (leastOf held) .1 (least-mem held (decided .least) least-held low)))
+        where
+          held : List ℕ
+          held = window step meets (rowStates (p .letters) targets priorities) stem loop r
+
+          recurs : (k : ℕ) → RecurringPriority p targets priorities stem loop r k ↔ List·Memᴰ k held
+          recurs k =
+              numbered-recurring step meets (λ (r : Run). r .state) (λ (s : ℕ). record { state = s }) (λ r. refl) (λ s. refl) (rowStates (p .letters) targets priorities)
+              (row-within (p .letters) targets priorities) stem loop r (omega (arith, begins .is-built, rows .enough)) k
+
+          least-held : List·Memᴰ (decided .least) held
+          least-held = recurs (decided .least) .0 (decided .least-recurs)
+
+          low : decided .least ≤ 255
+          low = omega (arith, recurring-few stem loop r (begins .is-built) (decided .least) (decided .least-recurs))
+
+      colours-are : recurringColours p v stem loop ≡ decided .colours
+      unfolding recurringColours
+      colours-are = mask-ext (setOf held) (decided .colours) (λ c. bool-ext (has (setOf held) c) (has (decided .colours) c)
+          (λ t. decided .colours-recur c .1 (recurs c .1 (set-has held c .0 t))) (λ t. set-has held c .1 (recurs c .0 (decided .colours-recur c .0 t))))
+        where
+          held : List ℕ
+          held = window (policyStep p) (policyMeets p) (p .states) stem loop v
+
+          recurs : (c : ℕ) → RecurringColour p targets priorities stem loop v c ↔ List·Memᴰ c held
+          recurs = recurring-colours p ok targets priorities stem loop v v-lt
+
+      pub rows-agree : even (leastRecurring (p .letters) targets priorities r stem loop) ≡ inFamily p (recurringColours p v stem loop)
+      rows-agree = ap even least-is ∙ decided .verdict ∙ ap (inFamily p) (sym colours-are)
+
+    -- ---- both calls
+    pub rows-judged : (stem loop : List ℕ) → nonEmpty loop ≡ true → inRange (p .letters) stem ≡ true → inRange (p .letters) loop ≡ true → (r : Run) (v : ℕ) → StandsOver p r v
+        → JudgedAlike p targets priorities stem loop r v
+    unfolding rowsVerdict policyVerdict
+    rows-judged stem loop some stem-range loop-range r v begins =
+        let letter = some-letter (p .letters) loop some loop-range in
+        let range = both (inRange (p .letters) stem) (inRange (p .letters) loop) stem-range loop-range in
+        record {
+          least = leastRecurring (p .letters) targets priorities r stem loop;
+          colours = recurringColours p v stem loop;
+          rows-answer = rw (rows .passes, lt-ltb (r .state) (rowStates (p .letters) targets priorities) (omega (arith, begins .is-built, rows .enough)), some, range, never-stray stem loop r (begins .is-built)) refl;
+          policy-answers = rw (ok, lt-ltb v (p .states) (v-lt stem loop letter r v begins), some, range, rows-agree stem loop letter r v begins) refl;
+        }
+
+-- ---- after a translation that succeeded
+module _ (p : Policy) (entry exit : Tables) (answer : Translation) (nodes states first : ℕ) (done : Succeeded p entry exit answer nodes states first)
+    (targets priorities : List ℕ) (b : Beginning (p .letters) states exit targets priorities) (stem loop : List ℕ)
+    (r : Run) (h : r .state < states) (v : ℕ) (e : v ≡ getD (exit .sources) (r .state) 0) where
+  pub judgings-agree : any (λ a. ltb a (p .letters)) loop ≡ true → even (leastRecurring (p .letters) targets priorities r stem loop) ≡ inFamily p (recurringColours p v stem loop)
+  judgings-agree some =
+      rows-agree p (success-legal p entry exit answer nodes states first done) targets priorities (rows-after p entry exit answer nodes states first done targets priorities b) stem loop some r v
+      (stands-over p entry exit answer nodes states first done r v h e)
+
+  pub judged-alike : nonEmpty loop ≡ true → inRange (p .letters) stem ≡ true → inRange (p .letters) loop ≡ true → JudgedAlike p targets priorities stem loop r v
+  judged-alike some stem-range loop-range =
+      rows-judged p (success-legal p entry exit answer nodes states first done) targets priorities (rows-after p entry exit answer nodes states first done targets priorities b) stem loop some stem-range
+      loop-range r v (stands-over p entry exit answer nodes states first done r v h e)
