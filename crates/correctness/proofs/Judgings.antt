@@ -1,11 +1,11 @@
 -- Judging the policy and judging the built rows come to the same: over any rows of a legal policy, and so after a translation that succeeded, the least
 -- recurring priority is even exactly if the recurring colours are in the family; and where no letter is refused both calls answer so. Assumes nothing.
-use Prim.Native.Nat.{ℕ, zero, suc, _≤_, _<_}
+use Prim.Native.Nat.{ℕ, _≤_, _<_}
 use native.Mathlib.Omega.{arith}
 use native.Mathlib.Decide.{decLt}
-use mathlib.Core.Path.{_≡_, refl, sym, ap, ap₂, _∙_, subst}
+use mathlib.Core.Path.{_≡_, refl, sym, ap, _∙_, subst}
 use mathlib.Core.Logic.{_⊎_, inl, inr, _≢_, _↔_}
-use mathlib.Core.Bool.{Bool, true, false, cond, false≢true}
+use mathlib.Core.Bool.{Bool, true, false, cond, true≢false, false≢true}
 use mathlib.Core.List.{List, [], _∷_, _++_, List·Memᴰ, List·Memᴰ·head, List·Memᴰ·tail, nil≢cons}
 use lib.Dec.{ltb}
 use lib.ListN.{length, getD, List·getD-eq-default}
@@ -14,7 +14,7 @@ use Rattle.lists.specs.Lists.{any, all}
 use Rattle.lists.proofs.Bools.{test, and-l, or-left, both, bool-ext}
 use Rattle.masks.specs.Masks.{has}
 use Rattle.masks.proofs.Bits.{mask-ext}
-use Rattle.recurrence.specs.Recurs.{iter, rounds}
+use Rattle.recurrence.specs.Recurs.{iter}
 use Rattle.recurrence.specs.Runs.{after, met, window}
 use Rattle.recurrence.proofs.Runs.{numbered-recurring}
 use Rattle.recurrence.proofs.Repeats.{iter-keeps}
@@ -31,23 +31,16 @@ use Rattle.builder.proofs.EdgeRuns.{metRun}
 use Rattle.running.specs.declared.Run.{Run}
 use Rattle.running.specs.declared.Reading.{Reading}
 use Rattle.running.specs.declared.Reading.the-variants.{Moved, Refused as NotRead}
-use Rattle.running.specs.Running.{policyStep, policyMeets, rowStates, shaped, readingOf, prioritiesOf, rowStep, rowMeets}
+use Rattle.running.specs.Running.{rowStates, shaped, readingOf, prioritiesOf, rowStep, rowMeets}
 use Rattle.running.proofs.Steps.{row-within}
-use Rattle.judging.specs.Judging.{nonEmpty, inRange, setOf, leastOf, recurringColours, policyVerdict, noState, strayMeets, everStray, leastRecurring, rowsVerdict}
-use Rattle.judging.proofs.Laws.{set-has, least-le, least-mem}
-use Rattle.correctness.specs.Demand3.{Rows, StandsOver, RecurringColour, RecurringPriority, Demand3}
+use Rattle.judging.specs.Judging.{nonEmpty, inRange, leastOf, recurringColours, policyVerdict, noState, everStray, leastRecurring, rowsVerdict}
+use Rattle.judging.proofs.Laws.{least-le, least-mem}
+use Rattle.judging.proofs.Meaning.{recurring-colours, stray}
+use Rattle.correctness.specs.Demand3.{Rows, StandsOver, RecurringPriority, Demand3}
 use Rattle.correctness.specs.Contracts.{Succeeded, Beginning, JudgedAlike}
 use Rattle.correctness.proofs.Joint.{Read, in-good, read, stands-after}
 use Rattle.correctness.proofs.Demand3.{demand3}
-use Rattle.correctness.proofs.Recurring.{recurring-colours}
 use Rattle.correctness.proofs.Translated.{success-legal, stands-over, rows-after}
-
--- ---- lists
--- rounds that meet nothing
-rounds-none : {A B : Type 0} (f : A → A) (out : A → List B) (x : A) → ((t : ℕ) → out (iter f t x) ≡ []) → (i k : ℕ) → rounds f out x i k ≡ []
-unfolding rounds
-rounds-none f out x h i zero = refl
-rounds-none f out x h i (suc k) = ap₂ (λ (l r : List _). l ++ r) (h i) (rounds-none f out x h (suc i) k)
 
 -- a loop whose letters are all the policy's has one
 some-letter : (letters : ℕ) (loop : List ℕ) → nonEmpty loop ≡ true → inRange letters loop ≡ true → any (λ a. ltb a letters) loop ≡ true
@@ -101,9 +94,6 @@ module _ (p : Policy) (ok : legal p ≡ true) where
     abbrev meets : Run → ℕ → List ℕ
     meets = rowMeets (p .letters) targets priorities
 
-    abbrev strays : Run → ℕ → List ℕ
-    strays = strayMeets (p .letters) targets priorities
-
     -- ---- from a built state
     abbrev IsBuilt : Run → Type 0
     IsBuilt r = r .state < length (built p)
@@ -136,23 +126,14 @@ module _ (p : Policy) (ok : legal p ≡ true) where
             taken (i .taken) (stateAt p (r .state) .leaf) (i .some (or-left (ltb a (p .letters)) false t)) (i .priorities-are)
         go (inr f) = refused-no-stray (p .letters) targets priorities r a f
 
-    stray-none : (w : List ℕ) (r : Run) → IsBuilt r → (met step strays w r ≡ []) × IsBuilt (after step strays w r)
-    unfolding met after strayMeets
-    stray-none [] r h = (refl, h)
-    stray-none (a ∷ w) r h =
-        let i = stray-none w (step r a) (keeps (a ∷ []) r h) in
-        (rw (no-stray r a h) (i .0), i .1)
-
     never-stray : (stem loop : List ℕ) (r : Run) → IsBuilt r → everStray (p .letters) targets priorities r stem loop ≡ false
-    unfolding everStray
-    never-stray stem loop r h =
-        let s = stray-none stem r h in
-        rw (
-          s .0,
-          rounds-none (after step strays loop) (met step strays loop) (after step strays stem r)
-              (λ t. stray-none loop _ (iter-keeps (after step strays loop) IsBuilt (λ x l. stray-none loop x l .1) (after step strays stem r) (s .1) t) .0) 0 (rowStates (p .letters) targets priorities),
-        )
-        refl
+    never-stray stem loop r h = go (test (everStray (p .letters) targets priorities r stem loop))
+      where
+        go : (everStray (p .letters) targets priorities r stem loop ≡ true) ⊎ (everStray (p .letters) targets priorities r stem loop ≡ false) → everStray (p .letters) targets priorities r stem loop ≡ false
+        go (inl t) =
+            let q = stray (p .letters) targets priorities r stem loop (omega (arith, rows .enough)) .0 t .1 in
+            absurd (true≢false (sym (ap noState (q .answered)) ∙ no-stray (after step meets (q .start) r) (q .letter) (keeps (q .start) r h)))
+        go (inr f) = f
 
     module _ (stem loop : List ℕ) (some : any (λ a. ltb a (p .letters)) loop ≡ true) (r : Run) (v : ℕ) (begins : StandsOver p r v) where
       decided : Demand3 p targets priorities stem loop r v
@@ -182,15 +163,12 @@ module _ (p : Policy) (ok : legal p ≡ true) where
           low = omega (arith, recurring-few stem loop r (begins .is-built) (decided .least) (decided .least-recurs))
 
       colours-are : recurringColours p v stem loop ≡ decided .colours
-      unfolding recurringColours
-      colours-are = mask-ext (setOf held) (decided .colours) (λ c. bool-ext (has (setOf held) c) (has (decided .colours) c)
-          (λ t. decided .colours-recur c .1 (recurs c .1 (set-has held c .0 t))) (λ t. set-has held c .1 (recurs c .0 (decided .colours-recur c .0 t))))
-        where
-          held : List ℕ
-          held = window (policyStep p) (policyMeets p) (p .states) stem loop v
-
-          recurs : (c : ℕ) → RecurringColour p targets priorities stem loop v c ↔ List·Memᴰ c held
-          recurs = recurring-colours p ok targets priorities stem loop v v-lt
+      colours-are =
+          mask-ext (recurringColours p v stem loop) (decided .colours)
+          (λ c.
+          let q = recurring-colours p ok v v-lt stem loop c in
+          let d = decided .colours-recur c in
+          bool-ext (has (recurringColours p v stem loop) c) (has (decided .colours) c) (λ t. d .1 (q .0 t)) (λ t. q .1 (d .0 t)))
 
       pub rows-agree : even (leastRecurring (p .letters) targets priorities r stem loop) ≡ inFamily p (recurringColours p v stem loop)
       rows-agree = ap even least-is ∙ decided .verdict ∙ ap (inFamily p) (sym colours-are)
