@@ -1,10 +1,10 @@
 -- Judging a policy: what reading letters collects, and what the search for a repeat and the rounds after it come to; each answer of the definition.
 -- Assumes nothing.
-use Prim.Native.Nat.{ℕ, zero, suc, _+_, _*_, _^_, _≤_, _<_}
+use Prim.Native.Nat.{ℕ, _+_, _*_, _^_, _≤_, _<_}
 use native.Mathlib.Omega.{arith}
 use mathlib.Core.Path.{_≡_, refl, sym, ap, ap₂, _∙_, subst}
-use mathlib.Core.Bool.{Bool, true, false, _&&_, cond}
-use mathlib.Core.List.{List, [], _∷_, _++_}
+use mathlib.Core.Bool.{true, false, _&&_}
+use mathlib.Core.List.{List, _++_}
 use lib.Bits.{bitOr, or-zero-l, or-zero-r}
 use lib.ListN.{length}
 use borrow.Author.Tests.{lt-ltb, le-ltb}
@@ -14,15 +14,14 @@ use Rattle.recurrence.proofs.Runs.{after-keeps}
 use Rattle.recurrence.proofs.Repeats.{iter-keeps}
 use Rattle.masks.specs.Masks.{insert}
 use Rattle.policy.specs.declared.Policy.{Policy}
-use Rattle.policy.specs.Policies.{legal, edges, edgeOf, targetOf, colourOf, edgeColours, inFamily}
+use Rattle.policy.specs.Policies.{legal, edgeOf, targetOf, colourOf, edgeColours, inFamily}
 use Rattle.policy.proofs.Laws.{legal-counts, legal-colour, edges-le, edge-lt}
 use Rattle.running.specs.Running.{policyStep, policyMeets}
 use Rattle.running.proofs.Steps.{policy-moves, policy-stays, policy-within}
-use Rattle.judging.specs.declared.PolicyVerdict.{PolicyVerdict}
 use Rattle.judging.specs.declared.PolicyVerdict.the-variants.{Judged, Refused as RefusedPolicy}
 use Rattle.judging.specs.declared.Coloured.{Coloured}
-use Rattle.judging.specs.Judging.{nonEmpty, inRange, setOf, recurringColours, policyVerdict}
-use Rattle.judging.specs.Rounds.{through, Comes, colouredState, colouredStep, colouredAfter}
+use Rattle.judging.specs.Judging.{inRange, setOf, recurringColours, policyVerdict}
+use Rattle.judging.specs.Rounds.{Comes, colouredState, colouredStep, colouredAfter}
 use Rattle.judging.proofs.Collect.{through-run, window-value}
 use Rattle.judging.proofs.Laws.{set-append, set-same, none-of, some-of}
 

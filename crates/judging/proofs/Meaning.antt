@@ -1,16 +1,16 @@
 -- What the definitions of judging mean: the recurring colours are the colours that recur, the least recurring priority is the least that recurs, and question
 -- 13 is answered no exactly if the run ever reads a row whose target is no state. Assumes nothing.
-use Prim.Native.Nat.{ℕ, zero, suc, _+_, _≤_, _<_}
+use Prim.Native.Nat.{ℕ, zero, suc, _≤_, _<_}
 use native.Mathlib.Omega.{arith}
-use mathlib.Core.Path.{_≡_, refl, sym, ap, ap₂, _∙_, subst}
+use mathlib.Core.Path.{_≡_, refl, sym, ap, _∙_, subst}
 use mathlib.Core.Logic.{_⊎_, inl, inr, _↔_}
-use mathlib.Core.Bool.{Bool, true, false, _||_, cond, true≢false, false≢true}
-use mathlib.Core.List.{List, [], _∷_, _++_, List·Memᴰ, List·Memᴰ·head, Memᴰ·append-left, Memᴰ·append-right, List·Memᴰ·append-cases, head-eq-of-cons-eq, tail-eq-of-cons-eq, nil≢cons}
+use mathlib.Core.Bool.{Bool, true, false, cond, true≢false, false≢true}
+use mathlib.Core.List.{List, [], _∷_, _++_, List·Memᴰ, List·Memᴰ·head, Memᴰ·append-left, Memᴰ·append-right, List·Memᴰ·append-cases}
 use lib.Dec.{ltb}
 use lib.ListN.{getD}
 use borrow.Author.Tests.{lt-ltb, le-ltb}
 use Rattle.lists.specs.Lists.{all}
-use Rattle.lists.proofs.Bools.{test, and-l, or-cases, or-left, or-right, lt-true, lt-false}
+use Rattle.lists.proofs.Bools.{test, and-l, or-cases, lt-true, lt-false}
 use Rattle.masks.specs.Masks.{has}
 use Rattle.recurrence.specs.Recurs.{iter, rounds}
 use Rattle.recurrence.specs.Runs.{times, after, met, Recurring, window}
@@ -20,13 +20,12 @@ use Rattle.recurrence.proofs.Repeats.{iter-keeps, met-first}
 use Rattle.policy.specs.declared.Policy.{Policy}
 use Rattle.policy.specs.Policies.{legal}
 use Rattle.running.specs.declared.Run.{Run}
-use Rattle.running.specs.declared.Reading.{Reading}
 use Rattle.running.specs.declared.Reading.the-variants.{Moved, Refused as NotRead}
 use Rattle.running.specs.Running.{policyStep, policyMeets, rowOf, rowStates, shaped, readingOf, rowStep, rowMeets}
 use Rattle.running.proofs.Steps.{policy-within, row-moves, row-within}
 use Rattle.judging.specs.Judging.{nonEmpty, inRange, leastOf, recurringColours, noState, strayMeets, everStray, leastRecurring}
 use Rattle.judging.specs.Strays.{Strays}
-use Rattle.judging.proofs.Laws.{set-has, least-le, least-mem, some-member, member-some, nonEmpty-append}
+use Rattle.judging.proofs.Laws.{set-has, least-le, least-mem, member-some, nonEmpty-append}
 
 -- ---- the recurring colours
 pub recurring-colours : (p : Policy) → legal p ≡ true → (v : ℕ) → v < p .states → (stem loop : List ℕ) (c : ℕ)

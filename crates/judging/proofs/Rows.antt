@@ -1,10 +1,9 @@
 -- Judging rows: what reading letters collects, and what the search for a repeat and the rounds after it come to; each answer of the definition. Assumes nothing.
-use Prim.Native.Nat.{ℕ, zero, suc, _≤_, _<_}
-use native.Mathlib.Omega.{arith}
+use Prim.Native.Nat.{ℕ, _≤_, _<_}
 use mathlib.Core.Path.{_≡_, refl, sym, ap, ap₂, _∙_, subst}
 use mathlib.Core.Bool.{Bool, true, false, _&&_, _||_, cond}
 use mathlib.Core.List.{List, [], _∷_, _++_, append-nil}
-use lib.Dec.{eqb, ltb}
+use lib.Dec.{eqb}
 use lib.ListN.{length}
 use borrow.Author.Tests.{lt-ltb, le-ltb}
 use Rattle.recurrence.specs.Recurs.{iter, rounds}
@@ -15,11 +14,10 @@ use Rattle.running.specs.declared.Reading.{Reading}
 use Rattle.running.specs.declared.Reading.the-variants.{Moved, Refused}
 use Rattle.running.specs.Running.{rowStates, shaped, readingOf, rowStep, rowMeets, runAfter, prioritiesOf}
 use Rattle.running.proofs.Steps.{row-within}
-use Rattle.judging.specs.declared.RowsVerdict.{RowsVerdict}
 use Rattle.judging.specs.declared.RowsVerdict.the-variants.{Least, Refused as RefusedRows}
 use Rattle.judging.specs.declared.Seen.{Seen}
 use Rattle.judging.specs.Judging.{nonEmpty, inRange, leastOf, noState, strayMeets, everStray, leastRecurring, rowsVerdict}
-use Rattle.judging.specs.Rounds.{through, Comes, seenState, seenWith, seenStep, seenAfter}
+use Rattle.judging.specs.Rounds.{Comes, seenState, seenWith, seenStep, seenAfter}
 use Rattle.judging.proofs.Collect.{through-run, through-value, first-value, window-value}
 use Rattle.judging.proofs.Laws.{least-with, least-same, nonEmpty-append, nonEmpty-same, none-of, some-of}
 

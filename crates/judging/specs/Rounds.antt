@@ -1,14 +1,13 @@
 -- What the loops of judging hold: the watch for a repeat, and what a run has come to after some letters.
-use Prim.Native.Nat.{ℕ, zero, suc, _+_, _*_, _<_}
+use Prim.Native.Nat.{ℕ, _+_, _*_, _<_}
 use mathlib.Core.Path.{_≡_}
 use mathlib.Core.Logic.{_⊎_}
-use mathlib.Core.Bool.{Bool, _||_, cond}
+use mathlib.Core.Bool.{_||_, cond}
 use mathlib.Core.List.{List, [], _∷_}
 use lib.Bits.{bitOr}
 use lib.Dec.{eqb, ltb}
 use Rattle.recurrence.specs.Recurs.{iter}
 use Rattle.policy.specs.declared.Policy.{Policy}
-use Rattle.running.specs.declared.Run.{Run}
 use Rattle.running.specs.declared.Reading.{Reading}
 use Rattle.running.specs.declared.Reading.the-variants.{Moved, Refused}
 use Rattle.running.specs.Running.{policyStep, policyMeets, readingOf}

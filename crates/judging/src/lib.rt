@@ -36,7 +36,7 @@ fn in_range(letters: u8, word: &[u8]) -> bool
 }
 
 // What the search for a repeat keeps: the state at the end of an earlier round, how many rounds ago that was, and after how many rounds it gives way.
-pub struct Watch {
+struct Watch {
     pub kept: u16,
     pub since: usize,
     pub limit: usize,
@@ -62,7 +62,7 @@ fn watch_next(w: Watch, state: u16) -> Watch
 }
 
 // What a run over rows has come to: the run, the least priority met (255 of none), and whether it read a row whose target is no state.
-pub struct Seen {
+struct Seen {
     pub run: Run,
     pub least: u8,
     pub stray: bool,
@@ -130,7 +130,7 @@ fn seen_rounds(
 }
 
 // Where the search for a repeat ends: what the run has come to, and how many rounds from there meet exactly what recurs.
-pub struct Found {
+struct Found {
     pub seen: Seen,
     pub rounds: usize,
 }
@@ -216,7 +216,7 @@ pub fn judge_rows(
 }
 
 // What a policy's run has come to: its state, and the colours met.
-pub struct Coloured {
+struct Coloured {
     pub state: u8,
     pub colours: u8,
 }
@@ -265,7 +265,7 @@ fn coloured_rounds(p: Policy, m: Coloured, k: usize, cycle: &[u8]) -> Coloured
 }
 
 // Where the search for a repeat ends: what the run has come to, and how many rounds from there meet exactly what recurs.
-pub struct FoundColoured {
+struct FoundColoured {
     pub coloured: Coloured,
     pub rounds: usize,
 }

@@ -4,9 +4,9 @@ use Prim.Native.Nat.{ℕ, zero, suc, _+_, _-_, _≤_, _<_}
 use native.Mathlib.Omega.{arith}
 use native.Mathlib.Nat.{add-zero}
 use native.Mathlib.Decide.{decLe}
-use mathlib.Core.Path.{_≡_, refl, sym, ap, ap₂, _∙_, subst}
+use mathlib.Core.Path.{_≡_, refl, sym, ap, ap₂, _∙_}
 use mathlib.Core.Logic.{_↔_}
-use mathlib.Core.List.{List, [], _∷_, _++_, append-nil, append-assoc, List·Memᴰ}
+use mathlib.Core.List.{List, _++_, append-nil, append-assoc, List·Memᴰ}
 use Rattle.recurrence.specs.Recurs.{iter, Recurs, rounds}
 use Rattle.recurrence.proofs.Pigeon.{pigeon}
 use Rattle.recurrence.proofs.Periods.{shift, recurs-within, within-recurs, rounds-mem, mem-rounds}

@@ -1,3 +1,4 @@
+-- The loop seeks: the watch holds the state of an earlier round, so that meeting it again is a repeat. Assumes nothing.
 use native.Mathlib.Omega.{arith}
 use Prim.Native.Nat.{_+_, _-_, _<_}
 use mathlib.Core.Path.{sym, subst}
@@ -10,10 +11,6 @@ use Rattle.judging.proofs.Colours.{rounds-within}
 use borrow.Author.Needs.{needs}
 use Rattle.judging.proofs.coloured_repeat.Statement.{statement}
 use Rattle.judging.proofs.coloured_repeat.Tie as tie
-use Rattle.judging.proofs.coloured_repeat.Reads as reads
-use Rattle.judging.proofs.coloured_repeat.Lts as lts
-use Rattle.judging.proofs.coloured_word.Reads as coloured-word-reads
-use Rattle.judging.proofs.watch_next.Reads as watch-next-reads
 
 abbrev Inv-loop : tie.InvT-loop
 Inv-loop p cycle n t₀ w₀ round₀ t w round = Seeking (colouredAfter p cycle) colouredState n t₀ t w round

@@ -1,3 +1,4 @@
+-- The loop: a round more is one step of the iteration. Assumes nothing.
 use native.Mathlib.Omega.{arith}
 use Prim.Native.Nat.{_-_, _≤_, _<_}
 use native.Mathlib.Nat.{le-antisymm}
@@ -7,12 +8,8 @@ use Rattle.judging.specs.declared.Coloured.{Coloured}
 use Rattle.judging.specs.Rounds.{colouredAfter}
 use Rattle.judging.proofs.Turns.{iter-turn}
 use Rattle.judging.proofs.Colours.{rounds-within}
-use borrow.Author.Needs.{needs}
 use Rattle.judging.proofs.coloured_rounds.Statement.{statement}
 use Rattle.judging.proofs.coloured_rounds.Tie as tie
-use Rattle.judging.proofs.coloured_rounds.Reads as reads
-use Rattle.judging.proofs.coloured_rounds.Lts as lts
-use Rattle.judging.proofs.coloured_word.Reads as coloured-word-reads
 
 abbrev Inv-loop : tie.InvT-loop
 Inv-loop p k cycle t₀ i₀ t i = (i ≤ k) × (t ≡ iter (colouredAfter p cycle) i t₀)

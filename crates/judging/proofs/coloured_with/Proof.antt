@@ -1,3 +1,4 @@
+-- A letter of the policy takes its edge, and any other leaves the run as it is. Assumes nothing.
 use native.Mathlib.Omega.{arith}
 use mathlib.Core.Path.{ap, _∙_}
 use Rattle.masks.specs.Masks.{insert}
@@ -5,11 +6,6 @@ use Rattle.judging.proofs.Colours.{coloured-stays, coloured-moves, edge
 use borrow.Author.Needs.{needs}
 use Rattle.judging.proofs.coloured_with.Statement.{statement}
 use Rattle.judging.proofs.coloured_with.Tie as tie
-use Rattle.judging.proofs.coloured_with.Reads as reads
-use Rattle.judging.proofs.coloured_with.Lts as lts
-use Rattle.masks.proofs.set_with.Reads as set-with-reads
-use Rattle.policy.proofs.colour_of.Reads as colour-of-reads
-use Rattle.policy.proofs.target_of.Reads as target-of-reads
 
 returns : tie.Need-returns
 returns c = coloured-stays (c .before .before .args .p) (c .before .before .args .m) (c .before .before .args .letter) (c .if1 .taken)

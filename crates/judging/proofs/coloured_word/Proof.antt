@@ -1,3 +1,4 @@
+-- The loop: what the letters to come lead to from here is what the whole word leads to, and the state stays one of the policy's. Assumes nothing.
 use native.Mathlib.Omega.{arith}
 use Prim.Native.Nat.{_+_, _-_, _≤_, _<_}
 use mathlib.Core.Path.{_≡_, refl, sym, ap, _∙_, subst}
@@ -6,12 +7,8 @@ use Rattle.judging.specs.declared.Coloured.{Coloured}
 use Rattle.judging.specs.Rounds.{colouredStep, colouredAfter}
 use Rattle.judging.proofs.Turns.{through-turn, through-end}
 use Rattle.judging.proofs.Colours.{step-within}
-use borrow.Author.Needs.{needs}
 use Rattle.judging.proofs.coloured_word.Statement.{statement}
 use Rattle.judging.proofs.coloured_word.Tie as tie
-use Rattle.judging.proofs.coloured_word.Reads as reads
-use Rattle.judging.proofs.coloured_word.Lts as lts
-use Rattle.judging.proofs.coloured_with.Reads as coloured-with-reads
 
 abbrev Inv-loop : tie.InvT-loop
 Inv-loop p word t₀ i₀ t i = (i ≤ length word) × (t .state < p .states) × (colouredAfter p (drop i word) t ≡ colouredAfter p word t₀)

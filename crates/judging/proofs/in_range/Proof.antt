@@ -1,15 +1,13 @@
+-- The loop: the letters passed and those to come decide together. Assumes nothing.
 use native.Mathlib.Omega.{arith}
-use Prim.Native.Nat.{_+_, _-_, _≤_}
+use Prim.Native.Nat.{_-_, _≤_}
 use mathlib.Core.Path.{_≡_, refl, sym, _∙_}
 use mathlib.Core.Bool.{_&&_}
 use lib.ListN.{length, drop}
 use Rattle.judging.specs.Judging.{inRange}
 use Rattle.judging.proofs.Turns.{range-turn, range-end}
-use borrow.Author.Needs.{needs}
 use Rattle.judging.proofs.in_range.Statement.{statement}
 use Rattle.judging.proofs.in_range.Tie as tie
-use Rattle.judging.proofs.in_range.Reads as reads
-use Rattle.judging.proofs.in_range.Lts as lts
 
 abbrev Inv-loop : tie.InvT-loop
 Inv-loop letters word b₀ i₀ b i = (i ≤ length word) × (b && inRange letters (drop i word) ≡ inRange letters word)

@@ -1,4 +1,4 @@
-use native.Mathlib.Omega.{arith}
+-- Each answer is the definition's by the questions that led there; what is read after the repeat is what the definition's window holds. Assumes nothing.
 use Prim.Native.Nat.{_<_}
 use mathlib.Core.Path.{_≡_, refl, sym, ap, ap₂, _∙_, subst}
 use mathlib.Core.Bool.{true, _&&_}
@@ -10,14 +10,6 @@ use Rattle.judging.proofs.Colours.{word-within, rounds-within, colours-
 use borrow.Author.Needs.{needs}
 use Rattle.judging.proofs.judge_policy.Statement.{statement}
 use Rattle.judging.proofs.judge_policy.Tie as tie
-use Rattle.judging.proofs.judge_policy.Reads as reads
-use Rattle.judging.proofs.judge_policy.Lts as lts
-use Rattle.judging.proofs.coloured_repeat.Reads as coloured-repeat-reads
-use Rattle.judging.proofs.coloured_rounds.Reads as coloured-rounds-reads
-use Rattle.judging.proofs.coloured_word.Reads as coloured-word-reads
-use Rattle.judging.proofs.in_range.Reads as in-range-reads
-use Rattle.policy.proofs.in_family.Reads as in-family-reads
-use Rattle.policy.proofs.is_legal.Reads as is-legal-reads
 
 is-legal-requires : tie.Need-is-legal-requires
 is-legal-requires c κs = search needs

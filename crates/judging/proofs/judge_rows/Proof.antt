@@ -1,3 +1,4 @@
+-- Each answer is the definition's by the questions that led there; what is read until the repeat and after it is what the definition's window holds. Assumes nothing.
 use native.Mathlib.Omega.{arith}
 use mathlib.Core.Path.{_≡_, refl, sym, ap, ap₂, _∙_}
 use mathlib.Core.Bool.{true, _&&_}
@@ -12,13 +13,6 @@ use Rattle.judging.proofs.Rows.{seen-strays, seen-recurs, rows-8, rows-
 use borrow.Author.Needs.{needs}
 use Rattle.judging.proofs.judge_rows.Statement.{statement}
 use Rattle.judging.proofs.judge_rows.Tie as tie
-use Rattle.judging.proofs.judge_rows.Reads as reads
-use Rattle.judging.proofs.judge_rows.Lts as lts
-use Rattle.judging.proofs.seen_repeat.Reads as seen-repeat-reads
-use Rattle.judging.proofs.in_range.Reads as in-range-reads
-use Rattle.judging.proofs.seen_rounds.Reads as seen-rounds-reads
-use Rattle.judging.proofs.seen_word.Reads as seen-word-reads
-use Rattle.running.proofs.is_shaped.Reads as is-shaped-reads
 
 is-shaped-requires : tie.Need-is-shaped-requires
 is-shaped-requires c κs = search needs

@@ -1,3 +1,4 @@
+-- The loop seeks: the watch holds the state of an earlier round, so that meeting it again is a repeat. Assumes nothing.
 use native.Mathlib.Omega.{arith}
 use Prim.Native.Nat.{_+_, _-_}
 use mathlib.Core.Path.{sym, subst}
@@ -7,10 +8,6 @@ use Rattle.judging.proofs.Turns.{Seeking, seeking-start, seeking-next, 
 use borrow.Author.Needs.{needs}
 use Rattle.judging.proofs.seen_repeat.Statement.{statement}
 use Rattle.judging.proofs.seen_repeat.Tie as tie
-use Rattle.judging.proofs.seen_repeat.Reads as reads
-use Rattle.judging.proofs.seen_repeat.Lts as lts
-use Rattle.judging.proofs.seen_word.Reads as seen-word-reads
-use Rattle.judging.proofs.watch_next.Reads as watch-next-reads
 
 abbrev Inv-loop : tie.InvT-loop
 Inv-loop n cycle letters targets priorities t₀ w₀ round₀ t w round = Seeking (seenAfter letters targets priorities cycle) seenState n t₀ t w round

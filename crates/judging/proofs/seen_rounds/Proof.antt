@@ -1,3 +1,4 @@
+-- The loop: a round more is one step of the iteration. Assumes nothing.
 use native.Mathlib.Omega.{arith}
 use Prim.Native.Nat.{_-_, _≤_}
 use native.Mathlib.Nat.{le-antisymm}
@@ -8,9 +9,6 @@ use Rattle.judging.proofs.Turns.{iter-turn}
 use borrow.Author.Needs.{needs}
 use Rattle.judging.proofs.seen_rounds.Statement.{statement}
 use Rattle.judging.proofs.seen_rounds.Tie as tie
-use Rattle.judging.proofs.seen_rounds.Reads as reads
-use Rattle.judging.proofs.seen_rounds.Lts as lts
-use Rattle.judging.proofs.seen_word.Reads as seen-word-reads
 
 abbrev Inv-loop : tie.InvT-loop
 Inv-loop k cycle letters targets priorities t₀ i₀ t i = (i ≤ k) × (t ≡ iter (seenAfter letters targets priorities cycle) i t₀)

@@ -1,11 +1,9 @@
-use native.Mathlib.Omega.{arith}
+-- Each reading by its constructor. Assumes nothing.
 use mathlib.Core.Path.{refl}
 use borrow.Author.Tests.{lt-ltb, le-ltb}
 use borrow.Author.Needs.{needs}
 use Rattle.judging.proofs.seen_with.Statement.{statement}
 use Rattle.judging.proofs.seen_with.Tie as tie
-use Rattle.judging.proofs.seen_with.Reads as reads
-use Rattle.judging.proofs.seen_with.Lts as lts
 
 enum-known-x : tie.Need-enum-known-x
 enum-known-x c = search needs

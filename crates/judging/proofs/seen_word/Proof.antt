@@ -1,3 +1,4 @@
+-- The loop: what the letters to come lead to from here is what the whole word leads to. Assumes nothing.
 use native.Mathlib.Omega.{arith}
 use Prim.Native.Nat.{_+_, _-_, _≤_}
 use mathlib.Core.Path.{_≡_, refl, sym, ap, _∙_}
@@ -7,10 +8,6 @@ use Rattle.judging.proofs.Turns.{through-turn, through-end}
 use borrow.Author.Needs.{needs}
 use Rattle.judging.proofs.seen_word.Statement.{statement}
 use Rattle.judging.proofs.seen_word.Tie as tie
-use Rattle.judging.proofs.seen_word.Reads as reads
-use Rattle.judging.proofs.seen_word.Lts as lts
-use Rattle.judging.proofs.seen_with.Reads as seen-with-reads
-use Rattle.running.proofs.Run.read.Reads as read-reads
 
 abbrev Inv-loop : tie.InvT-loop
 Inv-loop word letters targets priorities t₀ i₀ t i =

@@ -1,12 +1,10 @@
-use native.Mathlib.Omega.{arith}
+-- The two cases of the definition. Assumes nothing.
 use mathlib.Core.Path.{refl}
 use borrow.Author.Tests.{eq-eqb, ne-eqb}
 use Rattle.judging.specs.Rounds.{watchNext}
 use borrow.Author.Needs.{needs}
 use Rattle.judging.proofs.watch_next.Statement.{statement}
 use Rattle.judging.proofs.watch_next.Tie as tie
-use Rattle.judging.proofs.watch_next.Reads as reads
-use Rattle.judging.proofs.watch_next.Lts as lts
 
 add-if1 : tie.Need-add-if1
 add-if1 c = search needs
