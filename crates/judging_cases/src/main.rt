@@ -15,285 +15,17 @@ const C_TARGETS: [u16; 2] = [1, 1];
 
 const C_PRIORITIES: [u8; 2] = [0, 0];
 
-const RING_TARGETS: [u16; 12] = [1, 2, 3, 4, 5, 6, 7, 8, 9, 10, 11, 0];
+const RING_TARGETS: [u16; 6] = [1, 2, 3, 4, 5, 0];
 
-const RING_PRIORITIES: [u8; 12] = [9, 9, 9, 9, 9, 9, 9, 9, 9, 9, 9, 4];
+const RING_PRIORITIES: [u8; 6] = [9, 9, 9, 9, 9, 4];
 
-const TAIL_TARGETS: [u16; 12] = [1, 2, 3, 4, 5, 6, 7, 8, 9, 10, 11, 7];
+const TAIL_TARGETS: [u16; 8] = [1, 2, 3, 4, 5, 6, 7, 4];
 
-const TAIL_PRIORITIES: [u8; 12] = [0, 1, 2, 0, 1, 2, 0, 8, 7, 6, 5, 9];
+const TAIL_PRIORITIES: [u8; 8] = [0, 1, 2, 0, 8, 7, 5, 9];
 
 const STRAY_TARGETS: [u16; 6] = [1, 0, 2, 1, 0, 3];
 
 const STRAY_PRIORITIES: [u8; 6] = [1, 2, 3, 4, 5, 6];
-
-const RING_EDGES: [u8; 64] = [
-    1,
-    2,
-    3,
-    4,
-    5,
-    6,
-    7,
-    8,
-    9,
-    10,
-    11,
-    12,
-    13,
-    14,
-    15,
-    0,
-    0,
-    0,
-    0,
-    0,
-    0,
-    0,
-    0,
-    0,
-    0,
-    0,
-    0,
-    0,
-    0,
-    0,
-    0,
-    0,
-    0,
-    0,
-    0,
-    0,
-    0,
-    0,
-    0,
-    0,
-    0,
-    0,
-    0,
-    0,
-    0,
-    0,
-    0,
-    0,
-    0,
-    0,
-    0,
-    0,
-    0,
-    0,
-    0,
-    0,
-    0,
-    0,
-    0,
-    0,
-    0,
-    0,
-    0,
-    0,
-];
-
-const RING_COLOURS: [u8; 64] = [
-    0,
-    0,
-    0,
-    0,
-    0,
-    0,
-    0,
-    0,
-    0,
-    0,
-    0,
-    0,
-    0,
-    0,
-    0,
-    1,
-    0,
-    0,
-    0,
-    0,
-    0,
-    0,
-    0,
-    0,
-    0,
-    0,
-    0,
-    0,
-    0,
-    0,
-    0,
-    0,
-    0,
-    0,
-    0,
-    0,
-    0,
-    0,
-    0,
-    0,
-    0,
-    0,
-    0,
-    0,
-    0,
-    0,
-    0,
-    0,
-    0,
-    0,
-    0,
-    0,
-    0,
-    0,
-    0,
-    0,
-    0,
-    0,
-    0,
-    0,
-    0,
-    0,
-    0,
-    0,
-];
-
-const TAIL_EDGES: [u8; 64] = [
-    1,
-    2,
-    3,
-    4,
-    5,
-    6,
-    7,
-    8,
-    9,
-    10,
-    11,
-    12,
-    13,
-    14,
-    15,
-    11,
-    0,
-    0,
-    0,
-    0,
-    0,
-    0,
-    0,
-    0,
-    0,
-    0,
-    0,
-    0,
-    0,
-    0,
-    0,
-    0,
-    0,
-    0,
-    0,
-    0,
-    0,
-    0,
-    0,
-    0,
-    0,
-    0,
-    0,
-    0,
-    0,
-    0,
-    0,
-    0,
-    0,
-    0,
-    0,
-    0,
-    0,
-    0,
-    0,
-    0,
-    0,
-    0,
-    0,
-    0,
-    0,
-    0,
-    0,
-    0,
-];
-
-const TAIL_COLOURS: [u8; 64] = [
-    0,
-    0,
-    0,
-    0,
-    0,
-    0,
-    0,
-    0,
-    0,
-    0,
-    0,
-    1,
-    1,
-    2,
-    1,
-    1,
-    0,
-    0,
-    0,
-    0,
-    0,
-    0,
-    0,
-    0,
-    0,
-    0,
-    0,
-    0,
-    0,
-    0,
-    0,
-    0,
-    0,
-    0,
-    0,
-    0,
-    0,
-    0,
-    0,
-    0,
-    0,
-    0,
-    0,
-    0,
-    0,
-    0,
-    0,
-    0,
-    0,
-    0,
-    0,
-    0,
-    0,
-    0,
-    0,
-    0,
-    0,
-    0,
-    0,
-    0,
-    0,
-    0,
-    0,
-    0,
-];
 
 const NONE: [u8; 1] = [0];
 
@@ -361,8 +93,24 @@ fn policy_c() -> Policy {
 
 // A ring of 16 states, of which the last has a colour of its own.
 fn policy_ring() -> Policy {
-    let target = RING_EDGES;
-    let colour = RING_COLOURS;
+    let mut target = [0u8; 64];
+    target[0] = 1;
+    target[1] = 2;
+    target[2] = 3;
+    target[3] = 4;
+    target[4] = 5;
+    target[5] = 6;
+    target[6] = 7;
+    target[7] = 8;
+    target[8] = 9;
+    target[9] = 10;
+    target[10] = 11;
+    target[11] = 12;
+    target[12] = 13;
+    target[13] = 14;
+    target[14] = 15;
+    let mut colour = [0u8; 64];
+    colour[15] = 1;
     let mut family = [false; 256];
     family[3] = true;
     Policy {
@@ -376,14 +124,25 @@ fn policy_ring() -> Policy {
     }
 }
 
-// A tail of 11 states, which alone has colour 0, and a ring of 5.
+// A tail of 5 states, which alone has colour 0, and a ring of 3.
 fn policy_tail() -> Policy {
-    let target = TAIL_EDGES;
-    let colour = TAIL_COLOURS;
+    let mut target = [0u8; 64];
+    target[0] = 1;
+    target[1] = 2;
+    target[2] = 3;
+    target[3] = 4;
+    target[4] = 5;
+    target[5] = 6;
+    target[6] = 7;
+    target[7] = 5;
+    let mut colour = [0u8; 64];
+    colour[5] = 1;
+    colour[6] = 2;
+    colour[7] = 1;
     let mut family = [false; 256];
     family[6] = true;
     Policy {
-        states: 16,
+        states: 8,
         letters: 1,
         colours: 3,
         initial: 0,
@@ -642,15 +401,15 @@ fn rings() {
     ring(0, &NONE[..0], b"\x00");
     ring(0, &NONE[..0], b"\x00\x00");
     ring(3, b"\x00", b"\x00\x00\x00");
-    ring(11, &NONE[..0], b"\x00\x00\x00\x00");
+    ring(5, &NONE[..0], b"\x00\x00\x00\x00");
 }
 
 // Tails: what only they meet does not recur.
 fn tails() {
     tail(0, &NONE[..0], b"\x00");
     tail(0, b"\x00\x00", b"\x00");
-    tail(5, &NONE[..0], b"\x00\x00");
-    tail(11, b"\x00", b"\x00\x00\x00");
+    tail(2, &NONE[..0], b"\x00\x00");
+    tail(3, b"\x00", b"\x00\x00\x00");
 }
 
 // A row whose target is no state: not met, met in the stem, in the first round, in a later one.
