@@ -25,10 +25,10 @@ use Rattle.policy.specs.declared.Policy.{Policy}
 use Rattle.policy.specs.Policies.{edges, source, colourOf, edgeColours, coloursOf, inFamily, accepting, legal}
 use Rattle.policy.proofs.Laws.{legal-counts, colours-up, accepting-is}
 use Rattle.graph.specs.Cycles.{contains}
-use Rattle.graph.specs.Components.{coloured}
+use Rattle.graph.specs.Coloured.{coloured}
 use Rattle.graph.specs.Through.{cycleThrough}
 use Rattle.graph.proofs.Cycles.{contains-some, some-contains}
-use Rattle.graph.proofs.Components.{coloured-colours}
+use Rattle.graph.proofs.Coloured.{coloured-colours}
 use Rattle.graph.proofs.Through.{through-inside}
 use Rattle.decomposition.specs.Forest.{differs, full}
 use Rattle.decomposition.specs.Candidates.{lowestIs, candidateAt, candidatesOf, candidates, judged, rootAt, rootCandidates}

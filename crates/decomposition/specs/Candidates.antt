@@ -8,7 +8,7 @@ use Rattle.colour_sets.specs.Order.{setAt}
 use Rattle.policy.specs.declared.Policy.{Policy}
 use Rattle.policy.specs.Policies.{coloursOf, accepting}
 use Rattle.graph.specs.Cycles.{contains}
-use Rattle.graph.specs.Components.{coloured}
+use Rattle.graph.specs.Coloured.{coloured}
 use Rattle.graph.specs.Through.{cycleThrough}
 use Rattle.decomposition.specs.Forest.{differs, full}
 

@@ -4,7 +4,7 @@ ghost use mathlib.Core.Bool.{true};
 ghost use Prim.Native.Nat.{_+_, _<_, _≤_};
 ghost use lib.ListN.{length};
 ghost use Rattle.policy.specs.Policies.{edges, legal};
-ghost use Rattle.graph.specs.Components.{coloured};
+ghost use Rattle.graph.specs.Coloured.{coloured};
 ghost use Rattle.graph.specs.Through.{Rows};
 ghost use Rattle.decomposition.specs.Forest.{full};
 ghost use Rattle.decomposition.specs.Candidates.{lowestIs, candidateAt, candidatesOf, rootAt};

@@ -1,5 +1,5 @@
 pub mod Paths
 pub mod Cycles
-pub mod Components
+pub mod Coloured
 pub mod Through
 pub mod CodeLaws

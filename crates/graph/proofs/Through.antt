@@ -17,11 +17,8 @@ use Rattle.policy.specs.Policies.{edges, source, targetOf}
 use Rattle.graph.specs.Cycles.{Path, reach, isCycle, contains}
 use Rattle.graph.specs.Through.{cycleThrough}
 use Rattle.graph.proofs.Paths.{members-has, members-lt, has-members, path-join, path-weaken, reach-sound, reach-complete}
+use Rattle.graph.proofs.Coloured.{gather-some}
 use Rattle.graph.proofs.Cycles.{Targets, bit-lt, some-nonzero, cycle-some, cycle-edge, cycle-path, path-cycle, contains-some, some-contains, contains-inside}
-
--- what a gathered set has
-gather-some : (t : ℕ → Bool) (n e : ℕ) → has (gather t n) e ≡ true → (e < n) × (t e ≡ true)
-gather-some t n e h = let l = bit-lt n (gather t n) e (gather-lt t n) h in (l, sym (has-gather t n e l) ∙ h)
 
 -- a set of numbers below n is empty, or has a member
 none-or-some : (n m : ℕ) → ((e : ℕ) → has m e ≡ true → e < n) → (m ≡ 0) ⊎ ((e : ℕ) × (has m e ≡ true))

@@ -1,3 +1,3 @@
 pub mod Cycles
-pub mod Components
+pub mod Coloured
 pub mod Through

@@ -4,7 +4,7 @@ use Prim.Native.Nat.{_+_, _-_, _≤_}
 use mathlib.Core.Path.{_≡_, ap, _∙_, subst}
 use Rattle.policy.specs.Policies.{coloursOf}
 use Rattle.policy.proofs.Laws.{legal-counts}
-use Rattle.graph.specs.Components.{coloured}
+use Rattle.graph.specs.Coloured.{coloured}
 use Rattle.decomposition.specs.Forest.{full}
 use Rattle.decomposition.specs.Candidates.{candidatesOf}
 use Rattle.decomposition.specs.Listed.{Appended, candidatesTo}
