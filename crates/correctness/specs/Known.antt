@@ -1,16 +1,14 @@
 -- The known policies of document 01, and the eleven entries of one table about them.
-use Prim.Native.Nat.{ℕ, suc, _+_, _*_}
-use mathlib.Core.Bool.{Bool, true, false, cond}
+use Prim.Native.Nat.{ℕ}
+use mathlib.Core.Bool.{true, false}
 use mathlib.Core.List.{List, [], _∷_, _++_, map}
-use lib.Dec.{ltb}
-use lib.ListN.{length, getD, replicate}
+use lib.ListN.{length, replicate}
 use Rattle.lists.specs.Lists.{flat, below}
-use Rattle.recurrence.specs.Runs.{window}
 use Rattle.policy.specs.declared.Policy.{Policy}
 use Rattle.decomposition.specs.Forest.{Node, forest, priority}
 use Rattle.builder.specs.Automaton.{Built, built, stateAt, start, rowTarget, rowPriority, rowTargets, rowPriorities}
 use Rattle.running.specs.declared.Run.{Run}
-use Rattle.running.specs.Running.{rowStep, rowMeets}
+use Rattle.judging.specs.Judging.{leastRecurring}
 
 -- ---- the policies
 abbrev pub padded : ℕ → List ℕ → List ℕ
@@ -26,16 +24,12 @@ abbrev pub C : Policy
 C = record { states = 2; letters = 1; colours = 1; initial = 0; target = padded 62 (1 ∷ 1 ∷ []); colour = padded 62 (0 ∷ 0 ∷ []); family = (false ∷ true ∷ []) ++ replicate 254 false }
 
 -- ---- what can be asked of a policy
+-- its nodes; a built state with its rows; the least priority that recurs on a loop from the start; the whole listing
 pub data Question : Type 0 where
   nodes : Question
   state : ℕ → Question
   loop : List ℕ → Question
   listing : Question
-
--- the least of some priorities; 255 of none
-abbrev pub leastOf : List ℕ → ℕ
-leastOf [] = 255
-leastOf (x ∷ xs) = let r = leastOf xs in cond (ltb x r) x r
 
 module _ (p : Policy) where
   -- mask, parent, priority of each node
@@ -46,14 +40,10 @@ module _ (p : Policy) where
   abbrev pub stateLines : ℕ → List (List ℕ)
   stateLines s = (stateAt p s .state ∷ stateAt p s .leaf ∷ []) ∷ map (rowTarget p s) (below (p .letters)) ∷ map (rowPriority p s) (below (p .letters)) ∷ []
 
-  -- the least priority that recurs on a loop from the start, over the rows
-  abbrev pub leastRecurring : List ℕ → ℕ
-  leastRecurring w = leastOf (window (rowStep (p .letters) (rowTargets p) (rowPriorities p)) (rowMeets (p .letters) (rowTargets p) (rowPriorities p)) (length (built p)) [] w (record { state = start p }))
-
   abbrev pub answer : Question → List (List ℕ)
   answer nodes = nodeLines
   answer (state s) = stateLines s
-  answer (loop w) = (leastRecurring w ∷ []) ∷ []
+  answer (loop w) = (leastRecurring (p .letters) (rowTargets p) (rowPriorities p) (record { state = start p }) [] w ∷ []) ∷ []
   answer listing = nodeLines ++ flat (map stateLines (below (length (built p)))) ++ ((start p ∷ []) ∷ [])
 
 pub record Entry : Type 0 where
