@@ -8,3 +8,5 @@ pub mod RowLaws
 pub mod Search
 pub mod Tables
 pub mod StateLaws
+pub mod FillingLaws
+pub mod TranslateLaws

@@ -1,4 +1,5 @@
 pub mod Automaton
+pub mod Filling
 pub mod Placing
 pub mod Rows
 pub mod Stages

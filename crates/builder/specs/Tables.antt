@@ -9,7 +9,9 @@ use lib.ListN.{length}
 use Rattle.tables.specs.Tables.{padded, zeros}
 use Rattle.policy.specs.declared.Policy.{Policy}
 use Rattle.policy.specs.Policies.{legal}
-use Rattle.decomposition.specs.Forest.{Node, forest, priority}
+use Rattle.decomposition.specs.Forest.{forest}
+use Rattle.decomposition.specs.NodeTables.{nodeTables, nodeMasks, nodeParents, nodeRanks}
+use Rattle.decomposition.specs.NodeTables as node-tables
 use Rattle.builder.specs.Automaton.{Built, built, start, rowTargets, rowPriorities}
 use Rattle.builder.specs.declared.Translation.{Translation}
 use Rattle.builder.specs.declared.Translation.the-variants.{Translated, Refused}
@@ -29,16 +31,7 @@ unfoldable pub places : List ℕ → ℕ
 places t = min (length t) 65535
 
 module _ (p : Policy) where
-  -- ---- the columns of the result
-  unfoldable pub nodeMasks : List ℕ
-  nodeMasks = map (λ (x : Node). x .mask) (forest p)
-
-  unfoldable pub nodeParents : List ℕ
-  nodeParents = map (λ (x : Node). x .parent) (forest p)
-
-  unfoldable pub nodeRanks : List ℕ
-  nodeRanks = map (priority p) (forest p)
-
+  -- ---- the columns of the built states
   unfoldable pub stateSources : List ℕ
   stateSources = map (λ (b : Built). b .state) (built p)
 
@@ -55,7 +48,7 @@ module _ (p : Policy) where
 
     -- questions 9 and 10
     unfoldable pub nodesFit : Bool
-    nodesFit = leb (length (forest p)) (places (t .masks))
+    nodesFit = node-tables.nodesFit p (nodeTables (t .masks) (t .parents) (t .ranks))
 
     unfoldable pub statesFit : Bool
     statesFit = leb (length (built p)) (places (t .sources))
@@ -63,9 +56,9 @@ module _ (p : Policy) where
     -- ---- the tables at exit
     unfoldable pub filled : Tables
     filled = record {
-      masks = padded (length (t .masks)) nodeMasks;
-      parents = padded (length (t .parents)) nodeParents;
-      ranks = padded (length (t .ranks)) nodeRanks;
+      masks = padded (length (t .masks)) (nodeMasks p);
+      parents = padded (length (t .parents)) (nodeParents p);
+      ranks = padded (length (t .ranks)) (nodeRanks p);
       sources = padded (length (t .sources)) stateSources;
       leaves = padded (length (t .leaves)) stateLeaves;
       targets = padded (length (t .targets)) (rowTargets p);

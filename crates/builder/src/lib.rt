@@ -8,3 +8,4 @@ pub enum Translation {
 
 pub mod rows;
 pub mod states;
+pub mod translating;

@@ -1,0 +1,344 @@
+-- What the stages of translating rest on: lengths compared without multiplying, tables filled from the front, the rows by number, what each stage answers and
+-- leaves in its tables. Assumes nothing.
+use Prim.Native.Nat.{ℕ, _+_, _*_, _/_, _%_, _≤_, _<_, min}
+use native.Mathlib.Omega.{arith}
+use native.Mathlib.Numerals.{add-one}
+use native.Mathlib.Nat.{mod-lt, div-add-mod', div-lt-iff-lt-mul, mul-comm, mul-le-mul-right}
+use mathlib.Core.Path.{_≡_, refl, sym, ap, ap₂, _∙_, subst}
+use mathlib.Core.Logic.{_⊎_, inl, inr}
+use mathlib.Core.Bool.{Bool, true, false, not, _&&_, cond, true≢false}
+use mathlib.Core.List.{List, [], _∷_, _++_, map}
+use lib.Arith.{digits-div, digits-mod}
+use lib.Dec.{eqb, leb}
+use lib.ListN.{length, getD, set, take, length-set, length-map, List·getD-map}
+use lib.Seq.{take-suc, take-all, length-take-le}
+use Rattle.lists.specs.Lists.{flat, below}
+use Rattle.lists.proofs.Bools.{test, eqb≡, ≡eqb, and-l, and-r, both, bool-ext, le-true}
+use Rattle.lists.proofs.Lists.{length-below, getD-map-below, length-pieces, getD-pieces}
+use Rattle.tables.specs.Tables.{padded, zeros}
+use Rattle.tables.proofs.Tables.{zeros-padded, zeros-same, length-zeros, getD-padded, padded-more}
+use Rattle.policy.specs.declared.Policy.{Policy}
+use Rattle.policy.specs.Policies.{legal}
+use Rattle.policy.proofs.Laws.{legal-counts}
+use Rattle.decomposition.specs.declared.nodes.Filled as node-filled
+use Rattle.decomposition.specs.declared.nodes.Filled.the-variants as node-variants
+use Rattle.decomposition.specs.Forest.{Node, forest, priority}
+use Rattle.decomposition.specs.NodeTables.{NodeTables, nodeTables, nodeMasks, nodeParents, nodeRanks, nodesFit, fillingOf, filledOf}
+use Rattle.decomposition.proofs.NodeColumns.{masks-at, parents-at, ranks-at}
+use Rattle.builder.specs.declared.translating.Building.{Building}
+use Rattle.builder.specs.declared.translating.Building.the-variants.{Whole, TooMany}
+use Rattle.builder.specs.Automaton.{Built, built, stateAt, start, rowTarget, rowPriority, rowTargets, rowPriorities}
+use Rattle.builder.specs.Stages.{Nodes, States}
+use Rattle.builder.specs.Rows.{ParentColumn}
+use Rattle.builder.specs.Placing.{MaskColumn, Filled}
+use Rattle.builder.specs.Tables.{places, stateSources, stateLeaves}
+use Rattle.builder.specs.Filling.{Sized, Clear, Column, Rowed, builtFit, buildingOf, BuiltTables}
+
+-- what an answer holds
+abbrev isWhole : Building → Bool
+isWhole (Whole n a) = true
+isWhole TooMany = false
+
+abbrev countIn : Building → ℕ
+countIn (Whole n a) = n
+countIn TooMany = 0
+
+abbrev startIn : Building → ℕ
+startIn (Whole n a) = a
+startIn TooMany = 0
+
+abbrev areNodes : node-filled.Filled → Bool
+areNodes (node-variants.Nodes n) = true
+areNodes node-variants.TooMany = false
+
+abbrev nodesOf : node-filled.Filled → ℕ
+nodesOf (node-variants.Nodes n) = n
+nodesOf node-variants.TooMany = 0
+
+pub unnot : (b : Bool) → not b ≡ false → b ≡ true
+unnot true e = refl
+unnot false e = absurd (true≢false e)
+
+-- ---- lengths without multiplying
+pub times-is : (n k m : ℕ) → 1 ≤ k → (eqb (n % k) 0 && eqb (n / k) m) ≡ eqb n (k * m)
+times-is n k m h = bool-ext (eqb (n % k) 0 && eqb (n / k) m) (eqb n (k * m)) there back
+  where
+    there : eqb (n % k) 0 && eqb (n / k) m ≡ true → eqb n (k * m) ≡ true
+    there t =
+        let r : n % k ≡ 0 = eqb≡ (n % k) 0 (and-l (eqb (n % k) 0) (eqb (n / k) m) t) in
+        let q : n / k ≡ m = eqb≡ (n / k) m (and-r (eqb (n % k) 0) (eqb (n / k) m) t) in
+        ≡eqb n (k * m) (omega (arith, div-add-mod' n k, ap (λ (x : ℕ). x * k) q, mul-comm m k))
+
+    back : eqb n (k * m) ≡ true → eqb (n % k) 0 && eqb (n / k) m ≡ true
+    back t =
+        let e : n ≡ m * k + 0 = omega (arith, eqb≡ n (k * m) t, mul-comm m k) in
+        both (eqb (n % k) 0) (eqb (n / k) m) (≡eqb (n % k) 0 (ap (λ (x : ℕ). x % k) e ∙ digits-mod m {m = k} {r = 0} h)) (≡eqb (n / k) m (ap (λ (x : ℕ). x / k) e ∙ digits-div m {m = k} {r = 0} h))
+
+-- ---- tables that are filled from the front
+pub column-none : (l t : List ℕ) → t ≡ zeros t → length l ≤ length t → Column l 0 t
+column-none l t e h = record { long = h; are = e ∙ zeros-padded t }
+
+pub column-more : {l t : List ℕ} {n : ℕ} → Column l n t → n < length l → (x : ℕ) → x ≡ getD l n 0 → Column l (n + 1) (set t n x)
+column-more {l} {t} {n} c h x d = record { long = omega (arith, length-set t n x, c .long); are = ap (λ (u : List ℕ). set u n x) (c .are) ∙ step ∙ ap₂ padded (sym (length-set t n x)) longer }
+  where
+    q : length (take n l) ≡ n
+    q = length-take-le n l (omega arith)
+
+    step : set (padded (length t) (take n l)) n x ≡ padded (length t) (take n l ++ (x ∷ []))
+    step = subst (λ (i : ℕ). set (padded (length t) (take n l)) i x ≡ padded (length t) (take n l ++ (x ∷ []))) q (padded-more (length t) (take n l) x (omega (arith, q, c .long)))
+
+    longer : take n l ++ (x ∷ []) ≡ take (n + 1) l
+    longer = ap (λ (y : ℕ). take n l ++ (y ∷ [])) d ∙ sym (take-suc l n 0 h) ∙ ap (λ (i : ℕ). take i l) (sym (add-one n))
+
+pub column-whole : {l t : List ℕ} {n m : ℕ} → Column l n t → length l ≤ n → length t ≡ m → t ≡ padded m l
+column-whole {l} {t} {n} {m} c h e = c .are ∙ ap₂ padded e (take-all n l h)
+
+-- ---- the rows by number
+row-long : (f : ℕ → ℕ) (k : ℕ) → length (map f (below k)) ≡ k
+row-long f k = length-map (below k) f ∙ length-below k
+
+rows-at : (f : ℕ → ℕ → ℕ) (n k i : ℕ) → 1 ≤ k → i < n * k → getD (flat (map (λ s. map (f s) (below k)) (below n))) i 0 ≡ f (i / k) (i % k)
+rows-at f n k i h l =
+    let g : ℕ → List ℕ = λ (s : ℕ). map (f s) (below k) in
+    ap (λ (j : ℕ). getD (flat (map g (below n))) j 0) (sym (div-add-mod' i k))
+    ∙ getD-pieces g k (λ s. row-long (f s) k) n (i / k) (i % k) 0 (div-lt-iff-lt-mul {k = k} {x = i} {y = n} h .1 l) (mod-lt i h)
+    ∙ getD-map-below (f (i / k)) k (i % k) 0 (mod-lt i h)
+
+module _ (p : Policy) where
+  pub length-targets : length (rowTargets p) ≡ length (built p) * p .letters
+  unfolding rowTargets
+  length-targets = length-pieces (λ (s : ℕ). map (rowTarget p s) (below (p .letters))) (p .letters) (λ s. row-long (rowTarget p s) (p .letters)) (length (built p))
+
+  pub length-priorities : length (rowPriorities p) ≡ length (built p) * p .letters
+  unfolding rowPriorities
+  length-priorities = length-pieces (λ (s : ℕ). map (rowPriority p s) (below (p .letters))) (p .letters) (λ s. row-long (rowPriority p s) (p .letters)) (length (built p))
+
+  pub target-at : (i : ℕ) → 1 ≤ p .letters → i < length (built p) * p .letters → getD (rowTargets p) i 0 ≡ rowTarget p (i / p .letters) (i % p .letters)
+  unfolding rowTargets
+  target-at i h l = rows-at (rowTarget p) (length (built p)) (p .letters) i h l
+
+  pub priority-at : (i : ℕ) → 1 ≤ p .letters → i < length (built p) * p .letters → getD (rowPriorities p) i 0 ≡ rowPriority p (i / p .letters) (i % p .letters)
+  unfolding rowPriorities
+  priority-at i h l = rows-at (rowPriority p) (length (built p)) (p .letters) i h l
+
+-- ---- rows written one after the other
+module _ (p : Policy) (lawful : legal p ≡ true) where
+  some : 1 ≤ p .letters
+  some = legal-counts p lawful .letters-some
+
+  pub rows-few : {count : ℕ} → count ≡ length (built p) → length (built p) ≤ 65535 → count * p .letters ≤ 524280
+  rows-few {count} e h = omega (arith, ap (λ (n : ℕ). n * p .letters) e, mul-le-mul-right (p .letters) h, legal-counts p lawful .letters-few)
+
+  pub rowed-none : {t k : List ℕ} {count : ℕ} → count ≡ length (built p) → length (built p) ≤ 65535 → t ≡ zeros t → k ≡ zeros k → p .letters * length (built p) ≤ length t
+      → p .letters * length (built p) ≤ length k → Rowed p t k t k (count * p .letters) 0
+  rowed-none {t} {k} {count} e h et ek lt lk = record {
+    rows-are = ap (λ (n : ℕ). n * p .letters) e;
+    few = rows-few e h;
+    at-most = omega arith;
+    targets-long = refl;
+    priorities-long = refl;
+    targets-are = column-none (rowTargets p) t et (omega (arith, length-targets p, mul-comm (length (built p)) (p .letters)));
+    priorities-are = column-none (rowPriorities p) k ek (omega (arith, length-priorities p, mul-comm (length (built p)) (p .letters)));
+  }
+
+  module _ {t₀ k₀ t k : List ℕ} {n i : ℕ} (w : Rowed p t₀ k₀ t k n i) (h : i < n) where
+    pub row-state : i / p .letters < length (built p)
+    row-state = div-lt-iff-lt-mul {k = p .letters} {x = i} {y = length (built p)} some .1 (omega (arith, w .rows-are))
+
+    pub row-letter : i % p .letters < p .letters
+    row-letter = mod-lt i some
+
+    pub row-in : (i < length t) × (i < length k)
+    row-in = (omega (arith, w .targets-are .long, length-targets p, w .rows-are), omega (arith, w .priorities-are .long, length-priorities p, w .rows-are))
+
+    pub rowed-more : {x y : ℕ} → x ≡ rowTarget p (i / p .letters) (i % p .letters) → y ≡ rowPriority p (i / p .letters) (i % p .letters) → Rowed p t₀ k₀ (set t i x) (set k i y) n (i + 1)
+    rowed-more {x} {y} ex ey = record {
+      rows-are = w .rows-are;
+      few = w .few;
+      at-most = omega arith;
+      targets-long = length-set t i x ∙ w .targets-long;
+      priorities-long = length-set k i y ∙ w .priorities-long;
+      targets-are = column-more (w .targets-are) (omega (arith, length-targets p, w .rows-are)) x (ex ∙ sym (target-at p i some (omega (arith, w .rows-are))));
+      priorities-are = column-more (w .priorities-are) (omega (arith, length-priorities p, w .rows-are)) y (ey ∙ sym (priority-at p i some (omega (arith, w .rows-are))));
+    }
+
+  pub rowed-all : {t₀ k₀ t k : List ℕ} {n i : ℕ} → Rowed p t₀ k₀ t k n i → n ≤ i → (t ≡ padded (length t₀) (rowTargets p)) × (k ≡ padded (length k₀) (rowPriorities p))
+  rowed-all w h = (column-whole (w .targets-are) (omega (arith, length-targets p, w .rows-are)) (w .targets-long), column-whole (w .priorities-are) (omega (arith, length-priorities p, w .rows-are)) (w .priorities-long))
+
+-- ---- columns of the node tables
+pub mask-column : {p : Policy} {masks parents ranks : List ℕ} → Nodes p masks parents ranks → MaskColumn p masks
+mask-column n = record { few = n .few; long = n .masks-long; are = n .masks-are }
+
+pub parent-column : {p : Policy} {masks parents ranks : List ℕ} → Nodes p masks parents ranks → ParentColumn p parents
+parent-column n = record { few = n .few; long = n .parents-long; are = n .parents-are }
+
+-- ---- the tables of states and rows
+-- it goes by the lengths alone
+pub building-same : (p : Policy) (s₁ s₀ : List ℕ) → length s₁ ≡ length s₀ → buildingOf p s₁ ≡ buildingOf p s₀
+unfolding buildingOf builtFit places
+building-same p s₁ s₀ e = rw e refl
+
+module _ (p : Policy) (s₀ l₀ t₀ k₀ : List ℕ) where
+  module _ (s₁ l₁ t₁ k₁ : List ℕ) (es : length s₁ ≡ length s₀) (el : length l₁ ≡ length l₀) (et : length t₁ ≡ length t₀) (ek : length k₁ ≡ length k₀) where
+    pub built-same : {s l t k : List ℕ} → BuiltTables p s₁ l₁ t₁ k₁ s l t k → BuiltTables p s₀ l₀ t₀ k₀ s l t k
+    unfolding builtFit places zeros
+    built-same b = record {
+      sources-are = rw es at (b .sources-are);
+      leaves-are = rw (es, el) at (b .leaves-are);
+      targets-are = rw (es, et) at (b .targets-are);
+      priorities-are = rw (es, ek) at (b .priorities-are);
+    }
+
+  module _ (z : Sized p s₀ l₀ t₀ k₀) where
+    -- cleared tables are as long as before
+    pub sized-clear : {s l t k : List ℕ} → s ≡ zeros s₀ → l ≡ zeros l₀ → t ≡ zeros t₀ → k ≡ zeros k₀ → Sized p s l t k × Clear s l t k
+    sized-clear {s} {l} {t} {k} es el et ek = (
+      record {
+        leaves-long = long l l₀ el ∙ z .leaves-long ∙ sym (long s s₀ es);
+        targets-long = long t t₀ et ∙ z .targets-long ∙ ap (λ (n : ℕ). p .letters * n) (sym (long s s₀ es));
+        priorities-long = long k k₀ ek ∙ z .priorities-long ∙ ap (λ (n : ℕ). p .letters * n) (sym (long s s₀ es));
+      },
+      record { sources-are = still s s₀ es; leaves-are = still l l₀ el; targets-are = still t t₀ et; priorities-are = still k k₀ ek },
+    )
+      where
+        long : (t t₀ : List ℕ) → t ≡ zeros t₀ → length t ≡ length t₀
+        long t t₀ e = ap length e ∙ length-zeros t₀
+
+        still : (t t₀ : List ℕ) → t ≡ zeros t₀ → t ≡ zeros t
+        still t t₀ e = e ∙ zeros-same t₀ t (sym (long t t₀ e))
+
+    module _ {s l : List ℕ} {fits : Bool} {count : ℕ} {starts : List ℕ} (w : Filled p s₀ l₀ s l fits count starts) where
+      -- where the states fit
+      module _ (f : fits ≡ true) where
+        fits-so : builtFit p s₀ ≡ true
+        unfolding builtFit
+        fits-so = sym (w .fits-is) ∙ f
+
+        fit : length (built p) ≤ places s₀
+        fit = le-true (length (built p)) (places s₀) (sym (w .fits-is) ∙ f)
+
+        pub built-few : (length (built p) ≤ 65535) × (length (built p) ≤ length s₀)
+        unfolding places
+        built-few = let h = fit in (omega arith, omega arith)
+
+        pub states-are : States p s l
+        unfolding stateSources stateLeaves stateAt
+        states-are = record {
+          few = built-few .0;
+          sources-long = omega (arith, built-few .1, w .sources-long);
+          leaves-long = omega (arith, built-few .1, w .leaves-long, z .leaves-long);
+          sources-are = λ i h. ap (λ (t : List ℕ). getD t i 0) (w .sources-are f) ∙ getD-padded (length s₀) (stateSources p) i (omega (arith, length-map (built p) (λ (b : Built). b .state)))
+              ∙ List·getD-map (λ (b : Built). b .state) (built p) i (record { state = 0; leaf = 0 });
+          leaves-are = λ i h. ap (λ (t : List ℕ). getD t i 0) (w .leaves-are f) ∙ getD-padded (length l₀) (stateLeaves p) i (omega (arith, length-map (built p) (λ (b : Built). b .leaf)))
+              ∙ List·getD-map (λ (b : Built). b .leaf) (built p) i (record { state = 0; leaf = 0 });
+        }
+
+        pub rows-fit : (p .letters * length (built p) ≤ length t₀) × (p .letters * length (built p) ≤ length k₀)
+        rows-fit =
+            let h = mul-le-mul-right (p .letters) (built-few .1) in
+            (omega (arith, h, mul-comm (p .letters) (length (built p)), mul-comm (p .letters) (length s₀), z .targets-long), omega (arith, h, mul-comm (p .letters) (length (built p)), mul-comm (p .letters) (length s₀), z .priorities-long))
+
+        pub built-whole : {t k : List ℕ} {at : ℕ} → t ≡ padded (length t₀) (rowTargets p) → k ≡ padded (length k₀) (rowPriorities p) → at ≡ start p
+            → (Whole count at ≡ buildingOf p s₀) × BuiltTables p s₀ l₀ t₀ k₀ s l t k
+        unfolding buildingOf
+        built-whole {t} {k} {at} et ek ea = (
+          rw fits-so (ap₂ (λ (c a : ℕ). Whole c a) (w .count-is) ea),
+          record { sources-are = rw fits-so (w .sources-are f); leaves-are = rw fits-so (w .leaves-are f); targets-are = rw fits-so et; priorities-are = rw fits-so ek },
+        )
+
+      -- where they do not
+      module _ (f : fits ≡ false) where
+        fits-not : builtFit p s₀ ≡ false
+        unfolding builtFit
+        fits-not = sym (w .fits-is) ∙ f
+
+        pub built-none : Clear s₀ l₀ t₀ k₀ → {s₁ l₁ : List ℕ} → s₁ ≡ zeros s → l₁ ≡ zeros l → (TooMany ≡ buildingOf p s₀) × BuiltTables p s₀ l₀ t₀ k₀ s₁ l₁ t₀ k₀
+        unfolding buildingOf
+        built-none c {s₁} {l₁} es el = (
+          rw fits-not refl,
+          record {
+            sources-are = rw fits-not (es ∙ zeros-same s s₀ (w .sources-long));
+            leaves-are = rw fits-not (el ∙ zeros-same l l₀ (w .leaves-long));
+            targets-are = rw fits-not (c .targets-are);
+            priorities-are = rw fits-not (c .priorities-are);
+          },
+        )
+
+pub fits-few : (p : Policy) (s₀ : List ℕ) → builtFit p s₀ ≡ true → length (built p) ≤ 65535
+unfolding builtFit places
+fits-few p s₀ f = let h : length (built p) ≤ min (length s₀) 65535 = le-true (length (built p)) (places s₀) f in omega arith
+
+pub nodes-few : (p : Policy) (m₀ q₀ r₀ : List ℕ) → nodesFit p (nodeTables m₀ q₀ r₀) ≡ true → length (forest p) ≤ 65535
+unfolding nodesFit
+nodes-few p m₀ q₀ r₀ f = let h : length (forest p) ≤ min (length m₀) 65535 = le-true (length (forest p)) (min (length m₀) 65535) f in omega arith
+
+-- ---- what each stage answered
+module _ (p : Policy) (s₀ : List ℕ) {r : Building} (e : r ≡ buildingOf p s₀) where
+  pub whole-fits : {n a : ℕ} → r ≡ Whole n a → (builtFit p s₀ ≡ true) × (n ≡ length (built p)) × (a ≡ start p)
+  unfolding buildingOf
+  whole-fits {n} {a} d = go (test (builtFit p s₀))
+    where
+      go : (builtFit p s₀ ≡ true) ⊎ (builtFit p s₀ ≡ false) → (builtFit p s₀ ≡ true) × (n ≡ length (built p)) × (a ≡ start p)
+      go (inl t) = let q : Whole n a ≡ Whole (length (built p)) (start p) = sym d ∙ e ∙ rw t refl in (t, ap countIn q, ap startIn q)
+      go (inr f) = let q : Whole n a ≡ TooMany = sym d ∙ e ∙ rw f refl in absurd (true≢false (ap isWhole q))
+
+  pub none-fits : r ≡ TooMany → builtFit p s₀ ≡ false
+  unfolding buildingOf
+  none-fits d = go (test (builtFit p s₀))
+    where
+      go : (builtFit p s₀ ≡ true) ⊎ (builtFit p s₀ ≡ false) → builtFit p s₀ ≡ false
+      go (inl t) = let q : Whole (length (built p)) (start p) ≡ TooMany = sym (sym d ∙ e ∙ rw t refl) in absurd (true≢false (ap isWhole q))
+      go (inr f) = f
+
+module _ (p : Policy) (m₀ q₀ r₀ : List ℕ) {r : node-filled.Filled} (e : r ≡ fillingOf p (nodeTables m₀ q₀ r₀)) where
+  pub nodes-fits : {n : ℕ} → r ≡ node-variants.Nodes n → (nodesFit p (nodeTables m₀ q₀ r₀) ≡ true) × (n ≡ length (forest p))
+  unfolding fillingOf
+  nodes-fits {n} d = go (test (nodesFit p (nodeTables m₀ q₀ r₀)))
+    where
+      go : (nodesFit p (nodeTables m₀ q₀ r₀) ≡ true) ⊎ (nodesFit p (nodeTables m₀ q₀ r₀) ≡ false) → (nodesFit p (nodeTables m₀ q₀ r₀) ≡ true) × (n ≡ length (forest p))
+      go (inl t) = let q : node-variants.Nodes n ≡ node-variants.Nodes (length (forest p)) = sym d ∙ e ∙ rw t refl in (t, ap nodesOf q)
+      go (inr f) = let q : node-variants.Nodes n ≡ node-variants.TooMany = sym d ∙ e ∙ rw f refl in absurd (true≢false (ap areNodes q))
+
+  pub nodes-none : r ≡ node-variants.TooMany → nodesFit p (nodeTables m₀ q₀ r₀) ≡ false
+  unfolding fillingOf
+  nodes-none d = go (test (nodesFit p (nodeTables m₀ q₀ r₀)))
+    where
+      go : (nodesFit p (nodeTables m₀ q₀ r₀) ≡ true) ⊎ (nodesFit p (nodeTables m₀ q₀ r₀) ≡ false) → nodesFit p (nodeTables m₀ q₀ r₀) ≡ false
+      go (inl t) = let q : node-variants.Nodes (length (forest p)) ≡ node-variants.TooMany = sym (sym d ∙ e ∙ rw t refl) in absurd (true≢false (ap areNodes q))
+      go (inr f) = f
+
+-- ---- the node tables
+module _ (p : Policy) (m₀ q₀ r₀ m q r : List ℕ) (e : nodeTables m q r ≡ filledOf p (nodeTables m₀ q₀ r₀)) where
+  pub nodes-filled : nodesFit p (nodeTables m₀ q₀ r₀) ≡ true → (m ≡ padded (length m₀) (nodeMasks p)) × (q ≡ padded (length q₀) (nodeParents p)) × (r ≡ padded (length r₀) (nodeRanks p))
+  unfolding filledOf
+  nodes-filled t =
+      let d : nodeTables m q r ≡ nodeTables (padded (length m₀) (nodeMasks p)) (padded (length q₀) (nodeParents p)) (padded (length r₀) (nodeRanks p)) = e ∙ rw t refl in
+      (ap (λ (x : NodeTables). x .masks) d, ap (λ (x : NodeTables). x .parents) d, ap (λ (x : NodeTables). x .ranks) d)
+
+  pub nodes-cleared : nodesFit p (nodeTables m₀ q₀ r₀) ≡ false → (m ≡ zeros m₀) × (q ≡ zeros q₀) × (r ≡ zeros r₀)
+  unfolding filledOf
+  nodes-cleared f =
+      let d : nodeTables m q r ≡ nodeTables (zeros m₀) (zeros q₀) (zeros r₀) = e ∙ rw f refl in
+      (ap (λ (x : NodeTables). x .masks) d, ap (λ (x : NodeTables). x .parents) d, ap (λ (x : NodeTables). x .ranks) d)
+
+  long : (length (nodeMasks p) ≡ length (forest p)) × (length (nodeParents p) ≡ length (forest p)) × (length (nodeRanks p) ≡ length (forest p))
+  unfolding nodeMasks nodeParents nodeRanks
+  long = (length-map (forest p) (λ (x : Node). x .mask), length-map (forest p) (λ (x : Node). x .parent), length-map (forest p) (priority p))
+
+  pub nodes-are : nodesFit p (nodeTables m₀ q₀ r₀) ≡ true → length q₀ ≡ length m₀ → length r₀ ≡ length m₀ → length m ≡ length m₀ → length q ≡ length q₀ → length r ≡ length r₀ → Nodes p m q r
+  unfolding nodesFit
+  nodes-are t lq lr km kq kr = record {
+    few = omega (arith, few);
+    masks-long = omega (arith, few, km);
+    parents-long = omega (arith, few, kq);
+    ranks-long = omega (arith, few, kr);
+    masks-are = λ n h. ap (λ (l : List ℕ). getD l n 0) (f .0) ∙ getD-padded (length m₀) (nodeMasks p) n (omega (arith, long .0)) ∙ masks-at p n h;
+    parents-are = λ n h. ap (λ (l : List ℕ). getD l n 0) (f .1) ∙ getD-padded (length q₀) (nodeParents p) n (omega (arith, long .1)) ∙ parents-at p n h;
+    ranks-are = λ n h. ap (λ (l : List ℕ). getD l n 0) (f .2) ∙ getD-padded (length r₀) (nodeRanks p) n (omega (arith, long .2)) ∙ ranks-at p n h;
+  }
+    where
+      few : length (forest p) ≤ min (length m₀) 65535
+      few = le-true (length (forest p)) (min (length m₀) 65535) t
+
+      f : (m ≡ padded (length m₀) (nodeMasks p)) × (q ≡ padded (length q₀) (nodeParents p)) × (r ≡ padded (length r₀) (nodeRanks p))
+      f = nodes-filled t

@@ -1,0 +1,150 @@
+-- What translating answers and leaves in the seven tables, question by question. Assumes nothing.
+use Prim.Native.Nat.{ℕ, _*_}
+use mathlib.Core.Path.{_≡_, refl, sym, _∙_, subst}
+use mathlib.Core.Bool.{Bool, true, false, _&&_, cond}
+use mathlib.Core.List.{List}
+use lib.Dec.{eqb}
+use lib.ListN.{length}
+use Rattle.lists.proofs.Bools.{eqb≡, and-l, and-r}
+use Rattle.tables.specs.Tables.{padded, zeros}
+use Rattle.policy.specs.declared.Policy.{Policy}
+use Rattle.policy.specs.Policies.{legal}
+use Rattle.decomposition.specs.Forest.{forest}
+use Rattle.decomposition.specs.NodeTables as node-tables
+use Rattle.decomposition.specs.NodeTables.{nodeTables, nodeMasks, nodeParents, nodeRanks, filledOf}
+use Rattle.builder.specs.declared.Translation.{Translation}
+use Rattle.builder.specs.declared.Translation.the-variants.{Translated, Refused}
+use Rattle.builder.specs.Automaton.{built, start}
+use Rattle.builder.specs.Tables.{Tables, lengthsFit, nodesFit, statesFit, filled, cleared, translationOf, tablesAfter, Hold, tables}
+use Rattle.builder.specs.Filling.{Sized, builtFit, BuiltTables}
+use Rattle.builder.proofs.FillingLaws.{nodes-filled, nodes-cleared}
+
+-- the first "no" decides
+abbrev decided : Bool → Bool → Bool → Bool → Translation → Translation
+decided a b c d x = cond a (cond b (cond c (cond d x (Refused 10)) (Refused 9)) (Refused 8)) (Refused 7)
+
+abbrev left : Bool → Bool → Bool → Bool → Tables → Tables → Tables → Tables
+left a b c d x y z = cond (a && b) (cond (c && d) x y) z
+
+module _ (a b c d : Bool) (x : Translation) (u v w : Tables) where
+  no-first : a ≡ false → (Refused 7 ≡ decided a b c d x) × (w ≡ left a b c d u v w)
+  no-first e = rw e (refl, refl)
+
+  no-second : a ≡ true → b ≡ false → (Refused 8 ≡ decided a b c d x) × (w ≡ left a b c d u v w)
+  no-second e f = rw (e, f) (refl, refl)
+
+  no-third : a ≡ true → b ≡ true → c ≡ false → (Refused 9 ≡ decided a b c d x) × (v ≡ left a b c d u v w)
+  no-third e f g = rw (e, f, g) (refl, refl)
+
+  no-fourth : a ≡ true → b ≡ true → c ≡ true → d ≡ false → (Refused 10 ≡ decided a b c d x) × (v ≡ left a b c d u v w)
+  no-fourth e f g h = rw (e, f, g, h) (refl, refl)
+
+  all-four : a ≡ true → b ≡ true → c ≡ true → d ≡ true → (x ≡ decided a b c d x) × (u ≡ left a b c d u v w)
+  all-four e f g h = rw (e, f, g, h) (refl, refl)
+
+three : (n c a n′ c′ a′ : ℕ) → n ≡ n′ → c ≡ c′ → a ≡ a′ → Translated n c a ≡ Translated n′ c′ a′
+three n c a n′ c′ a′ e f g = rw (e, f, g) refl
+
+module _ (p : Policy) (m₀ q₀ r₀ s₀ l₀ t₀ k₀ : List ℕ) where
+  abbrev pub lent : Tables
+  lent = tables m₀ q₀ r₀ s₀ l₀ t₀ k₀
+
+  pub fit-lengths : lengthsFit p lent ≡ true → (length q₀ ≡ length m₀) × (length r₀ ≡ length m₀) × Sized p s₀ l₀ t₀ k₀
+  unfolding lengthsFit
+  fit-lengths h = (
+    sym (eqb≡ (length m₀) (length q₀) (and-l a b h2)),
+    sym (eqb≡ (length m₀) (length r₀) (and-r a b h2)),
+    record {
+      leaves-long = sym (eqb≡ (length s₀) (length l₀) (and-r (a && b) c h3));
+      targets-long = eqb≡ (length t₀) (p .letters * length s₀) (and-r (a && b && c) d h4);
+      priorities-long = eqb≡ (length k₀) (p .letters * length s₀) (and-r (a && b && c && d) (eqb (length k₀) (p .letters * length s₀)) h);
+    },
+  )
+    where
+      a : Bool
+      a = eqb (length m₀) (length q₀)
+
+      b : Bool
+      b = eqb (length m₀) (length r₀)
+
+      c : Bool
+      c = eqb (length s₀) (length l₀)
+
+      d : Bool
+      d = eqb (length t₀) (p .letters * length s₀)
+
+      h4 : a && b && c && d ≡ true
+      h4 = and-l (a && b && c && d) (eqb (length k₀) (p .letters * length s₀)) h
+
+      h3 : a && b && c ≡ true
+      h3 = and-l (a && b && c) d h4
+
+      h2 : a && b ≡ true
+      h2 = and-l (a && b) c h3
+
+  -- the answer and the tables, in one
+  abbrev pub Ends : Translation → List ℕ → List ℕ → List ℕ → List ℕ → List ℕ → List ℕ → List ℕ → Type 0
+  Ends x m q r s l w k = (x ≡ translationOf p lent) × Hold (tablesAfter p lent) m q r s l w k
+
+  abbrev done : Translation
+  done = Translated (length (forest p)) (length (built p)) (start p)
+
+  same : Hold lent m₀ q₀ r₀ s₀ l₀ t₀ k₀
+  same = record { masks-are = refl; parents-are = refl; ranks-are = refl; sources-are = refl; leaves-are = refl; targets-are = refl; priorities-are = refl }
+
+  -- 7 and 8 leave the tables as they were
+  pub refused-seven : legal p ≡ false → Ends (Refused 7) m₀ q₀ r₀ s₀ l₀ t₀ k₀
+  unfolding translationOf tablesAfter
+  refused-seven e =
+      let n = no-first (legal p) (lengthsFit p lent) (nodesFit p lent) (statesFit p lent) done (filled p lent) (cleared p lent) lent e in
+      (n .0, subst (λ (x : Tables). Hold x m₀ q₀ r₀ s₀ l₀ t₀ k₀) (n .1) same)
+
+  pub refused-eight : legal p ≡ true → lengthsFit p lent ≡ false → Ends (Refused 8) m₀ q₀ r₀ s₀ l₀ t₀ k₀
+  unfolding translationOf tablesAfter
+  refused-eight t e =
+      let n = no-second (legal p) (lengthsFit p lent) (nodesFit p lent) (statesFit p lent) done (filled p lent) (cleared p lent) lent t e in
+      (n .0, subst (λ (x : Tables). Hold x m₀ q₀ r₀ s₀ l₀ t₀ k₀) (n .1) same)
+
+  module _ (t : legal p ≡ true) (h : lengthsFit p lent ≡ true) (m q r s l w k : List ℕ) where
+    held-filled : (m ≡ padded (length m₀) (nodeMasks p)) × (q ≡ padded (length q₀) (nodeParents p)) × (r ≡ padded (length r₀) (nodeRanks p)) → builtFit p s₀ ≡ true → BuiltTables p s₀ l₀ t₀ k₀ s l w k
+        → Hold (filled p lent) m q r s l w k
+    unfolding filled
+    held-filled n f b = record {
+      masks-are = n .0;
+      parents-are = n .1;
+      ranks-are = n .2;
+      sources-are = rw f at (b .sources-are);
+      leaves-are = rw f at (b .leaves-are);
+      targets-are = rw f at (b .targets-are);
+      priorities-are = rw f at (b .priorities-are);
+    }
+
+    held-cleared : (m ≡ zeros m₀) × (q ≡ zeros q₀) × (r ≡ zeros r₀) → (s ≡ zeros s₀) × (l ≡ zeros l₀) × (w ≡ zeros t₀) × (k ≡ zeros k₀) → Hold (cleared p lent) m q r s l w k
+    unfolding cleared
+    held-cleared n b = record { masks-are = n .0; parents-are = n .1; ranks-are = n .2; sources-are = b .0; leaves-are = b .1; targets-are = b .2; priorities-are = b .3 }
+
+    built-zero : builtFit p s₀ ≡ false → BuiltTables p s₀ l₀ t₀ k₀ s l w k → (s ≡ zeros s₀) × (l ≡ zeros l₀) × (w ≡ zeros t₀) × (k ≡ zeros k₀)
+    built-zero g b = (rw g at (b .sources-are), rw g at (b .leaves-are), rw g at (b .targets-are), rw g at (b .priorities-are))
+
+    -- 9 and 10 clear them
+    pub refused-nine : node-tables.nodesFit p (nodeTables m₀ q₀ r₀) ≡ false → nodeTables m q r ≡ filledOf p (nodeTables m₀ q₀ r₀) → (s ≡ zeros s₀) × (l ≡ zeros l₀) × (w ≡ zeros t₀) × (k ≡ zeros k₀)
+        → Ends (Refused 9) m q r s l w k
+    unfolding translationOf tablesAfter nodesFit
+    refused-nine f e b =
+        let n = no-third (legal p) (lengthsFit p lent) (nodesFit p lent) (statesFit p lent) done (filled p lent) (cleared p lent) lent t h f in
+        (n .0, subst (λ (x : Tables). Hold x m q r s l w k) (n .1) (held-cleared (nodes-cleared p m₀ q₀ r₀ m q r e f) b))
+
+    pub refused-ten : node-tables.nodesFit p (nodeTables m₀ q₀ r₀) ≡ true → builtFit p s₀ ≡ false → (m ≡ zeros m₀) × (q ≡ zeros q₀) × (r ≡ zeros r₀) → BuiltTables p s₀ l₀ t₀ k₀ s l w k
+        → Ends (Refused 10) m q r s l w k
+    unfolding translationOf tablesAfter nodesFit statesFit builtFit
+    refused-ten f g z b =
+        let n = no-fourth (legal p) (lengthsFit p lent) (nodesFit p lent) (statesFit p lent) done (filled p lent) (cleared p lent) lent t h f g in
+        (n .0, subst (λ (x : Tables). Hold x m q r s l w k) (n .1) (held-cleared z (built-zero g b)))
+
+    -- both counts and the start
+    pub translated : {n c a : ℕ} → node-tables.nodesFit p (nodeTables m₀ q₀ r₀) ≡ true → n ≡ length (forest p) → builtFit p s₀ ≡ true → c ≡ length (built p) → a ≡ start p
+        → nodeTables m q r ≡ filledOf p (nodeTables m₀ q₀ r₀) → BuiltTables p s₀ l₀ t₀ k₀ s l w k → Ends (Translated n c a) m q r s l w k
+    unfolding translationOf tablesAfter nodesFit statesFit builtFit
+    translated {n} {c} {a} f en g ec ea e b =
+        let y = all-four (legal p) (lengthsFit p lent) (nodesFit p lent) (statesFit p lent) done (filled p lent) (cleared p lent) lent t h f g in
+        (three n c a (length (forest p)) (length (built p)) (start p) en ec ea ∙ y .0, subst (λ (x : Tables). Hold x m q r s l w k) (y .1) (held-filled (nodes-filled p m₀ q₀ r₀ m q r e f) g b))

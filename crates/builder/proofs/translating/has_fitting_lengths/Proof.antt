@@ -1,0 +1,21 @@
+-- `translating::has_fitting_lengths` meets its contract. Assumes nothing.
+use native.Mathlib.Omega.{arith}
+use mathlib.Core.Path.{refl}
+use Rattle.policy.proofs.Laws.{legal-counts}
+use Rattle.builder.specs.Tables.{lengthsFit}
+use borrow.Author.Needs.{needs}
+use Rattle.builder.proofs.translating.has_fitting_lengths.Statement.{statement}
+use Rattle.builder.proofs.translating.has_fitting_lengths.Tie as tie
+
+is-times-requires : tie.Need-is-times-requires
+is-times-requires c κs = let s = c .before .before .before .before .before .before .before in legal-counts (s .args .p) (s .pre) .letters-some
+
+is-times-requires-2 : tie.Need-is-times-requires-2
+is-times-requires-2 c κs = let s = c .before .before .before .before .before .before .before .before in legal-counts (s .args .p) (s .pre) .letters-some
+
+returns : tie.Need-returns
+unfolding lengthsFit
+returns c = rw (c .before .is-times .ensures, c .is-times2 .ensures) refl
+
+pub has-fitting-lengths-spec : {M : Type 1} → statement M
+has-fitting-lengths-spec = tie.close (tie.spec is-times-requires is-times-requires-2 returns)

@@ -1,0 +1,197 @@
+// Translating: the gatekeeper's questions, then the nodes, the built states and the rows, each stage into the lent tables.
+use crate::Translation;
+use decomposition::nodes::Filled;
+use policy::Policy;
+ghost use mathlib.Core.Path.{_≡_};
+ghost use mathlib.Core.Bool.{true};
+ghost use Prim.Native.Nat.{_*_, _≤_};
+ghost use lib.ListN.{length};
+ghost use lib.Dec.{eqb};
+ghost use Rattle.tables.specs.Tables.{padded, zeros};
+ghost use Rattle.policy.specs.Policies.{legal};
+ghost use Rattle.decomposition.specs.Forest.{forest};
+ghost use Rattle.builder.specs.Automaton.{built, rowTargets, rowPriorities};
+ghost use Rattle.builder.specs.Stages.{Nodes, Ends, States, Starts};
+ghost use Rattle.builder.specs.Filling.{Sized, Clear, buildingOf, BuiltTables};
+ghost use Rattle.builder.specs.Tables.{lengthsFit, translationOf, tablesAfter, Hold, tables};
+
+// The rows of the built states, in tables that are cleared.
+pub fn fill_rows(
+    p: Policy,
+    masks: &[u64],
+    parents: &[u16],
+    ranks: &[u8],
+    ends: &[u16],
+    sources: &[u8],
+    leaves: &[u16],
+    starts: &[usize; 17],
+    count: usize,
+    targets: &mut [u16],
+    priorities: &mut [u8],
+)
+    requires nodes { ⌜ (legal p ≡ true) × Nodes p (now masks) (now parents) (now ranks) × Ends p (now ends) ⌝ }
+    requires states { ⌜ States p (now sources) (now leaves) × Starts p (now starts) × (count ≡ length (built p)) ⌝ }
+    requires cleared { ⌜ (now targets ≡ zeros (now targets)) × (now priorities ≡ zeros (now priorities)) × (p .letters * length (built p) ≤ length (now targets)) × (p .letters * length (built p) ≤ length (now priorities)) ⌝ }
+    ensures { λ _. ⌜ (now (targets .exit) ≡ padded (length (now (targets .entry))) (rowTargets p)) × (now (priorities .exit) ≡ padded (length (now (priorities .entry))) (rowPriorities p)) ⌝ }
+{
+    let letters = p.letters as usize;
+    let rows = count * letters;
+    for i in 0..rows {
+        let letter = (i % letters) as u8;
+        let row = crate::rows::row_of(p, masks, parents, ranks, ends, sources, leaves, starts, i / letters, letter);
+        targets[i] = row.target;
+        priorities[i] = row.priority;
+    }
+}
+
+// What filling in the states and the rows answers: how many states there are, and the start; or that they do not fit.
+pub enum Building {
+    Whole(usize, u16),
+    TooMany,
+}
+
+// 0 in every place.
+fn clear_built(sources: &mut [u8], leaves: &mut [u16], targets: &mut [u16], priorities: &mut [u8])
+    ensures { λ _. ⌜ (now (sources .exit) ≡ zeros (now (sources .entry))) × (now (leaves .exit) ≡ zeros (now (leaves .entry))) × (now (targets .exit) ≡ zeros (now (targets .entry))) × (now (priorities .exit) ≡ zeros (now (priorities .entry))) ⌝ }
+{
+    tables::clear8(sources);
+    tables::clear16(leaves);
+    tables::clear16(targets);
+    tables::clear8(priorities);
+}
+
+// The states and the rows, in tables that are cleared; where the states do not fit, the tables are cleared again.
+fn fill_built(
+    p: Policy,
+    masks: &[u64],
+    parents: &[u16],
+    ranks: &[u8],
+    ends: &[u16],
+    count: usize,
+    sources: &mut [u8],
+    leaves: &mut [u16],
+    targets: &mut [u16],
+    priorities: &mut [u8],
+) -> Building
+    requires nodes { ⌜ (legal p ≡ true) × Nodes p (now masks) (now parents) (now ranks) × Ends p (now ends) × (count ≡ length (forest p)) ⌝ }
+    requires lent { ⌜ Sized p (now sources) (now leaves) (now targets) (now priorities) × Clear (now sources) (now leaves) (now targets) (now priorities) ⌝ }
+    ensures answer { λ r. ⌜ r ≡ buildingOf p (now (sources .entry)) ⌝ }
+    ensures written { λ _. ⌜ BuiltTables p (now (sources .entry)) (now (leaves .entry)) (now (targets .entry)) (now (priorities .entry)) (now (sources .exit)) (now (leaves .exit)) (now (targets .exit)) (now (priorities .exit)) ⌝ }
+{
+    let placed = crate::states::fill_states(p, masks, ends, count, sources, leaves);
+    let starts = placed.starts;
+    if !placed.fits {
+        tables::clear8(sources);
+        tables::clear16(leaves);
+        return Building::TooMany;
+    }
+    fill_rows(p, masks, parents, ranks, ends, sources, leaves, &starts, placed.count, targets, priorities);
+    Building::Whole(placed.count, crate::states::start_of(p, starts))
+}
+
+// The stages after the nodes. Where the built states do not fit, every place is 0.
+pub fn build(
+    p: Policy,
+    masks: &[u64],
+    parents: &[u16],
+    ranks: &[u8],
+    count: usize,
+    sources: &mut [u8],
+    leaves: &mut [u16],
+    targets: &mut [u16],
+    priorities: &mut [u8],
+) -> Building
+    requires { ⌜ (legal p ≡ true) × Nodes p (now masks) (now parents) (now ranks) × (count ≡ length (forest p)) × Sized p (now sources) (now leaves) (now targets) (now priorities) ⌝ }
+    ensures answer { λ r. ⌜ r ≡ buildingOf p (now (sources .entry)) ⌝ }
+    ensures written { λ _. ⌜ BuiltTables p (now (sources .entry)) (now (leaves .entry)) (now (targets .entry)) (now (priorities .entry)) (now (sources .exit)) (now (leaves .exit)) (now (targets .exit)) (now (priorities .exit)) ⌝ }
+{
+    let mut ends = [0u16; 65535];
+    crate::rows::fill_ends(p, parents, count, &mut ends);
+    clear_built(sources, leaves, targets, priorities);
+    fill_built(p, masks, parents, ranks, &ends, count, sources, leaves, targets, priorities)
+}
+
+// Whether n is k times m, without multiplying.
+fn is_times(n: usize, k: u8, m: usize) -> bool
+    requires { ⌜ 1 ≤ k ⌝ }
+    ensures { λ r. ⌜ r ≡ eqb n (k * m) ⌝ }
+{
+    (n % (k as usize) == 0) & (n / (k as usize) == m)
+}
+
+// Whether the tables have lengths that belong together.
+fn has_fitting_lengths(
+    p: Policy,
+    masks: &[u64],
+    parents: &[u16],
+    ranks: &[u8],
+    sources: &[u8],
+    leaves: &[u16],
+    targets: &[u16],
+    priorities: &[u8],
+) -> bool
+    requires { ⌜ legal p ≡ true ⌝ }
+    ensures { λ r. ⌜ r ≡ lengthsFit p (tables (now (masks .entry)) (now (parents .entry)) (now (ranks .entry)) (now (sources .entry)) (now (leaves .entry)) (now (targets .entry)) (now (priorities .entry))) ⌝ }
+{
+    (masks.len() == parents.len())
+        & (masks.len() == ranks.len())
+        & (sources.len() == leaves.len())
+        & is_times(targets.len(), p.letters, sources.len())
+        & is_times(priorities.len(), p.letters, sources.len())
+}
+
+// All stages, in tables of fitting lengths.
+fn fill(
+    p: Policy,
+    masks: &mut [u64],
+    parents: &mut [u16],
+    ranks: &mut [u8],
+    sources: &mut [u8],
+    leaves: &mut [u16],
+    targets: &mut [u16],
+    priorities: &mut [u8],
+) -> Translation
+    requires { ⌜ (legal p ≡ true) × (lengthsFit p (tables (now masks) (now parents) (now ranks) (now sources) (now leaves) (now targets) (now priorities)) ≡ true) ⌝ }
+    ensures answer { λ r. ⌜ r ≡ translationOf p (tables (now (masks .entry)) (now (parents .entry)) (now (ranks .entry)) (now (sources .entry)) (now (leaves .entry)) (now (targets .entry)) (now (priorities .entry))) ⌝ }
+    ensures written { λ _. ⌜ Hold (tablesAfter p (tables (now (masks .entry)) (now (parents .entry)) (now (ranks .entry)) (now (sources .entry)) (now (leaves .entry)) (now (targets .entry)) (now (priorities .entry)))) (now (masks .exit)) (now (parents .exit)) (now (ranks .exit)) (now (sources .exit)) (now (leaves .exit)) (now (targets .exit)) (now (priorities .exit)) ⌝ }
+{
+    match decomposition::nodes::fill_nodes(p, masks, parents, ranks) {
+        Filled::Nodes(nodes) => match build(p, masks, parents, ranks, nodes, sources, leaves, targets, priorities) {
+            Building::Whole(states, start) => Translation::Translated(nodes as u16, states as u16, start),
+            Building::TooMany => {
+                tables::clear64(masks);
+                tables::clear16(parents);
+                tables::clear8(ranks);
+                Translation::Refused(10)
+            }
+        },
+        Filled::TooMany => {
+            clear_built(sources, leaves, targets, priorities);
+            Translation::Refused(9)
+        }
+    }
+}
+
+// A policy's forest and its automaton, in the seven tables: mask, parent and priority of each node; policy state and leaf of each built state; target and
+// priority of each row.
+pub fn translate(
+    p: Policy,
+    masks: &mut [u64],
+    parents: &mut [u16],
+    ranks: &mut [u8],
+    sources: &mut [u8],
+    leaves: &mut [u16],
+    targets: &mut [u16],
+    priorities: &mut [u8],
+) -> Translation
+    ensures answer { λ r. ⌜ r ≡ translationOf p (tables (now (masks .entry)) (now (parents .entry)) (now (ranks .entry)) (now (sources .entry)) (now (leaves .entry)) (now (targets .entry)) (now (priorities .entry))) ⌝ }
+    ensures written { λ _. ⌜ Hold (tablesAfter p (tables (now (masks .entry)) (now (parents .entry)) (now (ranks .entry)) (now (sources .entry)) (now (leaves .entry)) (now (targets .entry)) (now (priorities .entry)))) (now (masks .exit)) (now (parents .exit)) (now (ranks .exit)) (now (sources .exit)) (now (leaves .exit)) (now (targets .exit)) (now (priorities .exit)) ⌝ }
+{
+    if !policy::is_legal(p) {
+        return Translation::Refused(7);
+    }
+    if !has_fitting_lengths(p, masks, parents, ranks, sources, leaves, targets, priorities) {
+        return Translation::Refused(8);
+    }
+    fill(p, masks, parents, ranks, sources, leaves, targets, priorities)
+}
