@@ -29,6 +29,19 @@ const STRAY_PRIORITIES: [u8; 6] = [1, 2, 3, 4, 5, 6];
 
 const NONE: [u8; 1] = [0];
 
+// Targets of one letter: each of the first n states leads to the next one.
+fn to_next(n: u8) -> [u8; 64] {
+    let mut target = [0u8; 64];
+    let mut v: u8 = 0;
+    while v < 64 {
+        if v < n {
+            target[v as usize] = v + 1;
+        }
+        v += 1;
+    }
+    target
+}
+
 // Policy A.
 fn policy_a() -> Policy {
     let target = [0u8; 64];
@@ -93,22 +106,7 @@ fn policy_c() -> Policy {
 
 // A ring of 16 states, of which the last has a colour of its own.
 fn policy_ring() -> Policy {
-    let mut target = [0u8; 64];
-    target[0] = 1;
-    target[1] = 2;
-    target[2] = 3;
-    target[3] = 4;
-    target[4] = 5;
-    target[5] = 6;
-    target[6] = 7;
-    target[7] = 8;
-    target[8] = 9;
-    target[9] = 10;
-    target[10] = 11;
-    target[11] = 12;
-    target[12] = 13;
-    target[13] = 14;
-    target[14] = 15;
+    let target = to_next(15);
     let mut colour = [0u8; 64];
     colour[15] = 1;
     let mut family = [false; 256];
@@ -126,14 +124,7 @@ fn policy_ring() -> Policy {
 
 // A tail of 5 states, which alone has colour 0, and a ring of 3.
 fn policy_tail() -> Policy {
-    let mut target = [0u8; 64];
-    target[0] = 1;
-    target[1] = 2;
-    target[2] = 3;
-    target[3] = 4;
-    target[4] = 5;
-    target[5] = 6;
-    target[6] = 7;
+    let mut target = to_next(7);
     target[7] = 5;
     let mut colour = [0u8; 64];
     colour[5] = 1;
