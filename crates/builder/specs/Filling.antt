@@ -31,15 +31,15 @@ pub record Column (l : List ℕ) (n : ℕ) (t : List ℕ) : Type 0 where
   pub long : length l ≤ length t
   pub are : t ≡ padded (length t) (take n l)
 
--- the first i of n rows stand in tables that were t₀ and k₀, and 0 past them
-pub record Rowed (p : Policy) (t₀ k₀ t k : List ℕ) (n i : ℕ) : Type 0 where
-  pub rows-are : n ≡ length (built p) * p .letters
-  pub few : n ≤ 524280
-  pub at-most : i ≤ n
-  pub targets-long : length t ≡ length t₀
-  pub priorities-long : length k ≡ length k₀
-  pub targets-are : Column (rowTargets p) i t
-  pub priorities-are : Column (rowPriorities p) i k
+-- row tables, once targets₀ and priorities₀, hold the first i of all rows, and 0 in every place past them
+pub record Rowed (p : Policy) (targets₀ priorities₀ targets priorities : List ℕ) (rows i : ℕ) : Type 0 where
+  pub rows-are : rows ≡ length (built p) * p .letters
+  pub few : rows ≤ 524280
+  pub at-most : i ≤ rows
+  pub targets-long : length targets ≡ length targets₀
+  pub priorities-long : length priorities ≡ length priorities₀
+  pub targets-are : Column (rowTargets p) i targets
+  pub priorities-are : Column (rowPriorities p) i priorities
 
 module _ (p : Policy) where
   -- question 10, from a state table

@@ -38,7 +38,18 @@ pub fn fill_rows(
     let rows = count * letters;
     for i in 0..rows {
         let letter = (i % letters) as u8;
-        let row = crate::rows::row_of(p, masks, parents, ranks, ends, sources, leaves, starts, i / letters, letter);
+        let row = crate::rows::row_of(
+            p,
+            masks,
+            parents,
+            ranks,
+            ends,
+            sources,
+            leaves,
+            starts,
+            i / letters,
+            letter,
+        );
         targets[i] = row.target;
         priorities[i] = row.priority;
     }
@@ -85,7 +96,19 @@ fn fill_built(
         tables::clear16(leaves);
         return Building::TooMany;
     }
-    fill_rows(p, masks, parents, ranks, ends, sources, leaves, &starts, placed.count, targets, priorities);
+    fill_rows(
+        p,
+        masks,
+        parents,
+        ranks,
+        ends,
+        sources,
+        leaves,
+        &starts,
+        placed.count,
+        targets,
+        priorities,
+    );
     Building::Whole(placed.count, crate::states::start_of(p, starts))
 }
 
@@ -108,7 +131,18 @@ pub fn build(
     let mut ends = [0u16; 65535];
     crate::rows::fill_ends(p, parents, count, &mut ends);
     clear_built(sources, leaves, targets, priorities);
-    fill_built(p, masks, parents, ranks, &ends, count, sources, leaves, targets, priorities)
+    fill_built(
+        p,
+        masks,
+        parents,
+        ranks,
+        &ends,
+        count,
+        sources,
+        leaves,
+        targets,
+        priorities,
+    )
 }
 
 // Whether n is k times m, without multiplying.
@@ -153,23 +187,29 @@ fn fill(
 ) -> Translation
     requires { ⌜ (legal p ≡ true) × (lengthsFit p (tables (now masks) (now parents) (now ranks) (now sources) (now leaves) (now targets) (now priorities)) ≡ true) ⌝ }
     ensures answer { λ r. ⌜ r ≡ translationOf p (tables (now (masks .entry)) (now (parents .entry)) (now (ranks .entry)) (now (sources .entry)) (now (leaves .entry)) (now (targets .entry)) (now (priorities .entry))) ⌝ }
-    ensures written { λ _. ⌜ Hold (tablesAfter p (tables (now (masks .entry)) (now (parents .entry)) (now (ranks .entry)) (now (sources .entry)) (now (leaves .entry)) (now (targets .entry)) (now (priorities .entry)))) (now (masks .exit)) (now (parents .exit)) (now (ranks .exit)) (now (sources .exit)) (now (leaves .exit)) (now (targets .exit)) (now (priorities .exit)) ⌝ }
+    ensures tables { λ _. ⌜ Hold (tablesAfter p (tables (now (masks .entry)) (now (parents .entry)) (now (ranks .entry)) (now (sources .entry)) (now (leaves .entry)) (now (targets .entry)) (now (priorities .entry)))) (now (masks .exit)) (now (parents .exit)) (now (ranks .exit)) (now (sources .exit)) (now (leaves .exit)) (now (targets .exit)) (now (priorities .exit)) ⌝ }
 {
-    match decomposition::nodes::fill_nodes(p, masks, parents, ranks) {
-        Filled::Nodes(nodes) => match build(p, masks, parents, ranks, nodes, sources, leaves, targets, priorities) {
-            Building::Whole(states, start) => Translation::Translated(nodes as u16, states as u16, start),
-            Building::TooMany => {
-                tables::clear64(masks);
-                tables::clear16(parents);
-                tables::clear8(ranks);
-                Translation::Refused(10)
-            }
-        },
-        Filled::TooMany => {
-            clear_built(sources, leaves, targets, priorities);
-            Translation::Refused(9)
-        }
-    }
+    let Filled::Nodes(nodes) = decomposition::nodes::fill_nodes(p, masks, parents, ranks) else {
+        clear_built(sources, leaves, targets, priorities);
+        return Translation::Refused(9);
+    };
+    let Building::Whole(states, start) = build(
+        p,
+        masks,
+        parents,
+        ranks,
+        nodes,
+        sources,
+        leaves,
+        targets,
+        priorities,
+    ) else {
+        tables::clear64(masks);
+        tables::clear16(parents);
+        tables::clear8(ranks);
+        return Translation::Refused(10);
+    };
+    Translation::Translated(nodes as u16, states as u16, start)
 }
 
 // A policy's forest and its automaton, in the seven tables: mask, parent and priority of each node; policy state and leaf of each built state; target and
@@ -185,13 +225,31 @@ pub fn translate(
     priorities: &mut [u8],
 ) -> Translation
     ensures answer { λ r. ⌜ r ≡ translationOf p (tables (now (masks .entry)) (now (parents .entry)) (now (ranks .entry)) (now (sources .entry)) (now (leaves .entry)) (now (targets .entry)) (now (priorities .entry))) ⌝ }
-    ensures written { λ _. ⌜ Hold (tablesAfter p (tables (now (masks .entry)) (now (parents .entry)) (now (ranks .entry)) (now (sources .entry)) (now (leaves .entry)) (now (targets .entry)) (now (priorities .entry)))) (now (masks .exit)) (now (parents .exit)) (now (ranks .exit)) (now (sources .exit)) (now (leaves .exit)) (now (targets .exit)) (now (priorities .exit)) ⌝ }
+    ensures tables { λ _. ⌜ Hold (tablesAfter p (tables (now (masks .entry)) (now (parents .entry)) (now (ranks .entry)) (now (sources .entry)) (now (leaves .entry)) (now (targets .entry)) (now (priorities .entry)))) (now (masks .exit)) (now (parents .exit)) (now (ranks .exit)) (now (sources .exit)) (now (leaves .exit)) (now (targets .exit)) (now (priorities .exit)) ⌝ }
 {
     if !policy::is_legal(p) {
         return Translation::Refused(7);
     }
-    if !has_fitting_lengths(p, masks, parents, ranks, sources, leaves, targets, priorities) {
+    if !has_fitting_lengths(
+        p,
+        masks,
+        parents,
+        ranks,
+        sources,
+        leaves,
+        targets,
+        priorities,
+    ) {
         return Translation::Refused(8);
     }
-    fill(p, masks, parents, ranks, sources, leaves, targets, priorities)
+    fill(
+        p,
+        masks,
+        parents,
+        ranks,
+        sources,
+        leaves,
+        targets,
+        priorities,
+    )
 }

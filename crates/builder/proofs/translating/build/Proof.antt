@@ -42,8 +42,7 @@ returns : tie.Need-returns
 returns c =
     let s = c .before .before .before .before .before .before .before .before .before .before .before .before .before .before .before .before .before .before .before .before .before .before .before .before .before .before .before .before .before .before .before .before .before .before .before .before .before in
     let k = c .before .before .before .before .before .before .before .before .before .before .before .before .before .before .before .before .before .before .before .before .before .before .clear-built .kept in
-    let r = c .before .before .before .before .before .before .before .before .fill-built .ensures in
-    (
+    let r = c .before .before .before .before .before .before .before .before .fill-built .ensures in (
       r .0 ∙ building-same (s .args .p) _ (s .args .sources .now) (k .0),
       built-same (s .args .p) (s .args .sources .now) (s .args .leaves .now) (s .args .targets .now) (s .args .priorities .now) _ _ _ _ (k .0) (k .1 .0) (k .1 .1 .0) (k .1 .1 .1 .0) (r .1),
     )

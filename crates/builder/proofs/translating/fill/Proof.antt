@@ -1,4 +1,4 @@
--- `translating::fill` meets its contract. Assumes nothing.
+-- `translating::fill` meets its contract: the answer and the tables where the nodes do not fit, where the states do not, and where both do. Assumes nothing.
 use native.Mathlib.Omega.{arith}
 use mathlib.Core.Path.{_∙_}
 use Rattle.tables.proofs.Tables.{zeros-same}
@@ -17,43 +17,8 @@ fill-nodes-requires c κs =
 enum-known-nodes : tie.Need-enum-known-nodes
 enum-known-nodes c = search needs
 
-build-requires : tie.Need-build-requires
-build-requires c κs =
-    let s = c .before .before .before .before .before .before .before .before .before .before .before .before .before .before .before .before .before .before .before .before .before .before .before .before .before .before .before in
-    let z = fit-lengths (s .args .p) (s .args .masks .now) (s .args .parents .now) (s .args .ranks .now) (s .args .sources .now) (s .args .leaves .now) (s .args .targets .now) (s .args .priorities .now) (s .pre .1) in
-    let f = nodes-fits (s .args .p) (s .args .masks .now) (s .args .parents .now) (s .args .ranks .now) (c .before .before .before .before .before .before .before .before .before .before .before .before .before .before .before .before .fill-nodes .ensures .0) (c .before .before .before .before .before .before .before .before .nodes .given .1) in
-    let k = c .before .before .before .before .before .before .before .before .before .before .before .before .before .before .before .before .fill-nodes .kept in
-    (s .pre .0, nodes-are (s .args .p) (s .args .masks .now) (s .args .parents .now) (s .args .ranks .now) _ _ _ (c .before .before .before .before .before .before .before .before .before .before .before .before .before .before .before .before .fill-nodes .ensures .1) (f .0) (z .0) (z .1) (k .1 .0) (k .1 .1 .0) (k .1 .1 .1 .0), f .1, z .2)
-
-enum-known-states : tie.Need-enum-known-states
-enum-known-states c = search needs
-
-cast-t36 : tie.Need-cast-t36
-cast-t36 c =
-    let s = c .before .before .before .before .before .before .before .before .before .before .before .before .before .before .before .before .before .before .before .before .before .before .before .before .before .before .before .before .before .before .before .before .before .before .before .before .before .before .before in
-    let f = nodes-fits (s .args .p) (s .args .masks .now) (s .args .parents .now) (s .args .ranks .now) (c .before .before .before .before .before .before .before .before .before .before .before .before .before .before .before .before .before .before .before .before .before .before .before .before .before .before .before .before .fill-nodes .ensures .0) (c .before .before .before .before .before .before .before .before .before .before .before .before .before .before .before .before .before .before .before .before .nodes .given .1) in
-    omega (arith, f .1, nodes-few (s .args .p) (s .args .masks .now) (s .args .parents .now) (s .args .ranks .now) (f .0))
-
-cast-t37 : tie.Need-cast-t37
-cast-t37 c =
-    let s = c .before .before .before .before .before .before .before .before .before .before .before .before .before .before .before .before .before .before .before .before .before .before .before .before .before .before .before .before .before .before .before .before .before .before .before .before .before .before .before in
-    let g = whole-fits (s .args .p) (s .args .sources .now) (c .before .before .before .before .before .before .before .before .before .before .before .build .ensures .0) (c .before .states .given .1) in
-    omega (arith, g .1, fits-few (s .args .p) (s .args .sources .now) (g .0))
-
 enum-told : tie.Need-enum-told
 enum-told c = search needs
-
-clear64-requires : tie.Need-clear64-requires
-clear64-requires c κs = search needs
-
-clear16-requires : tie.Need-clear16-requires
-clear16-requires c κs = search needs
-
-clear8-requires : tie.Need-clear8-requires
-clear8-requires c κs = search needs
-
-enum-told-2 : tie.Need-enum-told-2
-enum-told-2 c = search needs
 
 clear-built-requires : tie.Need-clear-built-requires
 clear-built-requires c κs = search needs
@@ -81,10 +46,33 @@ same-length-7 c = search needs
 
 returns : tie.Need-returns
 returns c =
-    let s = c .before .before .before .before .before .before .before .before .before .before .before .before .before .before .before .before .before .before .before .before .before .before .before .before .before .before .before .before .before .before .before .before .before .before .before .before .before .before .before in
-    let f = nodes-fits (s .args .p) (s .args .masks .now) (s .args .parents .now) (s .args .ranks .now) (c .before .before .before .before .before .before .before .before .before .before .before .before .before .before .before .before .before .before .before .before .before .before .before .before .before .before .before .before .fill-nodes .ensures .0) (c .before .before .before .before .before .before .before .before .before .before .before .before .before .before .before .before .before .before .before .before .nodes .given .1) in
-    let g = whole-fits (s .args .p) (s .args .sources .now) (c .before .before .before .before .before .before .before .before .before .before .before .build .ensures .0) (c .before .states .given .1) in
-    translated (s .args .p) (s .args .masks .now) (s .args .parents .now) (s .args .ranks .now) (s .args .sources .now) (s .args .leaves .now) (s .args .targets .now) (s .args .priorities .now) (s .pre .0) (s .pre .1) _ _ _ _ _ _ _ (f .0) (f .1) (g .0) (g .1) (g .2) (c .before .before .before .before .before .before .before .before .before .before .before .before .before .before .before .before .before .before .before .before .before .before .before .before .before .before .before .before .fill-nodes .ensures .1) (c .before .before .before .before .before .before .before .before .before .before .before .build .ensures .1)
+    let s = c .before .before .before .before .before .before .before .before .before .before .before .before .before .before .before .before .before .before .before .before .before .before .before .before .before .before .before .before .before .before .before .before in
+    let n = c .before .before .before .before .before .before .before .before .before .before .before .before .before .before .before .before .before .before .before .before .before .fill-nodes in
+    let f = nodes-none (s .args .p) (s .args .masks .now) (s .args .parents .now) (s .args .ranks .now) (n .ensures .0) (c .before .before .before .before .before .before .before .before .before .before .before .before .before .enum-told .given .1) in
+    refused-nine (s .args .p) (s .args .masks .now) (s .args .parents .now) (s .args .ranks .now) (s .args .sources .now) (s .args .leaves .now) (s .args .targets .now) (s .args .priorities .now) (s .pre .0) (s .pre .1) _ _ _ _ _ _ _ f (n .ensures .1) (c .before .before .before .before .before .before .before .before .clear-built .ensures)
+
+build-requires : tie.Need-build-requires
+build-requires c κs =
+    let s = c .before .before .before .before .before .before .before .before .before .before .before .before .before .before .before .before .before .before .before .before .before .before .before .before .before .before .before in
+    let n = c .before .before .before .before .before .before .before .before .before .before .before .before .before .before .before .before .fill-nodes in
+    let z = fit-lengths (s .args .p) (s .args .masks .now) (s .args .parents .now) (s .args .ranks .now) (s .args .sources .now) (s .args .leaves .now) (s .args .targets .now) (s .args .priorities .now) (s .pre .1) in
+    let f = nodes-fits (s .args .p) (s .args .masks .now) (s .args .parents .now) (s .args .ranks .now) (n .ensures .0) (c .before .before .before .before .before .before .before .before .nodes .given .1) in
+    (s .pre .0, nodes-are (s .args .p) (s .args .masks .now) (s .args .parents .now) (s .args .ranks .now) _ _ _ (n .ensures .1) (f .0) (z .0) (z .1) (n .kept .1 .0) (n .kept .1 .1 .0) (n .kept .1 .1 .1 .0), f .1, z .2)
+
+enum-known-states : tie.Need-enum-known-states
+enum-known-states c = search needs
+
+enum-told-2 : tie.Need-enum-told-2
+enum-told-2 c = search needs
+
+clear64-requires : tie.Need-clear64-requires
+clear64-requires c κs = search needs
+
+clear16-requires : tie.Need-clear16-requires
+clear16-requires c κs = search needs
+
+clear8-requires : tie.Need-clear8-requires
+clear8-requires c κs = search needs
 
 same-length-8 : tie.Need-same-length-8
 same-length-8 c = search needs
@@ -110,15 +98,29 @@ same-length-14 c = search needs
 returns-2 : tie.Need-returns-2
 returns-2 c =
     let s = c .before .before .before .before .before .before .before .before .before .before .before .before .before .before .before .before .before .before .before .before .before .before .before .before .before .before .before .before .before .before .before .before .before .before .before .before .before .before .before .before .before .before .before .before .before .before .before .before .before .before in
-    let f = nodes-fits (s .args .p) (s .args .masks .now) (s .args .parents .now) (s .args .ranks .now) (c .before .before .before .before .before .before .before .before .before .before .before .before .before .before .before .before .before .before .before .before .before .before .before .before .before .before .before .before .before .before .before .before .before .before .before .before .before .before .before .fill-nodes .ensures .0) (c .before .before .before .before .before .before .before .before .before .before .before .before .before .before .before .before .before .before .before .before .before .before .before .before .before .before .before .before .before .before .before .nodes .given .1) in
     let n = c .before .before .before .before .before .before .before .before .before .before .before .before .before .before .before .before .before .before .before .before .before .before .before .before .before .before .before .before .before .before .before .before .before .before .before .before .before .before .before .fill-nodes in
-    let b = c .before .before .before .before .before .before .before .before .before .before .before .before .before .before .before .before .before .before .before .before .before .before .build .ensures in
-    refused-ten (s .args .p) (s .args .masks .now) (s .args .parents .now) (s .args .ranks .now) (s .args .sources .now) (s .args .leaves .now) (s .args .targets .now) (s .args .priorities .now) (s .pre .0) (s .pre .1) _ _ _ _ _ _ _ (f .0) (none-fits (s .args .p) (s .args .sources .now) (b .0) (c .before .before .before .before .before .before .before .before .before .before .before .before .enum-told .given .1))
-    (
+    let b = c .before .before .before .before .before .before .before .before .before .before .before .before .before .before .before .before .before .before .before .before .before .before .build in
+    let f = nodes-fits (s .args .p) (s .args .masks .now) (s .args .parents .now) (s .args .ranks .now) (n .ensures .0) (c .before .before .before .before .before .before .before .before .before .before .before .before .before .before .before .before .before .before .before .before .before .before .before .before .before .before .before .before .before .before .before .nodes .given .1) in
+    let g = none-fits (s .args .p) (s .args .sources .now) (b .ensures .0) (c .before .before .before .before .before .before .before .before .before .before .before .before .enum-told2 .given .1) in
+    refused-ten (s .args .p) (s .args .masks .now) (s .args .parents .now) (s .args .ranks .now) (s .args .sources .now) (s .args .leaves .now) (s .args .targets .now) (s .args .priorities .now) (s .pre .0) (s .pre .1) _ _ _ _ _ _ _ (f .0) g (
       c .before .before .before .before .before .before .before .before .before .before .clear64 .ensures ∙ zeros-same (n .last .1 .0) (s .args .masks .now) (n .kept .1 .0),
       c .before .before .before .before .before .before .clear16 .ensures ∙ zeros-same (n .last .1 .1 .0) (s .args .parents .now) (n .kept .1 .1 .0),
       c .before .before .clear8 .ensures ∙ zeros-same (n .last .1 .1 .1 .0) (s .args .ranks .now) (n .kept .1 .1 .1 .0),
-    ) (b .1)
+    ) (b .ensures .1)
+
+cast-t50 : tie.Need-cast-t50
+cast-t50 c =
+    let s = c .before .before .before .before .before .before .before .before .before .before .before .before .before .before .before .before .before .before .before .before .before .before .before .before .before .before .before .before .before .before .before .before .before .before .before .before .before .before .before in
+    let n = c .before .before .before .before .before .before .before .before .before .before .before .before .before .before .before .before .before .before .before .before .before .before .before .before .before .before .before .before .fill-nodes in
+    let f = nodes-fits (s .args .p) (s .args .masks .now) (s .args .parents .now) (s .args .ranks .now) (n .ensures .0) (c .before .before .before .before .before .before .before .before .before .before .before .before .before .before .before .before .before .before .before .before .nodes .given .1) in
+    omega (arith, f .1, nodes-few (s .args .p) (s .args .masks .now) (s .args .parents .now) (s .args .ranks .now) (f .0))
+
+cast-t51 : tie.Need-cast-t51
+cast-t51 c =
+    let s = c .before .before .before .before .before .before .before .before .before .before .before .before .before .before .before .before .before .before .before .before .before .before .before .before .before .before .before .before .before .before .before .before .before .before .before .before .before .before .before in
+    let b = c .before .before .before .before .before .before .before .before .before .before .before .build in
+    let g = whole-fits (s .args .p) (s .args .sources .now) (b .ensures .0) (c .before .states .given .1) in
+    omega (arith, g .1, fits-few (s .args .p) (s .args .sources .now) (g .0))
 
 same-length-15 : tie.Need-same-length-15
 same-length-15 c = search needs
@@ -143,9 +145,12 @@ same-length-21 c = search needs
 
 returns-3 : tie.Need-returns-3
 returns-3 c =
-    let s = c .before .before .before .before .before .before .before .before .before .before .before .before .before .before .before .before .before .before .before .before .before .before .before .before .before .before .before .before .before .before .before .before in
-    let n = c .before .before .before .before .before .before .before .before .before .before .before .before .before .before .before .before .before .before .before .before .before .fill-nodes .ensures in
-    refused-nine (s .args .p) (s .args .masks .now) (s .args .parents .now) (s .args .ranks .now) (s .args .sources .now) (s .args .leaves .now) (s .args .targets .now) (s .args .priorities .now) (s .pre .0) (s .pre .1) _ _ _ _ _ _ _ (nodes-none (s .args .p) (s .args .masks .now) (s .args .parents .now) (s .args .ranks .now) (n .0) (c .before .before .before .before .before .before .before .before .before .before .before .before .before .enum-told2 .given .1)) (n .1) (c .before .before .before .before .before .before .before .before .clear-built .ensures)
+    let s = c .before .before .before .before .before .before .before .before .before .before .before .before .before .before .before .before .before .before .before .before .before .before .before .before .before .before .before .before .before .before .before .before .before .before .before .before .before .before .before in
+    let n = c .before .before .before .before .before .before .before .before .before .before .before .before .before .before .before .before .before .before .before .before .before .before .before .before .before .before .before .before .fill-nodes in
+    let b = c .before .before .before .before .before .before .before .before .before .before .before .build in
+    let f = nodes-fits (s .args .p) (s .args .masks .now) (s .args .parents .now) (s .args .ranks .now) (n .ensures .0) (c .before .before .before .before .before .before .before .before .before .before .before .before .before .before .before .before .before .before .before .before .nodes .given .1) in
+    let g = whole-fits (s .args .p) (s .args .sources .now) (b .ensures .0) (c .before .states .given .1) in
+    translated (s .args .p) (s .args .masks .now) (s .args .parents .now) (s .args .ranks .now) (s .args .sources .now) (s .args .leaves .now) (s .args .targets .now) (s .args .priorities .now) (s .pre .0) (s .pre .1) _ _ _ _ _ _ _ (f .0) (f .1) (g .0) (g .1) (g .2) (n .ensures .1) (b .ensures .1)
 
 pub fill-spec : {M : Type 1} → statement M
 fill-spec =
@@ -153,15 +158,7 @@ fill-spec =
     (tie.spec
     fill-nodes-requires
     enum-known-nodes
-    build-requires
-    enum-known-states
-    cast-t36
-    cast-t37
     enum-told
-    clear64-requires
-    clear16-requires
-    clear8-requires
-    enum-told-2
     clear-built-requires
     same-length
     same-length-2
@@ -171,6 +168,12 @@ fill-spec =
     same-length-6
     same-length-7
     returns
+    build-requires
+    enum-known-states
+    enum-told-2
+    clear64-requires
+    clear16-requires
+    clear8-requires
     same-length-8
     same-length-9
     same-length-10
@@ -179,6 +182,8 @@ fill-spec =
     same-length-13
     same-length-14
     returns-2
+    cast-t50
+    cast-t51
     same-length-15
     same-length-16
     same-length-17

@@ -1,9 +1,7 @@
 -- `translating::has_fitting_lengths` meets its contract. Assumes nothing.
-use native.Mathlib.Omega.{arith}
 use mathlib.Core.Path.{refl}
 use Rattle.policy.proofs.Laws.{legal-counts}
 use Rattle.builder.specs.Tables.{lengthsFit}
-use borrow.Author.Needs.{needs}
 use Rattle.builder.proofs.translating.has_fitting_lengths.Statement.{statement}
 use Rattle.builder.proofs.translating.has_fitting_lengths.Tie as tie
 
