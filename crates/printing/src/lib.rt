@@ -111,7 +111,16 @@ fn translate_rows(
 ) -> Translation
     requires { ⌜ (rows ≤ length (now targets)) × (rows ≤ length (now priorities)) ⌝ }
 {
-    builder::translating::translate(p, masks, parents, ranks, sources, leaves, &mut targets[..rows], &mut priorities[..rows])
+    builder::translating::translate(
+        p,
+        masks,
+        parents,
+        ranks,
+        sources,
+        leaves,
+        &mut targets[..rows],
+        &mut priorities[..rows],
+    )
 }
 
 // The translation of a policy, in tables of 1,024 nodes and 1,024 states.
