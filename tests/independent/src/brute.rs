@@ -1,0 +1,122 @@
+//! The definitions, word for word, by listing edge sets. For policies of few edges.
+
+use crate::policy::Policy;
+use crate::{Automaton, Node, NONE};
+
+/// Some closed path uses exactly these edges: the set is not empty, and every edge leads to every other inside it.
+pub fn is_cycle(p: &Policy, mask: u64) -> bool {
+    let edges: Vec<usize> = (0..p.edges.len()).filter(|e| mask >> e & 1 == 1).collect();
+    !edges.is_empty()
+        && edges.iter().all(|&from| {
+            let mut reached = vec![false; p.states];
+            reached[p.edges[from].0] = true;
+            for _ in 0..p.states {
+                for &e in &edges {
+                    if reached[p.source(e)] {
+                        reached[p.edges[e].0] = true;
+                    }
+                }
+            }
+            edges.iter().all(|&to| reached[p.source(to)])
+        })
+}
+
+fn largest(of: Vec<u64>) -> Vec<u64> {
+    of.iter().copied().filter(|&m| !of.iter().any(|&x| x != m && x & m == m)).collect()
+}
+
+/// All cycles, ascending.
+pub fn cycles(p: &Policy) -> Vec<u64> {
+    (1..1u64 << p.edges.len()).filter(|&m| is_cycle(p, m)).collect()
+}
+
+fn grow(p: &Policy, all: &[u64], mask: u64, parent: usize, priority: usize, nodes: &mut Vec<Node>) {
+    let number = nodes.len();
+    nodes.push(Node { mask, parent, priority });
+    let inner = all.iter().copied().filter(|&m| m & mask == m && p.accepts(m) != p.accepts(mask)).collect();
+    for child in largest(inner) {
+        grow(p, all, child, number, priority + 1, nodes);
+    }
+}
+
+pub fn forest(p: &Policy) -> Vec<Node> {
+    let all = cycles(p);
+    let mut nodes = Vec::new();
+    for root in largest(all.clone()) {
+        grow(p, &all, root, NONE, if p.accepts(root) { 0 } else { 1 }, &mut nodes);
+    }
+    nodes
+}
+
+fn contains(p: &Policy, n: &Node, v: usize) -> bool {
+    (0..p.edges.len()).any(|e| n.mask >> e & 1 == 1 && p.source(e) == v)
+}
+
+fn children(nodes: &[Node], n: usize) -> Vec<usize> {
+    (0..nodes.len()).filter(|&j| nodes[j].parent == n).collect()
+}
+
+fn leaves(p: &Policy, nodes: &[Node], v: usize) -> Vec<usize> {
+    (0..nodes.len())
+        .filter(|&n| contains(p, &nodes[n], v) && !children(nodes, n).iter().any(|&j| contains(p, &nodes[j], v)))
+        .collect()
+}
+
+fn branch(nodes: &[Node], mut n: usize) -> Vec<usize> {
+    let mut up = vec![n];
+    while nodes[n].parent != NONE {
+        n = nodes[n].parent;
+        up.push(n);
+    }
+    up
+}
+
+/// The leaf and the priority of edge `e` from leaf `l`.
+fn step(p: &Policy, nodes: &[Node], e: usize, l: usize) -> (usize, usize) {
+    let w = p.edges[e].0;
+    let of_w = leaves(p, nodes, w);
+    if !nodes.iter().any(|n| n.parent == NONE && n.mask >> e & 1 == 1) {
+        return (of_w.first().copied().unwrap_or(NONE), 0);
+    }
+    let up = branch(nodes, l);
+    let n = *up.iter().find(|&&n| nodes[n].mask >> e & 1 == 1).unwrap();
+    if of_w.contains(&n) {
+        return (n, nodes[n].priority);
+    }
+    let with_w: Vec<usize> = children(nodes, n).into_iter().filter(|&j| contains(p, &nodes[j], w)).collect();
+    let entered = match up.iter().find(|&&c| nodes[c].parent == n) {
+        None => with_w[0],
+        Some(&c) => with_w.iter().copied().find(|&j| j > c).unwrap_or(with_w[0]),
+    };
+    let leaf = of_w.into_iter().find(|&x| branch(nodes, x).contains(&entered)).unwrap();
+    (leaf, nodes[n].priority)
+}
+
+pub fn translate(p: &Policy) -> Automaton {
+    let nodes = forest(p);
+    let mut states = Vec::new();
+    for v in 0..p.states {
+        let of_v = leaves(p, &nodes, v);
+        if of_v.is_empty() {
+            states.push((v, NONE));
+        }
+        states.extend(of_v.into_iter().map(|l| (v, l)));
+    }
+    let number = |v: usize, l: usize| states.iter().position(|&s| s == (v, l)).unwrap();
+    let mut rows = Vec::new();
+    for &(v, l) in &states {
+        for a in 0..p.letters {
+            let e = v * p.letters + a;
+            let (leaf, priority) = step(p, &nodes, e, l);
+            rows.push((number(p.edges[e].0, leaf), priority));
+        }
+    }
+    let first = leaves(p, &nodes, p.initial).first().copied().unwrap_or(NONE);
+    let start = number(p.initial, first);
+    Automaton { nodes, states, rows, start }
+}
+
+/// Every cycle has the same verdict in both policies, which have one graph.
+pub fn same(p: &Policy, q: &Policy) -> bool {
+    cycles(p).into_iter().all(|m| p.accepts(m) == q.accepts(m))
+}

@@ -1,0 +1,79 @@
+//! Judging a stem and a loop by running them until they repeat.
+
+use crate::policy::Policy;
+use crate::Refusal;
+use std::collections::HashMap;
+
+/// The colours that recur and whether they are accepted.
+pub fn policy(p: &Policy, state: usize, stem: &[u8], cycle: &[u8]) -> Result<(usize, bool), Refusal> {
+    if state >= p.states {
+        return Err(11);
+    }
+    if cycle.is_empty() {
+        return Err(14);
+    }
+    if stem.iter().chain(cycle).any(|&a| a as usize >= p.letters) {
+        return Err(12);
+    }
+    let mut v = state;
+    for &a in stem {
+        v = p.edges[v * p.letters + a as usize].0;
+    }
+    let mut seen: HashMap<usize, usize> = HashMap::new();
+    let mut met = Vec::new();
+    loop {
+        if let Some(&from) = seen.get(&v) {
+            let set = met[from..].iter().fold(0, |s, x| s | x);
+            return Ok((set, p.family[set]));
+        }
+        seen.insert(v, met.len());
+        let mut set = 0;
+        for &a in cycle {
+            let edge = p.edges[v * p.letters + a as usize];
+            set |= 1 << edge.1;
+            v = edge.0;
+        }
+        met.push(set);
+    }
+}
+
+/// The least priority that recurs.
+pub fn rows(letters: usize, targets: &[u16], priorities: &[u8], state: usize, stem: &[u8], cycle: &[u8]) -> Result<u8, Refusal> {
+    if !(1..=8).contains(&letters) || targets.len() != priorities.len() || targets.len() % letters != 0 || targets.len() / letters > 65_535 {
+        return Err(8);
+    }
+    let states = targets.len() / letters;
+    if state >= states {
+        return Err(11);
+    }
+    if cycle.is_empty() {
+        return Err(14);
+    }
+    if stem.iter().chain(cycle).any(|&a| a as usize >= letters) {
+        return Err(12);
+    }
+    let step = |s: usize, a: u8| {
+        let row = s * letters + a as usize;
+        let t = targets[row] as usize;
+        if t < states { Ok((t, priorities[row])) } else { Err(13) }
+    };
+    let mut s = state;
+    for &a in stem {
+        s = step(s, a)?.0;
+    }
+    let mut seen: HashMap<usize, usize> = HashMap::new();
+    let mut met = Vec::new();
+    loop {
+        if let Some(&from) = seen.get(&s) {
+            return Ok(*met[from..].iter().min().unwrap());
+        }
+        seen.insert(s, met.len());
+        let mut least = 255;
+        for &a in cycle {
+            let (t, k) = step(s, a)?;
+            least = least.min(k);
+            s = t;
+        }
+        met.push(least);
+    }
+}

@@ -1,0 +1,45 @@
+//! The two independent ways agree with each other, and both with document 01's listing of policy B.
+
+use independent::random::Random;
+use independent::{brute, fast, judge, policy};
+
+#[test]
+fn both_ways_agree() {
+    let mut random = Random::new(1);
+    for i in 0..500 {
+        let p = random.policy(if i % 50 == 0 { 12 } else { 8 });
+        assert_eq!(policy::read(&p.bytes()), Ok((p.clone(), p.bytes().len())));
+        let slow = brute::translate(&p);
+        let quick = fast::translate(&p, 100_000, 100_000).unwrap();
+        assert_eq!(slow, quick, "{}", p.hex());
+        let mut q = p.clone();
+        for edge in &mut q.edges {
+            edge.1 = random.below(q.colours);
+        }
+        if p.edges.len() <= 8 {
+            assert_eq!(brute::same(&p, &q), fast::same(&p, &q), "{} {}", p.hex(), q.hex());
+        }
+        let targets: Vec<u16> = quick.rows.iter().map(|r| r.0 as u16).collect();
+        let priorities: Vec<u8> = quick.rows.iter().map(|r| r.1 as u8).collect();
+        for _ in 0..5 {
+            let (stem, mut cycle) = (random.letters(p.letters, 5), random.letters(p.letters, 7));
+            cycle.push(random.below(p.letters) as u8);
+            let s = random.below(quick.states.len());
+            let (_, yes) = judge::policy(&p, quick.states[s].0, &stem, &cycle).unwrap();
+            let least = judge::rows(p.letters, &targets, &priorities, s, &stem, &cycle).unwrap();
+            assert_eq!(least % 2 == 0, yes, "{} {stem:?} {cycle:?}", p.hex());
+        }
+    }
+}
+
+#[test]
+fn policy_b_prints_as_document_01_shows() {
+    let bytes = [1, 2, 2, 2, 0, 2, 0, 0, 0, 0, 2, 0, 1, 1, 1, 2, 1, 0, 0, 0, 2, 1, 1, 1, 1, 3, 1, 3, 2, 0];
+    let (p, end) = policy::read(&bytes).unwrap();
+    assert_eq!(end, bytes.len());
+    let shown = "nodes 3 states 2\nn 0 15 - 1\nn 1 1 0 2\nn 2 8 0 2\ns 0 0 1\ns 1 1 2\nt 0 0 0 2\nt 0 1 1 1\nt 1 0 0 1\nt 1 1 1 2\nstart 0\n";
+    assert_eq!(brute::translate(&p).listing(2), shown);
+    assert_eq!(fast::translate(&p, 3, 2).unwrap().listing(2), shown);
+    assert_eq!(fast::translate(&p, 2, 2), Err(9));
+    assert_eq!(fast::translate(&p, 3, 1), Err(10));
+}
