@@ -46,10 +46,10 @@ three : (n c a n′ c′ a′ : ℕ) → n ≡ n′ → c ≡ c′ → a ≡ a�
 three n c a n′ c′ a′ e f g = rw (e, f, g) refl
 
 module _ (p : Policy) (m₀ q₀ r₀ s₀ l₀ t₀ k₀ : List ℕ) where
-  abbrev pub lent : Tables
-  lent = tables m₀ q₀ r₀ s₀ l₀ t₀ k₀
+  abbrev pub entry : Tables
+  entry = tables m₀ q₀ r₀ s₀ l₀ t₀ k₀
 
-  pub fit-lengths : lengthsFit p lent ≡ true → (length q₀ ≡ length m₀) × (length r₀ ≡ length m₀) × Sized p s₀ l₀ t₀ k₀
+  pub fit-lengths : lengthsFit p entry ≡ true → (length q₀ ≡ length m₀) × (length r₀ ≡ length m₀) × Sized p s₀ l₀ t₀ k₀
   unfolding lengthsFit
   fit-lengths h = (
     sym (eqb≡ (length m₀) (length q₀) (and-l a b h2)),
@@ -84,30 +84,30 @@ module _ (p : Policy) (m₀ q₀ r₀ s₀ l₀ t₀ k₀ : List ℕ) where
 
   -- the answer and the tables, in one
   abbrev pub Ends : Translation → List ℕ → List ℕ → List ℕ → List ℕ → List ℕ → List ℕ → List ℕ → Type 0
-  Ends x m q r s l w k = (x ≡ translationOf p lent) × Hold (tablesAfter p lent) m q r s l w k
+  Ends x m q r s l w k = (x ≡ translationOf p entry) × Hold (tablesAfter p entry) m q r s l w k
 
   abbrev done : Translation
   done = Translated (length (forest p)) (length (built p)) (start p)
 
-  same : Hold lent m₀ q₀ r₀ s₀ l₀ t₀ k₀
+  same : Hold entry m₀ q₀ r₀ s₀ l₀ t₀ k₀
   same = record { masks-are = refl; parents-are = refl; ranks-are = refl; sources-are = refl; leaves-are = refl; targets-are = refl; priorities-are = refl }
 
   -- 7 and 8 leave the tables as they were
   pub refused-seven : legal p ≡ false → Ends (Refused 7) m₀ q₀ r₀ s₀ l₀ t₀ k₀
   unfolding translationOf tablesAfter
   refused-seven e =
-      let n = no-first (legal p) (lengthsFit p lent) (nodesFit p lent) (statesFit p lent) done (filled p lent) (cleared p lent) lent e in
+      let n = no-first (legal p) (lengthsFit p entry) (nodesFit p entry) (statesFit p entry) done (filled p entry) (cleared p entry) entry e in
       (n .0, subst (λ (x : Tables). Hold x m₀ q₀ r₀ s₀ l₀ t₀ k₀) (n .1) same)
 
-  pub refused-eight : legal p ≡ true → lengthsFit p lent ≡ false → Ends (Refused 8) m₀ q₀ r₀ s₀ l₀ t₀ k₀
+  pub refused-eight : legal p ≡ true → lengthsFit p entry ≡ false → Ends (Refused 8) m₀ q₀ r₀ s₀ l₀ t₀ k₀
   unfolding translationOf tablesAfter
   refused-eight t e =
-      let n = no-second (legal p) (lengthsFit p lent) (nodesFit p lent) (statesFit p lent) done (filled p lent) (cleared p lent) lent t e in
+      let n = no-second (legal p) (lengthsFit p entry) (nodesFit p entry) (statesFit p entry) done (filled p entry) (cleared p entry) entry t e in
       (n .0, subst (λ (x : Tables). Hold x m₀ q₀ r₀ s₀ l₀ t₀ k₀) (n .1) same)
 
-  module _ (t : legal p ≡ true) (h : lengthsFit p lent ≡ true) (m q r s l w k : List ℕ) where
+  module _ (t : legal p ≡ true) (h : lengthsFit p entry ≡ true) (m q r s l w k : List ℕ) where
     held-filled : (m ≡ padded (length m₀) (nodeMasks p)) × (q ≡ padded (length q₀) (nodeParents p)) × (r ≡ padded (length r₀) (nodeRanks p)) → builtFit p s₀ ≡ true → BuiltTables p s₀ l₀ t₀ k₀ s l w k
-        → Hold (filled p lent) m q r s l w k
+        → Hold (filled p entry) m q r s l w k
     unfolding filled
     held-filled n f b = record {
       masks-are = n .0;
@@ -119,7 +119,7 @@ module _ (p : Policy) (m₀ q₀ r₀ s₀ l₀ t₀ k₀ : List ℕ) where
       priorities-are = rw f at (b .priorities-are);
     }
 
-    held-cleared : (m ≡ zeros m₀) × (q ≡ zeros q₀) × (r ≡ zeros r₀) → (s ≡ zeros s₀) × (l ≡ zeros l₀) × (w ≡ zeros t₀) × (k ≡ zeros k₀) → Hold (cleared p lent) m q r s l w k
+    held-cleared : (m ≡ zeros m₀) × (q ≡ zeros q₀) × (r ≡ zeros r₀) → (s ≡ zeros s₀) × (l ≡ zeros l₀) × (w ≡ zeros t₀) × (k ≡ zeros k₀) → Hold (cleared p entry) m q r s l w k
     unfolding cleared
     held-cleared n b = record { masks-are = n .0; parents-are = n .1; ranks-are = n .2; sources-are = b .0; leaves-are = b .1; targets-are = b .2; priorities-are = b .3 }
 
@@ -131,14 +131,14 @@ module _ (p : Policy) (m₀ q₀ r₀ s₀ l₀ t₀ k₀ : List ℕ) where
         → Ends (Refused 9) m q r s l w k
     unfolding translationOf tablesAfter nodesFit
     refused-nine f e b =
-        let n = no-third (legal p) (lengthsFit p lent) (nodesFit p lent) (statesFit p lent) done (filled p lent) (cleared p lent) lent t h f in
+        let n = no-third (legal p) (lengthsFit p entry) (nodesFit p entry) (statesFit p entry) done (filled p entry) (cleared p entry) entry t h f in
         (n .0, subst (λ (x : Tables). Hold x m q r s l w k) (n .1) (held-cleared (nodes-cleared p m₀ q₀ r₀ m q r e f) b))
 
     pub refused-ten : node-tables.nodesFit p (nodeTables m₀ q₀ r₀) ≡ true → builtFit p s₀ ≡ false → (m ≡ zeros m₀) × (q ≡ zeros q₀) × (r ≡ zeros r₀) → BuiltTables p s₀ l₀ t₀ k₀ s l w k
         → Ends (Refused 10) m q r s l w k
     unfolding translationOf tablesAfter nodesFit statesFit builtFit
     refused-ten f g z b =
-        let n = no-fourth (legal p) (lengthsFit p lent) (nodesFit p lent) (statesFit p lent) done (filled p lent) (cleared p lent) lent t h f g in
+        let n = no-fourth (legal p) (lengthsFit p entry) (nodesFit p entry) (statesFit p entry) done (filled p entry) (cleared p entry) entry t h f g in
         (n .0, subst (λ (x : Tables). Hold x m q r s l w k) (n .1) (held-cleared z (built-zero g b)))
 
     -- both counts and the start
@@ -146,5 +146,5 @@ module _ (p : Policy) (m₀ q₀ r₀ s₀ l₀ t₀ k₀ : List ℕ) where
         → nodeTables m q r ≡ filledOf p (nodeTables m₀ q₀ r₀) → BuiltTables p s₀ l₀ t₀ k₀ s l w k → Ends (Translated n c a) m q r s l w k
     unfolding translationOf tablesAfter nodesFit statesFit builtFit
     translated {n} {c} {a} f en g ec ea e b =
-        let y = all-four (legal p) (lengthsFit p lent) (nodesFit p lent) (statesFit p lent) done (filled p lent) (cleared p lent) lent t h f g in
+        let y = all-four (legal p) (lengthsFit p entry) (nodesFit p entry) (statesFit p entry) done (filled p entry) (cleared p entry) entry t h f g in
         (three n c a (length (forest p)) (length (built p)) (start p) en ec ea ∙ y .0, subst (λ (x : Tables). Hold x m q r s l w k) (y .1) (held-filled (nodes-filled p m₀ q₀ r₀ m q r e f) g b))

@@ -1,4 +1,4 @@
--- What the stages that fill in the automaton's tables hand to one another: the lengths of lent tables, the first rows, and the four tables of states and rows at
+-- What the stages that fill in the automaton's tables hand to one another: the lengths of the tables, the first rows, and the four tables of states and rows at
 -- the end.
 use Prim.Native.Nat.{ℕ, _*_, _≤_}
 use mathlib.Core.Path.{_≡_}

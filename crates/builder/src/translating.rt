@@ -1,4 +1,4 @@
-// Translating: the gatekeeper's questions, then the nodes, the built states and the rows, each stage into the lent tables.
+// Translating: the questions 7 to 10, then the nodes, the built states and the rows, each stage into the caller's tables.
 use crate::Translation;
 use decomposition::nodes::Filled;
 use policy::Policy;
@@ -85,7 +85,7 @@ fn fill_built(
     priorities: &mut [u8],
 ) -> Building
     requires nodes { ⌜ (legal p ≡ true) × Nodes p (now masks) (now parents) (now ranks) × Ends p (now ends) × (count ≡ length (forest p)) ⌝ }
-    requires lent { ⌜ Sized p (now sources) (now leaves) (now targets) (now priorities) × Clear (now sources) (now leaves) (now targets) (now priorities) ⌝ }
+    requires room { ⌜ Sized p (now sources) (now leaves) (now targets) (now priorities) × Clear (now sources) (now leaves) (now targets) (now priorities) ⌝ }
     ensures answer { λ r. ⌜ r ≡ buildingOf p (now (sources .entry)) ⌝ }
     ensures written { λ _. ⌜ BuiltTables p (now (sources .entry)) (now (leaves .entry)) (now (targets .entry)) (now (priorities .entry)) (now (sources .exit)) (now (leaves .exit)) (now (targets .exit)) (now (priorities .exit)) ⌝ }
 {

@@ -1,6 +1,4 @@
 // The alternating cycle decomposition of a policy.
-pub mod nodes;
-
 ghost use mathlib.Core.Path.{_≡_};
 ghost use mathlib.Core.Logic.{_≢_};
 ghost use mathlib.Core.List.{List·Memᴰ};
@@ -10,6 +8,7 @@ ghost use Rattle.decomposition.specs.Forest.{before, inOrder};
 ghost use Rattle.decomposition.specs.Siblings.{around, isLargest, standsAfter, better, rootBetter, childBetter, childrenIn, nextIn};
 
 pub mod listing;
+pub mod nodes;
 
 // ---- siblings, found in a list of masks; 0 stands for none
 

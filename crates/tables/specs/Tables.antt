@@ -1,4 +1,4 @@
--- What a lent table holds: a list, and 0 in every place past it.
+-- What a table holds: a list, and 0 in every place past it.
 use Prim.Native.Nat.{ℕ, _-_}
 use mathlib.Core.List.{List, _++_}
 use lib.ListN.{length, replicate}
