@@ -22,18 +22,31 @@ pub fn is_cycle(p: &Policy, mask: u64) -> bool {
 }
 
 fn largest(of: Vec<u64>) -> Vec<u64> {
-    of.iter().copied().filter(|&m| !of.iter().any(|&x| x != m && x & m == m)).collect()
+    of.iter()
+        .copied()
+        .filter(|&m| !of.iter().any(|&x| x != m && x & m == m))
+        .collect()
 }
 
 /// All cycles, ascending.
 pub fn cycles(p: &Policy) -> Vec<u64> {
-    (1..1u64 << p.edges.len()).filter(|&m| is_cycle(p, m)).collect()
+    (1..1u64 << p.edges.len())
+        .filter(|&m| is_cycle(p, m))
+        .collect()
 }
 
-fn grow(p: &Policy, all: &[u64], mask: u64, parent: usize, priority: usize, nodes: &mut Vec<Node>) {
-    let number = nodes.len();
-    nodes.push(Node { mask, parent, priority });
-    let inner = all.iter().copied().filter(|&m| m & mask == m && p.accepts(m) != p.accepts(mask)).collect();
+fn grow(p: &Policy, all: &[u64], mask: u64, parent: u16, priority: u8, nodes: &mut Vec<Node>) {
+    let number = nodes.len() as u16;
+    nodes.push(Node {
+        mask,
+        parent,
+        priority,
+    });
+    let inner = all
+        .iter()
+        .copied()
+        .filter(|&m| m & mask == m && p.accepts(m) != p.accepts(mask))
+        .collect();
     for child in largest(inner) {
         grow(p, all, child, number, priority + 1, nodes);
     }
@@ -43,7 +56,14 @@ pub fn forest(p: &Policy) -> Vec<Node> {
     let all = cycles(p);
     let mut nodes = Vec::new();
     for root in largest(all.clone()) {
-        grow(p, &all, root, NONE, if p.accepts(root) { 0 } else { 1 }, &mut nodes);
+        grow(
+            p,
+            &all,
+            root,
+            NONE,
+            if p.accepts(root) { 0 } else { 1 },
+            &mut nodes,
+        );
     }
     nodes
 }
@@ -53,43 +73,59 @@ fn contains(p: &Policy, n: &Node, v: usize) -> bool {
 }
 
 fn children(nodes: &[Node], n: usize) -> Vec<usize> {
-    (0..nodes.len()).filter(|&j| nodes[j].parent == n).collect()
+    (0..nodes.len())
+        .filter(|&j| nodes[j].parent as usize == n)
+        .collect()
 }
 
 fn leaves(p: &Policy, nodes: &[Node], v: usize) -> Vec<usize> {
     (0..nodes.len())
-        .filter(|&n| contains(p, &nodes[n], v) && !children(nodes, n).iter().any(|&j| contains(p, &nodes[j], v)))
+        .filter(|&n| {
+            contains(p, &nodes[n], v)
+                && !children(nodes, n)
+                    .iter()
+                    .any(|&j| contains(p, &nodes[j], v))
+        })
         .collect()
 }
 
 fn branch(nodes: &[Node], mut n: usize) -> Vec<usize> {
     let mut up = vec![n];
     while nodes[n].parent != NONE {
-        n = nodes[n].parent;
+        n = nodes[n].parent as usize;
         up.push(n);
     }
     up
 }
 
 /// The leaf and the priority of edge `e` from leaf `l`.
-fn step(p: &Policy, nodes: &[Node], e: usize, l: usize) -> (usize, usize) {
+fn step(p: &Policy, nodes: &[Node], e: usize, l: u16) -> (u16, u8) {
     let w = p.edges[e].0;
     let of_w = leaves(p, nodes, w);
-    if !nodes.iter().any(|n| n.parent == NONE && n.mask >> e & 1 == 1) {
-        return (of_w.first().copied().unwrap_or(NONE), 0);
+    if !nodes
+        .iter()
+        .any(|n| n.parent == NONE && n.mask >> e & 1 == 1)
+    {
+        return (of_w.first().map_or(NONE, |&n| n as u16), 0);
     }
-    let up = branch(nodes, l);
+    let up = branch(nodes, l as usize);
     let n = *up.iter().find(|&&n| nodes[n].mask >> e & 1 == 1).unwrap();
     if of_w.contains(&n) {
-        return (n, nodes[n].priority);
+        return (n as u16, nodes[n].priority);
     }
-    let with_w: Vec<usize> = children(nodes, n).into_iter().filter(|&j| contains(p, &nodes[j], w)).collect();
-    let entered = match up.iter().find(|&&c| nodes[c].parent == n) {
+    let with_w: Vec<usize> = children(nodes, n)
+        .into_iter()
+        .filter(|&j| contains(p, &nodes[j], w))
+        .collect();
+    let entered = match up.iter().find(|&&c| nodes[c].parent as usize == n) {
         None => with_w[0],
         Some(&c) => with_w.iter().copied().find(|&j| j > c).unwrap_or(with_w[0]),
     };
-    let leaf = of_w.into_iter().find(|&x| branch(nodes, x).contains(&entered)).unwrap();
-    (leaf, nodes[n].priority)
+    let leaf = of_w
+        .into_iter()
+        .find(|&x| branch(nodes, x).contains(&entered))
+        .unwrap();
+    (leaf as u16, nodes[n].priority)
 }
 
 pub fn translate(p: &Policy) -> Automaton {
@@ -98,22 +134,29 @@ pub fn translate(p: &Policy) -> Automaton {
     for v in 0..p.states {
         let of_v = leaves(p, &nodes, v);
         if of_v.is_empty() {
-            states.push((v, NONE));
+            states.push((v as u8, NONE));
         }
-        states.extend(of_v.into_iter().map(|l| (v, l)));
+        states.extend(of_v.into_iter().map(|l| (v as u8, l as u16)));
     }
-    let number = |v: usize, l: usize| states.iter().position(|&s| s == (v, l)).unwrap();
+    let number = |v: usize, l: u16| states.iter().position(|&s| s == (v as u8, l)).unwrap() as u16;
     let mut rows = Vec::new();
     for &(v, l) in &states {
         for a in 0..p.letters {
-            let e = v * p.letters + a;
+            let e = v as usize * p.letters + a;
             let (leaf, priority) = step(p, &nodes, e, l);
             rows.push((number(p.edges[e].0, leaf), priority));
         }
     }
-    let first = leaves(p, &nodes, p.initial).first().copied().unwrap_or(NONE);
+    let first = leaves(p, &nodes, p.initial)
+        .first()
+        .map_or(NONE, |&n| n as u16);
     let start = number(p.initial, first);
-    Automaton { nodes, states, rows, start }
+    Automaton {
+        nodes,
+        states,
+        rows,
+        start,
+    }
 }
 
 /// Every cycle has the same verdict in both policies, which have one graph.

@@ -1,26 +1,63 @@
 //! A quick translator: children of a cycle by taking colours away from it, one at a time, and splitting what is left into strongly connected components.
+//! A [`Translator`] keeps its buffers from one policy to the next.
 
 use crate::policy::Policy;
 use crate::{Automaton, Node, Refusal, NONE};
 use std::collections::{HashMap, HashSet};
+use std::hash::{BuildHasherDefault, Hasher};
 
-struct Graph<'a> {
-    p: &'a Policy,
+/// A hash for edge sets and states: one multiplication.
+#[derive(Default)]
+pub(crate) struct Mix(u64);
+
+impl Hasher for Mix {
+    fn finish(&self) -> u64 {
+        self.0
+    }
+    fn write(&mut self, _: &[u8]) {
+        unreachable!("only numbers of 64 bits are hashed");
+    }
+    fn write_u64(&mut self, mask: u64) {
+        let x = (mask ^ mask >> 32).wrapping_mul(0x9e37_79b9_7f4a_7c15);
+        self.0 = x ^ x >> 29;
+    }
+}
+
+type Masks = HashSet<u64, BuildHasherDefault<Mix>>;
+
+#[derive(Default)]
+struct Graph {
+    states: usize,
     /// The edges of each colour.
     by_colour: Vec<u64>,
     /// The edges that leave each state.
     leaving: Vec<u64>,
+    source: Vec<u8>,
+    target: Vec<u8>,
+    family: Vec<bool>,
 }
 
-impl<'a> Graph<'a> {
-    fn new(p: &'a Policy) -> Self {
-        let mut by_colour = vec![0; p.colours];
-        let mut leaving = vec![0; p.states];
+/// All edges.
+fn full(p: &Policy) -> u64 {
+    u64::MAX >> (64 - p.edges.len())
+}
+
+impl Graph {
+    fn set(&mut self, p: &Policy) {
+        self.states = p.states;
+        self.by_colour.clear();
+        self.by_colour.resize(p.colours, 0);
+        self.leaving.clear();
+        self.leaving.resize(p.states, 0);
+        self.source.clear();
+        self.target.clear();
+        self.family.clone_from(&p.family);
         for (e, edge) in p.edges.iter().enumerate() {
-            by_colour[edge.1] |= 1u64 << e;
-            leaving[p.source(e)] |= 1u64 << e;
+            self.by_colour[edge.1] |= 1u64 << e;
+            self.leaving[e / p.letters] |= 1u64 << e;
+            self.source.push((e / p.letters) as u8);
+            self.target.push(edge.0 as u8);
         }
-        Graph { p, by_colour, leaving }
     }
 
     fn colours(&self, mask: u64) -> usize {
@@ -32,7 +69,7 @@ impl<'a> Graph<'a> {
     }
 
     fn accepts(&self, mask: u64) -> bool {
-        self.p.family[self.colours(mask)]
+        self.family[self.colours(mask)]
     }
 
     fn states(&self, mask: u64) -> u16 {
@@ -51,40 +88,44 @@ impl<'a> Graph<'a> {
         while rest != 0 {
             let e = rest.trailing_zeros() as usize;
             rest &= rest - 1;
-            let (v, w) = (self.p.source(e), self.p.edges[e].0);
+            let (v, w) = (self.source[e] as usize & 15, self.target[e] as usize & 15);
             next[v] |= 1 << w;
             back[w] |= 1 << v;
         }
-        let closure = |from: usize, step: &[u16; 16]| {
+        let closure = |from: usize, step: &[u16; 16], within: u16| {
             let mut seen = 1u16 << from;
             let mut todo = seen;
             while todo != 0 {
-                let v = todo.trailing_zeros() as usize;
+                let v = todo.trailing_zeros() as usize & 15;
                 todo &= todo - 1;
-                let new = step[v] & !seen;
+                let new = step[v] & within & !seen;
                 seen |= new;
                 todo |= new;
             }
             seen
         };
-        let mut done = 0u16;
-        for v in 0..self.p.states {
-            if done >> v & 1 == 1 || next[v] == 0 {
-                continue;
+        let mut left = 0u16;
+        for v in 0..self.states {
+            left |= ((next[v] != 0 && back[v] != 0) as u16) << v;
+        }
+        while left != 0 {
+            let v = left.trailing_zeros() as usize;
+            let after = closure(v, &next, left);
+            let part = closure(v, &back, after);
+            left &= !part;
+            let mut inner = 0;
+            let mut states = part;
+            while states != 0 {
+                inner |= self.leaving[states.trailing_zeros() as usize];
+                states &= states - 1;
             }
-            let part = closure(v, &next) & closure(v, &back);
-            done |= part;
-            let mut found = 0;
-            for u in 0..self.p.states {
-                if part >> u & 1 == 1 {
-                    let mut leaving = mask & self.leaving[u];
-                    while leaving != 0 {
-                        let e = leaving.trailing_zeros() as usize;
-                        leaving &= leaving - 1;
-                        if part >> self.p.edges[e].0 & 1 == 1 {
-                            found |= 1u64 << e;
-                        }
-                    }
+            inner &= mask;
+            let mut found = inner;
+            while inner != 0 {
+                let e = inner.trailing_zeros() as usize;
+                inner &= inner - 1;
+                if part >> (self.target[e] & 15) & 1 == 0 {
+                    found &= !(1u64 << e);
                 }
             }
             if found != 0 {
@@ -92,186 +133,229 @@ impl<'a> Graph<'a> {
             }
         }
     }
+}
 
-    /// The largest cycles of the other verdict inside a cycle, ascending.
-    fn children(&self, mask: u64) -> Vec<u64> {
-        let verdict = self.accepts(mask);
-        let mut found: Vec<u64> = Vec::new();
-        let mut seen = HashSet::new();
-        let mut todo = vec![mask];
-        let mut parts = Vec::new();
-        while let Some(cycle) = todo.pop() {
-            for edges in &self.by_colour {
+/// The children of the cycles met so far, one list after the other, and what the search for them needs.
+#[derive(Default)]
+struct Children {
+    known: HashMap<u64, (u32, u32), BuildHasherDefault<Mix>>,
+    lists: Vec<u64>,
+    seen: Masks,
+    todo: Vec<u64>,
+    parts: Vec<u64>,
+    found: Vec<u64>,
+}
+
+impl Children {
+    fn clear(&mut self) {
+        self.known.clear();
+        self.lists.clear();
+    }
+
+    /// Where the list of the largest cycles of the other verdict inside a cycle stands; they ascend.
+    fn of(&mut self, g: &Graph, mask: u64) -> (usize, usize) {
+        if let Some(&(from, to)) = self.known.get(&mask) {
+            return (from as usize, to as usize);
+        }
+        let verdict = g.accepts(mask);
+        self.found.clear();
+        self.seen.clear();
+        self.todo.push(mask);
+        while let Some(cycle) = self.todo.pop() {
+            for edges in &g.by_colour {
                 let less = cycle & !edges;
-                if less == cycle || less == 0 || !seen.insert(less) {
+                if less == cycle || less == 0 || !self.seen.insert(less) {
                     continue;
                 }
-                parts.clear();
-                self.components(less, &mut parts);
-                for &part in &parts {
-                    if self.accepts(part) != verdict {
-                        found.push(part);
+                self.parts.clear();
+                g.components(less, &mut self.parts);
+                for &part in &self.parts {
+                    if g.accepts(part) != verdict {
+                        self.found.push(part);
                     } else {
-                        todo.push(part);
+                        self.todo.push(part);
                     }
                 }
             }
         }
-        found.sort_by_key(|m| std::cmp::Reverse(m.count_ones()));
-        found.dedup();
-        let mut kept: Vec<u64> = Vec::new();
-        for m in found {
-            if !kept.iter().any(|&x| x & m == m) {
-                kept.push(m);
+        self.found
+            .sort_unstable_by_key(|m| std::cmp::Reverse(m.count_ones()));
+        let from = self.lists.len();
+        for &m in &self.found {
+            if !self.lists[from..].iter().any(|&x| x & m == m) {
+                self.lists.push(m);
             }
         }
-        kept.sort();
-        kept
+        self.lists[from..].sort_unstable();
+        self.known
+            .insert(mask, (from as u32, self.lists.len() as u32));
+        (from, self.lists.len())
     }
 }
 
-struct Builder<'a> {
-    g: Graph<'a>,
-    known: HashMap<u64, Vec<u64>>,
-    room: usize,
-    nodes: Vec<Node>,
-    /// First child, next sibling, states contained.
-    first: Vec<usize>,
-    next: Vec<usize>,
+/// A translator with its buffers.
+#[derive(Default)]
+pub struct Translator {
+    g: Graph,
+    children: Children,
+    roots: Vec<u64>,
+    /// First child and next sibling of each node, and the states that it contains.
+    first: Vec<u16>,
+    next: Vec<u16>,
     states: Vec<u16>,
+    /// The policy states that each node is a leaf of, and the built state of (node, policy state) or the first one below.
+    leaf_of: Vec<u16>,
+    at: Vec<u16>,
+    out: Automaton,
 }
 
-impl Builder<'_> {
-    fn grow(&mut self, mask: u64, parent: usize, priority: usize) -> Result<usize, Refusal> {
-        let number = self.nodes.len();
-        if number == self.room {
+impl Translator {
+    /// Translates into tables of so many nodes and states.
+    pub fn translate(
+        &mut self,
+        p: &Policy,
+        node_room: usize,
+        state_room: usize,
+    ) -> Result<&Automaton, Refusal> {
+        self.g.set(p);
+        self.children.clear();
+        self.roots.clear();
+        self.g.components(full(p), &mut self.roots);
+        self.roots.sort_unstable();
+        self.out.nodes.clear();
+        self.first.clear();
+        self.next.clear();
+        self.states.clear();
+        for i in 0..self.roots.len() {
+            let root = self.roots[i];
+            let priority = if self.g.accepts(root) { 0 } else { 1 };
+            self.grow(root, NONE, priority, node_room.min(NONE as usize))?;
+        }
+        self.build(p, state_room.min(NONE as usize))?;
+        Ok(&self.out)
+    }
+
+    fn grow(&mut self, mask: u64, parent: u16, priority: u8, room: usize) -> Result<u16, Refusal> {
+        let number = self.out.nodes.len();
+        if number == room {
             return Err(9);
         }
-        self.nodes.push(Node { mask, parent, priority });
+        self.out.nodes.push(Node {
+            mask,
+            parent,
+            priority,
+        });
         self.first.push(NONE);
         self.next.push(NONE);
         self.states.push(self.g.states(mask));
-        let children = match self.known.get(&mask) {
-            Some(c) => c.clone(),
-            None => {
-                let c = self.g.children(mask);
-                self.known.insert(mask, c.clone());
-                c
-            }
-        };
+        let (from, to) = self.children.of(&self.g, mask);
         let mut last = NONE;
-        for child in children {
-            let c = self.grow(child, number, priority + 1)?;
+        for i in from..to {
+            let c = self.grow(self.children.lists[i], number as u16, priority + 1, room)?;
             if last == NONE {
                 self.first[number] = c;
             } else {
-                self.next[last] = c;
+                self.next[last as usize] = c;
             }
             last = c;
         }
-        Ok(number)
+        Ok(number as u16)
     }
-}
 
-/// Translates into tables of so many nodes and states.
-pub fn translate(p: &Policy, node_room: usize, state_room: usize) -> Result<Automaton, Refusal> {
-    let g = Graph::new(p);
-    let mut roots = Vec::new();
-    let all = if p.edges.len() == 64 { u64::MAX } else { (1u64 << p.edges.len()) - 1 };
-    g.components(all, &mut roots);
-    roots.sort();
-    let mut b = Builder {
-        g,
-        known: HashMap::new(),
-        room: node_room.min(NONE),
-        nodes: Vec::new(),
-        first: Vec::new(),
-        next: Vec::new(),
-        states: Vec::new(),
-    };
-    for root in roots {
-        let priority = if b.g.accepts(root) { 0 } else { 1 };
-        b.grow(root, NONE, priority)?;
-    }
-    rows(p, b, state_room.min(NONE))
-}
-
-fn rows(p: &Policy, b: Builder, state_room: usize) -> Result<Automaton, Refusal> {
-    let count = b.nodes.len();
-    // the states that each node is a leaf of
-    let mut leaf_of = b.states.clone();
-    for n in 0..count {
-        let parent = b.nodes[n].parent;
-        if parent != NONE {
-            leaf_of[parent] &= !b.states[n];
-        }
-    }
-    let mut states = Vec::new();
-    // the built state of (node, policy state); the first one at or below the node
-    let mut at = vec![NONE; count * 16];
-    let mut first_of = [0; 16];
-    for v in 0..p.states {
-        first_of[v] = states.len();
-        for (n, set) in leaf_of.iter().enumerate() {
-            if set >> v & 1 == 1 {
-                at[n * 16 + v] = states.len();
-                states.push((v, n));
+    fn build(&mut self, p: &Policy, state_room: usize) -> Result<(), Refusal> {
+        let (nodes, states, rows) = (&self.out.nodes, &mut self.out.states, &mut self.out.rows);
+        self.leaf_of.clone_from(&self.states);
+        for (n, node) in nodes.iter().enumerate() {
+            if node.parent != NONE {
+                self.leaf_of[node.parent as usize] &= !self.states[n];
             }
         }
-        if first_of[v] == states.len() {
-            states.push((v, NONE));
+        states.clear();
+        rows.clear();
+        self.at.clear();
+        self.at.resize(nodes.len() * p.states, NONE);
+        let mut first_of = [0; 16];
+        for v in 0..p.states {
+            first_of[v] = states.len() as u16;
+            for (n, set) in self.leaf_of.iter().enumerate() {
+                if set >> v & 1 == 1 {
+                    self.at[n * p.states + v] = states.len() as u16;
+                    states.push((v as u8, n as u16));
+                }
+            }
+            if first_of[v] as usize == states.len() {
+                states.push((v as u8, NONE));
+            }
+            if states.len() > state_room {
+                return Err(10);
+            }
         }
-        if states.len() > state_room {
-            return Err(10);
-        }
-    }
-    for n in (0..count).rev() {
-        let parent = b.nodes[n].parent;
-        if parent != NONE {
-            for v in 0..p.states {
-                if b.states[n] >> v & 1 == 1 {
-                    at[parent * 16 + v] = at[n * 16 + v];
+        for (n, node) in nodes.iter().enumerate().rev() {
+            if node.parent != NONE {
+                let mut set = self.states[n];
+                while set != 0 {
+                    let v = set.trailing_zeros() as usize;
+                    set &= set - 1;
+                    self.at[node.parent as usize * p.states + v] = self.at[n * p.states + v];
                 }
             }
         }
-    }
-    let mut rows = Vec::with_capacity(states.len() * p.letters);
-    for &(v, l) in &states {
-        for a in 0..p.letters {
-            let e = v * p.letters + a;
-            rows.push(row(&b, &at, &first_of, e, p.edges[e].0, l));
+        for &(v, l) in states.iter() {
+            for a in 0..p.letters {
+                let e = v as usize * p.letters + a;
+                let w = self.g.target[e] as usize;
+                let (mut n, mut led) = (l, NONE);
+                while n != NONE && nodes[n as usize].mask >> e & 1 == 0 {
+                    led = n;
+                    n = nodes[n as usize].parent;
+                }
+                if n == NONE {
+                    rows.push((first_of[w], 0));
+                    continue;
+                }
+                let mut c = if led == NONE {
+                    NONE
+                } else {
+                    self.next[led as usize]
+                };
+                while c != NONE && self.states[c as usize] >> w & 1 == 0 {
+                    c = self.next[c as usize];
+                }
+                let c = if c == NONE { n } else { c };
+                rows.push((
+                    self.at[c as usize * p.states + w],
+                    nodes[n as usize].priority,
+                ));
+            }
         }
+        self.out.start = first_of[p.initial];
+        Ok(())
     }
-    Ok(Automaton { nodes: b.nodes, states, rows, start: first_of[p.initial] })
 }
 
-fn row(b: &Builder, at: &[usize], first_of: &[usize; 16], e: usize, w: usize, l: usize) -> (usize, usize) {
-    let (mut n, mut led) = (l, NONE);
-    while n != NONE && b.nodes[n].mask >> e & 1 == 0 {
-        led = n;
-        n = b.nodes[n].parent;
-    }
-    if n == NONE {
-        return (first_of[w], 0);
-    }
-    let has = |c: usize| b.states[c] >> w & 1 == 1;
-    let mut c = if led == NONE { NONE } else { b.next[led] };
-    while c != NONE && !has(c) {
-        c = b.next[c];
-    }
-    if c == NONE {
-        c = n;
-    }
-    (at[c * 16 + w], b.nodes[n].priority)
+/// Translates with buffers of its own.
+pub fn translate(p: &Policy, node_room: usize, state_room: usize) -> Result<Automaton, Refusal> {
+    Translator::default()
+        .translate(p, node_room, state_room)
+        .cloned()
 }
 
-/// Every cycle has the same verdict in both policies, which have one graph.
-pub fn same(p: &Policy, q: &Policy) -> bool {
-    let (g, h) = (Graph::new(p), Graph::new(q));
-    let mut seen = HashSet::new();
+/// Compares two policies: whether every cycle has the same verdict in both.
+pub fn compare(p: &Policy, q: &Policy) -> Result<bool, Refusal> {
+    let targets = |p: &Policy| -> Vec<usize> { p.edges.iter().map(|e| e.0).collect() };
+    if (p.states, p.letters) != (q.states, q.letters) || targets(p) != targets(q) {
+        return Err(15);
+    }
+    Ok(same(p, q))
+}
+
+fn same(p: &Policy, q: &Policy) -> bool {
+    let (mut g, mut h) = (Graph::default(), Graph::default());
+    g.set(p);
+    h.set(q);
+    let mut seen = Masks::default();
     let mut todo = Vec::new();
-    let all = if p.edges.len() == 64 { u64::MAX } else { (1u64 << p.edges.len()) - 1 };
-    g.components(all, &mut todo);
+    g.components(full(p), &mut todo);
     while let Some(cycle) = todo.pop() {
         if g.accepts(cycle) != h.accepts(cycle) {
             return false;

@@ -1,11 +1,18 @@
 //! Judging a stem and a loop by running them until they repeat.
 
+use crate::fast::Mix;
 use crate::policy::Policy;
 use crate::Refusal;
 use std::collections::HashMap;
+use std::hash::BuildHasherDefault;
 
 /// The colours that recur and whether they are accepted.
-pub fn policy(p: &Policy, state: usize, stem: &[u8], cycle: &[u8]) -> Result<(usize, bool), Refusal> {
+pub fn policy(
+    p: &Policy,
+    state: usize,
+    stem: &[u8],
+    cycle: &[u8],
+) -> Result<(usize, bool), Refusal> {
     if state >= p.states {
         return Err(11);
     }
@@ -19,14 +26,15 @@ pub fn policy(p: &Policy, state: usize, stem: &[u8], cycle: &[u8]) -> Result<(us
     for &a in stem {
         v = p.edges[v * p.letters + a as usize].0;
     }
-    let mut seen: HashMap<usize, usize> = HashMap::new();
+    // when each state began a round, and the colours of each round
+    let mut began = [usize::MAX; 16];
     let mut met = Vec::new();
     loop {
-        if let Some(&from) = seen.get(&v) {
-            let set = met[from..].iter().fold(0, |s, x| s | x);
+        if began[v] != usize::MAX {
+            let set = met[began[v]..].iter().fold(0, |s, x| s | x);
             return Ok((set, p.family[set]));
         }
-        seen.insert(v, met.len());
+        began[v] = met.len();
         let mut set = 0;
         for &a in cycle {
             let edge = p.edges[v * p.letters + a as usize];
@@ -38,8 +46,19 @@ pub fn policy(p: &Policy, state: usize, stem: &[u8], cycle: &[u8]) -> Result<(us
 }
 
 /// The least priority that recurs.
-pub fn rows(letters: usize, targets: &[u16], priorities: &[u8], state: usize, stem: &[u8], cycle: &[u8]) -> Result<u8, Refusal> {
-    if !(1..=8).contains(&letters) || targets.len() != priorities.len() || targets.len() % letters != 0 || targets.len() / letters > 65_535 {
+pub fn rows(
+    letters: usize,
+    targets: &[u16],
+    priorities: &[u8],
+    state: usize,
+    stem: &[u8],
+    cycle: &[u8],
+) -> Result<u8, Refusal> {
+    if !(1..=8).contains(&letters)
+        || targets.len() != priorities.len()
+        || targets.len() % letters != 0
+        || targets.len() / letters > 65_535
+    {
         return Err(8);
     }
     let states = targets.len() / letters;
@@ -55,19 +74,23 @@ pub fn rows(letters: usize, targets: &[u16], priorities: &[u8], state: usize, st
     let step = |s: usize, a: u8| {
         let row = s * letters + a as usize;
         let t = targets[row] as usize;
-        if t < states { Ok((t, priorities[row])) } else { Err(13) }
+        if t < states {
+            Ok((t, priorities[row]))
+        } else {
+            Err(13)
+        }
     };
     let mut s = state;
     for &a in stem {
         s = step(s, a)?.0;
     }
-    let mut seen: HashMap<usize, usize> = HashMap::new();
+    let mut began: HashMap<u64, usize, BuildHasherDefault<Mix>> = HashMap::default();
     let mut met = Vec::new();
     loop {
-        if let Some(&from) = seen.get(&s) {
+        if let Some(&from) = began.get(&(s as u64)) {
             return Ok(*met[from..].iter().min().unwrap());
         }
-        seen.insert(s, met.len());
+        began.insert(s as u64, met.len());
         let mut least = 255;
         for &a in cycle {
             let (t, k) = step(s, a)?;

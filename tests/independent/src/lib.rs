@@ -7,31 +7,38 @@ pub mod judge;
 pub mod policy;
 pub mod random;
 
-pub const NONE: usize = 65_535;
+/// No node: what a root's parent and a missing leaf look like.
+pub const NONE: u16 = 65_535;
 
 /// A node of the forest.
 #[derive(Clone, Debug, PartialEq, Eq)]
 pub struct Node {
     pub mask: u64,
-    pub parent: usize,
-    pub priority: usize,
+    pub parent: u16,
+    pub priority: u8,
 }
 
 /// The forest and the automaton.
-#[derive(Clone, Debug, PartialEq, Eq)]
+#[derive(Clone, Debug, Default, PartialEq, Eq)]
 pub struct Automaton {
     pub nodes: Vec<Node>,
     /// Policy state and leaf of each built state.
-    pub states: Vec<(usize, usize)>,
+    pub states: Vec<(u8, u16)>,
     /// Target and priority of each row.
-    pub rows: Vec<(usize, usize)>,
-    pub start: usize,
+    pub rows: Vec<(u16, u8)>,
+    pub start: u16,
 }
 
 impl Automaton {
     /// The listing of the program `translate`.
     pub fn listing(&self, letters: usize) -> String {
-        let dash = |n: usize| if n == NONE { "-".to_string() } else { n.to_string() };
+        let dash = |n: u16| {
+            if n == NONE {
+                "-".to_string()
+            } else {
+                n.to_string()
+            }
+        };
         let mut out = format!("nodes {} states {}\n", self.nodes.len(), self.states.len());
         for (i, n) in self.nodes.iter().enumerate() {
             out += &format!("n {} {} {} {}\n", i, n.mask, dash(n.parent), n.priority);

@@ -36,11 +36,39 @@ impl Policy {
         self.bytes().iter().map(|b| format!("{b:02x}")).collect()
     }
 
+    /// The policy as a record: counts and initial state, 64 targets, 64 colours, and a byte for each of the 256 colour sets.
+    pub fn record(&self) -> [u8; 388] {
+        let mut out = [0; 388];
+        out[..4].copy_from_slice(
+            &[self.states, self.letters, self.colours, self.initial].map(|x| x as u8),
+        );
+        for (e, edge) in self.edges.iter().enumerate() {
+            out[4 + e] = edge.0 as u8;
+            out[68 + e] = edge.1 as u8;
+        }
+        for (set, &member) in self.family.iter().enumerate() {
+            out[132 + set] = member as u8;
+        }
+        out
+    }
+
     /// The policy as command bytes.
     pub fn bytes(&self) -> Vec<u8> {
-        let mut out = vec![1, self.states as u8, self.letters as u8, self.colours as u8, self.initial as u8];
+        let mut out = vec![
+            1,
+            self.states as u8,
+            self.letters as u8,
+            self.colours as u8,
+            self.initial as u8,
+        ];
         for (e, edge) in self.edges.iter().enumerate() {
-            out.extend([2, self.source(e) as u8, (e % self.letters) as u8, edge.0 as u8, edge.1 as u8]);
+            out.extend([
+                2,
+                self.source(e) as u8,
+                (e % self.letters) as u8,
+                edge.0 as u8,
+                edge.1 as u8,
+            ]);
         }
         for (set, &member) in self.family.iter().enumerate() {
             if member {
@@ -52,11 +80,44 @@ impl Policy {
     }
 }
 
+/// The policy of a record, if it is legal.
+pub fn from_record(r: &[u8; 388]) -> Option<Policy> {
+    let [states, letters, colours, initial] = [r[0], r[1], r[2], r[3]].map(|x| x as usize);
+    let edges = states * letters;
+    let counts = (1..=16).contains(&states)
+        && (1..=8).contains(&letters)
+        && (1..=8).contains(&colours)
+        && edges <= 64
+        && initial < states;
+    if !counts {
+        return None;
+    }
+    let (targets, rest) = r[4..].split_at(64);
+    let (colour, family) = rest.split_at(64);
+    let inside =
+        (0..edges).all(|e| (targets[e] as usize) < states && (colour[e] as usize) < colours);
+    let zero = targets[edges..]
+        .iter()
+        .chain(&colour[edges..])
+        .all(|&x| x == 0);
+    let sets = family[0] == 0 && family[1 << colours..].iter().all(|&x| x == 0);
+    (inside && zero && sets).then(|| Policy {
+        states,
+        letters,
+        colours,
+        initial,
+        edges: (0..edges)
+            .map(|e| (targets[e] as usize, colour[e] as usize))
+            .collect(),
+        family: family[..1 << colours].iter().map(|&x| x != 0).collect(),
+    })
+}
+
 /// Reads command bytes: the policy and where the rest begins, or the number and the offset.
 pub fn read(bytes: &[u8]) -> Result<(Policy, usize), (u8, usize)> {
     let mut at = 0;
     let mut policy: Option<Policy> = None;
-    let mut given: Vec<bool> = Vec::new();
+    let mut given = 0u64;
     loop {
         let refuse = |number| Err((number, at));
         let Some(&code) = bytes.get(at) else {
@@ -71,14 +132,20 @@ pub fn read(bytes: &[u8]) -> Result<(Policy, usize), (u8, usize)> {
         if bytes.len() - at - 1 < operands {
             return refuse(1);
         }
-        let o: Vec<usize> = bytes[at + 1..at + 1 + operands].iter().map(|&b| b as usize).collect();
+        let mut o = [0; 4];
+        for (i, &b) in bytes[at + 1..at + 1 + operands].iter().enumerate() {
+            o[i] = b as usize;
+        }
         match (&mut policy, code) {
             (None, 1) => {
-                let within = (1..=16).contains(&o[0]) && (1..=8).contains(&o[1]) && (1..=8).contains(&o[2]) && o[0] * o[1] <= 64 && o[3] < o[0];
+                let within = (1..=16).contains(&o[0])
+                    && (1..=8).contains(&o[1])
+                    && (1..=8).contains(&o[2])
+                    && o[0] * o[1] <= 64
+                    && o[3] < o[0];
                 if !within {
                     return refuse(4);
                 }
-                given = vec![false; o[0] * o[1]];
                 policy = Some(Policy {
                     states: o[0],
                     letters: o[1],
@@ -94,9 +161,10 @@ pub fn read(bytes: &[u8]) -> Result<(Policy, usize), (u8, usize)> {
                     return refuse(4);
                 }
                 let e = o[0] * p.letters + o[1];
-                if std::mem::replace(&mut given[e], true) {
+                if given >> e & 1 == 1 {
                     return refuse(5);
                 }
+                given |= 1 << e;
                 p.edges[e] = (o[2], o[3]);
             }
             (Some(p), 3) => {
@@ -108,10 +176,10 @@ pub fn read(bytes: &[u8]) -> Result<(Policy, usize), (u8, usize)> {
                 }
             }
             (Some(p), _) => {
-                if given.contains(&false) {
+                if (given.count_ones() as usize) < p.edges.len() {
                     return refuse(6);
                 }
-                return Ok((p.clone(), at + 1));
+                return Ok((policy.unwrap(), at + 1));
             }
         }
         at += 1 + operands;

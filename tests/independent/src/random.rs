@@ -57,8 +57,22 @@ impl Random {
         let density = [0, 10, 30, 50, 80, 100][self.below(6)];
         let parity = self.chance(20);
         let family = (0..1usize << colours)
-            .map(|set| set != 0 && if parity { set.count_ones() % 2 == 0 } else { self.chance(density) })
+            .map(|set| {
+                set != 0
+                    && if parity {
+                        set.count_ones() % 2 == 0
+                    } else {
+                        self.chance(density)
+                    }
+            })
             .collect();
-        Policy { states, letters, colours, initial: self.below(states), edges, family }
+        Policy {
+            states,
+            letters,
+            colours,
+            initial: self.below(states),
+            edges,
+            family,
+        }
     }
 }

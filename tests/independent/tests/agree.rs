@@ -17,15 +17,21 @@ fn both_ways_agree() {
             edge.1 = random.below(q.colours);
         }
         if p.edges.len() <= 8 {
-            assert_eq!(brute::same(&p, &q), fast::same(&p, &q), "{} {}", p.hex(), q.hex());
+            assert_eq!(
+                brute::same(&p, &q),
+                fast::compare(&p, &q).unwrap(),
+                "{} {}",
+                p.hex(),
+                q.hex()
+            );
         }
-        let targets: Vec<u16> = quick.rows.iter().map(|r| r.0 as u16).collect();
-        let priorities: Vec<u8> = quick.rows.iter().map(|r| r.1 as u8).collect();
+        let targets: Vec<u16> = quick.rows.iter().map(|r| r.0).collect();
+        let priorities: Vec<u8> = quick.rows.iter().map(|r| r.1).collect();
         for _ in 0..5 {
             let (stem, mut cycle) = (random.letters(p.letters, 5), random.letters(p.letters, 7));
             cycle.push(random.below(p.letters) as u8);
             let s = random.below(quick.states.len());
-            let (_, yes) = judge::policy(&p, quick.states[s].0, &stem, &cycle).unwrap();
+            let (_, yes) = judge::policy(&p, quick.states[s].0 as usize, &stem, &cycle).unwrap();
             let least = judge::rows(p.letters, &targets, &priorities, s, &stem, &cycle).unwrap();
             assert_eq!(least % 2 == 0, yes, "{} {stem:?} {cycle:?}", p.hex());
         }
@@ -34,7 +40,9 @@ fn both_ways_agree() {
 
 #[test]
 fn policy_b_prints_as_document_01_shows() {
-    let bytes = [1, 2, 2, 2, 0, 2, 0, 0, 0, 0, 2, 0, 1, 1, 1, 2, 1, 0, 0, 0, 2, 1, 1, 1, 1, 3, 1, 3, 2, 0];
+    let bytes = [
+        1, 2, 2, 2, 0, 2, 0, 0, 0, 0, 2, 0, 1, 1, 1, 2, 1, 0, 0, 0, 2, 1, 1, 1, 1, 3, 1, 3, 2, 0,
+    ];
     let (p, end) = policy::read(&bytes).unwrap();
     assert_eq!(end, bytes.len());
     let shown = "nodes 3 states 2\nn 0 15 - 1\nn 1 1 0 2\nn 2 8 0 2\ns 0 0 1\ns 1 1 2\nt 0 0 0 2\nt 0 1 1 1\nt 1 0 0 1\nt 1 1 1 2\nstart 0\n";

@@ -7,7 +7,11 @@ use std::process::{Command, Stdio};
 
 fn program(bytes: &[u8]) -> String {
     let path = std::env::var("TRANSLATE").expect("TRANSLATE names the program");
-    let mut child = Command::new(path).stdin(Stdio::piped()).stdout(Stdio::piped()).spawn().unwrap();
+    let mut child = Command::new(path)
+        .stdin(Stdio::piped())
+        .stdout(Stdio::piped())
+        .spawn()
+        .unwrap();
     child.stdin.take().unwrap().write_all(bytes).unwrap();
     String::from_utf8(child.wait_with_output().unwrap().stdout).unwrap()
 }
