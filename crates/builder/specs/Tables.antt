@@ -3,7 +3,7 @@
 use Prim.Native.Nat.{ℕ, _*_, min}
 use mathlib.Core.Path.{_≡_}
 use mathlib.Core.Bool.{Bool, _&&_, cond}
-use mathlib.Core.List.{List, map}
+use mathlib.Core.List.{List, [], _∷_, map}
 use lib.Dec.{eqb, leb}
 use lib.ListN.{length}
 use Rattle.tables.specs.Tables.{padded, zeros}
@@ -26,6 +26,18 @@ pub record Tables : Type 0 where
   pub targets : List ℕ
   pub priorities : List ℕ
 
+-- ---- document 01's number and values for each answer
+-- the number of the refusal; 0 where the policy was translated
+abbrev pub numberOf : Translation → ℕ
+numberOf (Translated nodes states start) = 0
+numberOf (Refused number) = number
+
+-- how many nodes, how many built states, and the start; 0 each after a refusal
+abbrev pub countsOf : Translation → List ℕ
+countsOf (Translated nodes states start) = nodes ∷ states ∷ start ∷ []
+countsOf (Refused number) = 0 ∷ 0 ∷ 0 ∷ []
+
+-- ---- the tables
 -- only the first 65,535 places of a table count
 unfoldable pub places : List ℕ → ℕ
 places t = min (length t) 65535

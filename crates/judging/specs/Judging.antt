@@ -38,6 +38,31 @@ unfoldable pub leastOf : List ℕ → ℕ
 leastOf [] = 255
 leastOf (x ∷ xs) = let r = leastOf xs in cond (ltb x r) x r
 
+-- ---- document 01's number and values for each answer
+-- the number of the refusal; 0 where the policy was judged
+abbrev pub policyNumberOf : PolicyVerdict → ℕ
+policyNumberOf (Judged colours accepted) = 0
+policyNumberOf (RefusedPolicy number) = number
+
+-- the recurring colours, and yes or no; none and no after a refusal
+abbrev pub policyColoursOf : PolicyVerdict → ℕ
+policyColoursOf (Judged colours accepted) = colours
+policyColoursOf (RefusedPolicy number) = 0
+
+abbrev pub policyAcceptedOf : PolicyVerdict → Bool
+policyAcceptedOf (Judged colours accepted) = accepted
+policyAcceptedOf (RefusedPolicy number) = false
+
+-- the number of the refusal; 0 where the rows were judged
+abbrev pub rowsNumberOf : RowsVerdict → ℕ
+rowsNumberOf (Least priority) = 0
+rowsNumberOf (RefusedRows number) = number
+
+-- the least recurring priority; 0 after a refusal
+abbrev pub rowsLeastOf : RowsVerdict → ℕ
+rowsLeastOf (Least priority) = priority
+rowsLeastOf (RefusedRows number) = 0
+
 -- ---- judging a policy from a state: 7, 11, 14, 12; then the recurring colours and their verdict
 module _ (p : Policy) (v : ℕ) (stem loop : List ℕ) where
   -- among the policy's states, the window is what recurs

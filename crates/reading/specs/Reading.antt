@@ -182,15 +182,15 @@ readingFrom bytes at d = readMost (length bytes + 1 - at) bytes at d
 unfoldable pub readingOf : List ℕ → Answer
 readingOf bytes = readingFrom bytes 0 emptyDraft
 
--- ---- document 01's values for each outcome
+-- ---- document 01's number and values for each outcome
 -- the number of the refusal; 0 where the policy was read
 abbrev pub numberOf : Outcome → ℕ
 numberOf (Read end) = 0
 numberOf (Refused number at) = number
 
--- the offset of the refused command's first byte; 0 where the policy was read
+-- where the part handed back begins; after a refusal, the offset of the refused command's first byte
 abbrev pub offsetOf : Outcome → ℕ
-offsetOf (Read end) = 0
+offsetOf (Read end) = end
 offsetOf (Refused number at) = at
 
 -- what follows the end command; empty after a refusal

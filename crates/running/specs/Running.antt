@@ -25,10 +25,21 @@ module _ (p : Policy) where
 abbrev pub rowOf : ℕ → ℕ → ℕ → ℕ
 rowOf letters s a = s * letters + a
 
+-- document 01's number and values for each answer
+-- the number of the refusal; 0 where the letter was read
+abbrev pub numberOf : Reading → ℕ
+numberOf (Moved r k) = 0
+numberOf (Refused n r) = n
+
 -- the run after a letter
 abbrev pub runAfter : Reading → Run
 runAfter (Moved r k) = r
 runAfter (Refused n r) = r
+
+-- the priority given back; 0 after a refusal
+abbrev pub priorityOf : Reading → ℕ
+priorityOf (Moved r k) = k
+priorityOf (Refused n r) = 0
 
 -- the priority met; a refused letter meets none
 abbrev pub prioritiesOf : Reading → List ℕ
