@@ -1,0 +1,143 @@
+// The functions of the static library, for C and for Rust (include/wulfrenda.h). A policy crosses the boundary as a record of 388 bytes (specs/Records.antt). Each function that
+// can refuse returns document 01's number, 0 where nothing was refused, and writes what else it answers into places that the caller lends.
+pub mod answers;
+pub mod records;
+
+use running::Run;
+ghost use mathlib.Core.Path.{_≡_};
+ghost use Rattle.colour_sets.specs.Order.{setAt};
+ghost use Rattle.reading.specs.Reading.{offsetOf, readingOf, numberOf as readNumberOf};
+ghost use Rattle.builder.specs.Tables.{countsOf, translationOf, tablesAfter, Hold, tables, numberOf as translateNumberOf};
+ghost use Rattle.running.specs.Running.{runAfter, priorityOf, numberOf as runNumberOf, readingOf as runReadingOf};
+ghost use Rattle.judging.specs.Judging.{policyNumberOf, policyColoursOf, policyAcceptedOf, policyVerdict, rowsNumberOf, rowsLeastOf, rowsVerdict};
+ghost use Rattle.comparing.specs.Comparing.{sameOf, comparison, numberOf as compareNumberOf};
+ghost use Rattle.wulfrenda.specs.Records.{flag, policyOf, recordOf};
+
+// The colour set at a position of the fixed order.
+#[no_mangle]
+pub extern "C" fn wulfrenda_colour_set(position: u8) -> u8
+    ensures { λ r. ⌜ r ≡ setAt position ⌝ }
+{
+    colour_sets::set_at(position)
+}
+
+// The record of the policy that the command bytes give, and where what follows the end command begins; after a refusal a record of zeros, and the offset of the refused command.
+#[no_mangle]
+pub extern "C" fn wulfrenda_read(bytes: &[u8], packed: &mut [u8; 388], offset: &mut usize) -> u8
+    ensures number { λ r. ⌜ r ≡ readNumberOf (readingOf (now (bytes .entry)) .outcome) ⌝ }
+    ensures policy { λ _. ⌜ now (packed .exit) ≡ recordOf (readingOf (now (bytes .entry)) .policy) ⌝ }
+    ensures offset { λ _. ⌜ now (offset .exit) ≡ offsetOf (readingOf (now (bytes .entry)) .outcome) ⌝ }
+{
+    let answer = reading::read(bytes);
+    let p = answer.policy;
+    let outcome = answer.outcome;
+    *packed = records::record_of(p);
+    *offset = answers::read_offset(outcome);
+    answers::read_number(outcome)
+}
+
+// The forest and the automaton in the seven tables; the numbers of nodes and states, and the start, in counts.
+#[no_mangle]
+pub extern "C" fn wulfrenda_translate(
+    packed: &[u8; 388],
+    masks: &mut [u64],
+    parents: &mut [u16],
+    ranks: &mut [u8],
+    sources: &mut [u8],
+    leaves: &mut [u16],
+    targets: &mut [u16],
+    priorities: &mut [u8],
+    counts: &mut [u16; 3],
+) -> u8
+    ensures number { λ r. ⌜ r ≡ translateNumberOf (translationOf (policyOf (now (packed .entry))) (tables (now (masks .entry)) (now (parents .entry)) (now (ranks .entry)) (now (sources .entry)) (now (leaves .entry)) (now (targets .entry)) (now (priorities .entry)))) ⌝ }
+    ensures counts { λ _. ⌜ now (counts .exit) ≡ countsOf (translationOf (policyOf (now (packed .entry))) (tables (now (masks .entry)) (now (parents .entry)) (now (ranks .entry)) (now (sources .entry)) (now (leaves .entry)) (now (targets .entry)) (now (priorities .entry)))) ⌝ }
+    ensures tables { λ _. ⌜ Hold (tablesAfter (policyOf (now (packed .entry))) (tables (now (masks .entry)) (now (parents .entry)) (now (ranks .entry)) (now (sources .entry)) (now (leaves .entry)) (now (targets .entry)) (now (priorities .entry)))) (now (masks .exit)) (now (parents .exit)) (now (ranks .exit)) (now (sources .exit)) (now (leaves .exit)) (now (targets .exit)) (now (priorities .exit)) ⌝ }
+{
+    let p = records::policy_of(packed);
+    let t = builder::translating::translate(
+        p,
+        masks,
+        parents,
+        ranks,
+        sources,
+        leaves,
+        targets,
+        priorities,
+    );
+    *counts = answers::translate_counts(t);
+    answers::translate_number(t)
+}
+
+// A letter more: the state moves, or stays after a refusal; the priority is that met, or 0 after a refusal.
+#[no_mangle]
+pub extern "C" fn wulfrenda_run(
+    letters: u8,
+    targets: &[u16],
+    priorities: &[u8],
+    state: &mut u16,
+    letter: u8,
+    priority: &mut u8,
+) -> u8
+    ensures number { λ r. ⌜ r ≡ runNumberOf (runReadingOf letters (now (targets .entry)) (now (priorities .entry)) (record { state = now (state .entry) }) letter) ⌝ }
+    ensures state { λ _. ⌜ now (state .exit) ≡ runAfter (runReadingOf letters (now (targets .entry)) (now (priorities .entry)) (record { state = now (state .entry) }) letter) .state ⌝ }
+    ensures priority { λ _. ⌜ now (priority .exit) ≡ priorityOf (runReadingOf letters (now (targets .entry)) (now (priorities .entry)) (record { state = now (state .entry) }) letter) ⌝ }
+{
+    let run = Run { state: *state };
+    let x = run.read(letter, letters, targets, priorities);
+    *state = answers::run_state(x);
+    *priority = answers::run_priority(x);
+    answers::run_number(x)
+}
+
+// The colours that recur on a policy from a state over the stem and then the loop without end, and whether their set is in the family.
+#[no_mangle]
+pub extern "C" fn wulfrenda_judge_policy(
+    packed: &[u8; 388],
+    state: u8,
+    stem: &[u8],
+    cycle: &[u8],
+    colours: &mut u8,
+    accepted: &mut u8,
+) -> u8
+    ensures number { λ r. ⌜ r ≡ policyNumberOf (policyVerdict (policyOf (now (packed .entry))) state (now (stem .entry)) (now (cycle .entry))) ⌝ }
+    ensures colours { λ _. ⌜ now (colours .exit) ≡ policyColoursOf (policyVerdict (policyOf (now (packed .entry))) state (now (stem .entry)) (now (cycle .entry))) ⌝ }
+    ensures accepted { λ _. ⌜ now (accepted .exit) ≡ flag (policyAcceptedOf (policyVerdict (policyOf (now (packed .entry))) state (now (stem .entry)) (now (cycle .entry)))) ⌝ }
+{
+    let p = records::policy_of(packed);
+    let v = judging::judge_policy(p, state, stem, cycle);
+    *colours = answers::policy_colours(v);
+    *accepted = records::flag(answers::policy_accepted(v));
+    answers::policy_number(v)
+}
+
+// The least priority that recurs over rows from a state over the stem and then the loop without end.
+#[no_mangle]
+pub extern "C" fn wulfrenda_judge_rows(
+    letters: u8,
+    targets: &[u16],
+    priorities: &[u8],
+    state: u16,
+    stem: &[u8],
+    cycle: &[u8],
+    least: &mut u8,
+) -> u8
+    ensures number { λ r. ⌜ r ≡ rowsNumberOf (rowsVerdict letters (now (targets .entry)) (now (priorities .entry)) (record { state = state }) (now (stem .entry)) (now (cycle .entry))) ⌝ }
+    ensures least { λ _. ⌜ now (least .exit) ≡ rowsLeastOf (rowsVerdict letters (now (targets .entry)) (now (priorities .entry)) (record { state = state }) (now (stem .entry)) (now (cycle .entry))) ⌝ }
+{
+    let v = judging::judge_rows(letters, targets, priorities, state, stem, cycle);
+    *least = answers::rows_least(v);
+    answers::rows_number(v)
+}
+
+// Whether every cycle has the same verdict in both policies.
+#[no_mangle]
+pub extern "C" fn wulfrenda_compare(first: &[u8; 388], second: &[u8; 388], same: &mut u8) -> u8
+    ensures number { λ r. ⌜ r ≡ compareNumberOf (comparison (policyOf (now (first .entry))) (policyOf (now (second .entry)))) ⌝ }
+    ensures same { λ _. ⌜ now (same .exit) ≡ flag (sameOf (comparison (policyOf (now (first .entry))) (policyOf (now (second .entry))))) ⌝ }
+{
+    let p = records::policy_of(first);
+    let q = records::policy_of(second);
+    let c = comparing::compare(p, q);
+    *same = records::flag(answers::compare_same(c));
+    answers::compare_number(c)
+}

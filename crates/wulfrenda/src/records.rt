@@ -1,0 +1,90 @@
+// A policy as a record of 388 bytes, and back.
+use policy::Policy;
+ghost use mathlib.Core.Path.{_≡_};
+ghost use mathlib.Core.List.{map};
+ghost use Prim.Native.Nat.{_+_, _≤_};
+ghost use lib.ListN.{length};
+ghost use lib.Seq.{sets};
+ghost use Rattle.wulfrenda.specs.Records.{flag, bytesAt, flagsAt, policyOf, recordOf};
+
+// Yes or no as a byte.
+pub fn flag(b: bool) -> u8
+    ensures { λ r. ⌜ r ≡ flag b ⌝ }
+{
+    if b { 1 } else { 0 }
+}
+
+// ---- from a record
+// 64 bytes of a record, from a place on.
+fn bytes_at(packed: &[u8; 388], at: usize) -> [u8; 64]
+    requires { ⌜ at ≤ 324 ⌝ }
+    ensures { λ r. ⌜ r ≡ bytesAt (now (packed .entry)) at 64 ⌝ }
+{
+    let mut bytes = [0; 64];
+    for i in 0..64 {
+        bytes[i] = packed[at + i];
+    }
+    bytes
+}
+
+// The last 256 bytes of a record, each as yes or no.
+fn flags_at(packed: &[u8; 388]) -> [bool; 256]
+    ensures { λ r. ⌜ r ≡ flagsAt (now (packed .entry)) 132 256 ⌝ }
+{
+    let mut flags = [false; 256];
+    for i in 0..256 {
+        flags[i] = packed[132 + i] != 0;
+    }
+    flags
+}
+
+// The policy of a record.
+pub fn policy_of(packed: &[u8; 388]) -> Policy
+    ensures { λ r. ⌜ r ≡ policyOf (now (packed .entry)) ⌝ }
+{
+    Policy {
+        states: packed[0],
+        letters: packed[1],
+        colours: packed[2],
+        initial: packed[3],
+        target: bytes_at(packed, 4),
+        colour: bytes_at(packed, 68),
+        family: flags_at(packed),
+    }
+}
+
+// ---- to a record
+// Stores bytes from a place on.
+fn put_bytes(packed: &mut [u8], at: usize, bytes: &[u8])
+    requires { ⌜ at + length (now bytes) ≤ length (now packed) ⌝ }
+    ensures { λ _. ⌜ now (packed .exit) ≡ sets (now (packed .entry)) at (now (bytes .entry)) ⌝ }
+{
+    for i in 0..bytes.len() {
+        packed[at + i] = bytes[i];
+    }
+}
+
+// Stores a byte for each yes or no, from a place on.
+fn put_flags(packed: &mut [u8], at: usize, flags: &[bool])
+    requires { ⌜ at + length (now flags) ≤ length (now packed) ⌝ }
+    ensures { λ _. ⌜ now (packed .exit) ≡ sets (now (packed .entry)) at (map flag (now (flags .entry))) ⌝ }
+{
+    for i in 0..flags.len() {
+        packed[at + i] = flag(flags[i]);
+    }
+}
+
+// The record of a policy.
+pub fn record_of(p: Policy) -> [u8; 388]
+    ensures { λ r. ⌜ r ≡ recordOf p ⌝ }
+{
+    let mut packed = [0; 388];
+    packed[0] = p.states;
+    packed[1] = p.letters;
+    packed[2] = p.colours;
+    packed[3] = p.initial;
+    put_bytes(&mut packed, 4, &p.target);
+    put_bytes(&mut packed, 68, &p.colour);
+    put_flags(&mut packed, 132, &p.family);
+    packed
+}
