@@ -1,16 +1,17 @@
 -- One turn of the loops that test every number below n, and of the one that collects the colours of an edge set. Assumes nothing.
-use Prim.Native.Nat.{ℕ, _+_, _≤_, _<_}
+use Prim.Native.Nat.{ℕ, zero, suc, _+_, _-_, _^_, _≤_, _<_}
 use native.Mathlib.Omega.{arith}
 use native.Mathlib.Numerals.{add-one}
 use mathlib.Core.Path.{_≡_, refl, sym, ap, ap₂, _∙_}
-use mathlib.Core.Bool.{Bool, true, false, _&&_, cond, and-true}
+use mathlib.Core.Bool.{Bool, true, false, not, _&&_, _||_, cond, and-true, or-true, or-false}
 use mathlib.Core.List.{List, [], _∷_, _++_}
 use lib.Dec.{eqb, ltb}
+use lib.Pow.{pow-pos}
 use borrow.Author.Tests.{lt-ltb, le-ltb}
 use Rattle.lists.specs.Lists.{all, below}
 use Rattle.masks.specs.Masks.{has, insert}
 use Rattle.policy.specs.declared.Policy.{Policy}
-use Rattle.policy.specs.Policies.{edges, targetOf, colourOf, coloursBelow, legalCounts, legalEdge, legalSet, legal}
+use Rattle.policy.specs.Policies.{edges, targetOf, colourOf, coloursBelow, inFamily, legalCounts, legalEdge, legalSet, legal}
 
 -- a member more at the end
 pub all-snoc : {A : Type 0} (t : A → Bool) (l : List A) (x : A) → all t (l ++ (x ∷ [])) ≡ all t l && t x
@@ -34,6 +35,27 @@ module _ (p : Policy) where
   pub legal-edge-out : (e n : ℕ) → n ≡ edges p → n ≤ e → legalEdge p e ≡ eqb (targetOf p e) 0 && eqb (colourOf p e) 0
   unfolding legalEdge
   legal-edge-out e n q h = rw (le-ltb e (edges p) (omega arith))
+
+  -- a set of the colours, and one that is not
+  legal-set-within : (s : ℕ) → 0 < s → s < 2 ^ p .colours → legalSet p s ≡ true
+  unfolding legalSet
+  legal-set-within s h l = rw (lt-ltb 0 s h, lt-ltb s (2 ^ p .colours) l) (or-true (not (inFamily p s)))
+
+  pub legal-set-outside : (s : ℕ) → 2 ^ p .colours ≤ s → legalSet p s ≡ not (inFamily p s)
+  unfolding legalSet
+  legal-set-outside s l = rw (lt-ltb 0 s (omega (arith, pow-pos (p .colours))), le-ltb s (2 ^ p .colours) l) (or-false (not (inFamily p s)))
+
+  sets-to : (k : ℕ) → k < 2 ^ p .colours → all (legalSet p) (below (suc k)) ≡ not (inFamily p 0)
+  unfolding legalSet
+  sets-to zero l = and-true (not (inFamily p 0) || false) ∙ or-false (not (inFamily p 0))
+  sets-to (suc k) l = all-snoc (legalSet p) (below (suc k)) (suc k) ∙ ap₂ _&&_ (sets-to k (omega arith)) (legal-set-within (suc k) (omega arith) l) ∙ and-true (not (inFamily p 0))
+
+  -- of the sets of the colours only the empty one can be wrong
+  pub legal-sets-within : (n : ℕ) → n ≡ 2 ^ p .colours → not (inFamily p 0) ≡ all (legalSet p) (below n)
+  legal-sets-within n q =
+      let one : 0 < n = omega (arith, pow-pos (p .colours)) in
+      let up : suc (n - 1) ≡ n = omega arith in
+      sym (sets-to (n - 1) (omega arith)) ∙ ap (λ (k : ℕ). all (legalSet p) (below k)) up
 
   pub legal-uncounted : legalCounts p ≡ false → legal p ≡ false
   unfolding legal

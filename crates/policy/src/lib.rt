@@ -83,44 +83,31 @@ fn has_legal_counts(p: Policy) -> bool
         & (p.initial < p.states)
 }
 
-// Whether edge e leads to a state and has a colour; past the last edge, whether both are 0.
-fn has_legal_edge(p: Policy, e: usize) -> bool
-    requires { ⌜ e < 64 ⌝ }
-    ensures { λ r. ⌜ r ≡ legalEdge p e ⌝ }
-{
-    if e < edges(p) {
-        return (p.target[e] < p.states) & (p.colour[e] < p.colours);
-    }
-    (p.target[e] == 0) & (p.colour[e] == 0)
-}
-
-// Whether every edge, and every entry past the last one, is legal.
+// Whether every edge leads to a state and has a colour, and every entry past the last edge is 0.
 fn has_legal_edges(p: Policy) -> bool
     ensures { λ r. ⌜ r ≡ all (legalEdge p) (below 64) ⌝ }
 {
+    let n = edges(p);
     let mut b = true;
     for e in 0..64 {
-        b = b & has_legal_edge(p, e);
+        if e < n {
+            b = b & ((p.target[e] < p.states) & (p.colour[e] < p.colours));
+        } else {
+            b = b & ((p.target[e] == 0) & (p.colour[e] == 0));
+        }
     }
     b
 }
 
-// Whether the colour set s, if it is in the family, has members, and only colours of the policy.
-fn has_legal_set(p: Policy, s: usize) -> bool
-    requires { ⌜ (s < 256) × (p .colours ≤ 8) ⌝ }
-    ensures { λ r. ⌜ r ≡ legalSet p s ⌝ }
-{
-    !p.family[s] | ((0 < s) & (s < (1 << p.colours)))
-}
-
-// Whether every colour set of the family is legal.
+// Whether the family has neither the empty set nor one outside the colours.
 fn has_legal_sets(p: Policy) -> bool
     requires { ⌜ p .colours ≤ 8 ⌝ }
     ensures { λ r. ⌜ r ≡ all (legalSet p) (below 256) ⌝ }
 {
-    let mut b = true;
-    for s in 0..256 {
-        b = b & has_legal_set(p, s);
+    let top: usize = 1 << p.colours;
+    let mut b = !p.family[0];
+    for s in top..256 {
+        b = b & !p.family[s];
     }
     b
 }

@@ -1,24 +1,39 @@
+-- `has_legal_edges` meets its contract: b says whether every edge passed is legal. Assumes nothing.
 use Prim.Native.Nat.{_-_, _≤_}
 use native.Mathlib.Omega.{arith}
 use native.Mathlib.Nat.{le-antisymm}
-use mathlib.Core.Path.{_≡_, refl}
+use mathlib.Core.Path.{_≡_, refl, sym, _∙_}
+use mathlib.Core.Logic.{⊎-elim}
+use borrow.Author.Needs.{needs}
 use Rattle.lists.specs.Lists.{all, below}
-use Rattle.policy.specs.Policies.{legalEdge}
-use Rattle.policy.proofs.Tests.{all-turn}
+use Rattle.policy.specs.Policies.{targetOf, colourOf, legalEdge}
+use Rattle.policy.proofs.Tests.{all-turn, legal-edge-in, legal-edge-out}
 use Rattle.policy.proofs.has_legal_edges.Statement.{statement}
 use Rattle.policy.proofs.has_legal_edges.Tie as tie
 
 abbrev Inv-loop : tie.InvT-loop
-Inv-loop p b₀ e₀ b e = (e ≤ 64) × (b ≡ all (legalEdge p) (below e))
+Inv-loop p n b₀ e₀ b e = (e ≤ 64) × (b ≡ all (legalEdge p) (below e))
 
 abbrev μ-loop : tie.MeasureT-loop
-μ-loop p b₀ e₀ b e = 64 - e
+μ-loop p n b₀ e₀ b e = 64 - e
+
+edges-requires : tie.Need-edges-requires Inv-loop μ-loop
+edges-requires c κs = search needs
 
 loop-holds : tie.Need-loop-holds Inv-loop μ-loop
 loop-holds c = (omega arith, refl)
 
-has-legal-edge-requires : tie.Need-has-legal-edge-requires Inv-loop μ-loop
-has-legal-edge-requires c κs = omega arith
+element-copy-out-b : tie.Need-element-copy-out-b Inv-loop μ-loop
+element-copy-out-b c = omega arith
+
+element-copy-out-b-2 : tie.Need-element-copy-out-b-2 Inv-loop μ-loop
+element-copy-out-b-2 c = omega arith
+
+element-copy-out-b-3 : tie.Need-element-copy-out-b-3 Inv-loop μ-loop
+element-copy-out-b-3 c = omega arith
+
+element-copy-out-b-4 : tie.Need-element-copy-out-b-4 Inv-loop μ-loop
+element-copy-out-b-4 c = omega arith
 
 add-e : tie.Need-add-e Inv-loop μ-loop
 add-e c = omega arith
@@ -27,7 +42,16 @@ loop-less : tie.Need-loop-less Inv-loop μ-loop
 loop-less c = omega arith
 
 loop-again : tie.Need-loop-again Inv-loop μ-loop
-loop-again c = let d = c .before .before in (omega arith, all-turn (legalEdge (d .before .args .p)) (d .loop .e) _ _ (d .loop .inv .1) (c .has-legal-edge .ensures))
+unfolding targetOf colourOf
+loop-again c =
+    let d = c .before .before in
+    let p = d .before .before .args .t1 in
+    let e = d .loop .e in (
+      omega arith,
+      ⊎-elim (λ w. w .3 ∙ all-turn (legalEdge p) e _ _ (d .loop .inv .1) (sym (legal-edge-in p e _ (d .before .edges .ensures) (w .0 .taken))))
+          (λ w. w .3 ∙ all-turn (legalEdge p) e _ _ (d .loop .inv .1) (sym (legal-edge-out p e _ (d .before .edges .ensures) (w .0 .left))))
+          (c .if1 .came),
+    )
 
 returns : tie.Need-returns Inv-loop μ-loop
 returns c = cc (le-antisymm (c .before .loop .inv .0) (c .loop-test .left))
@@ -38,8 +62,12 @@ has-legal-edges-spec =
     (tie.spec
     Inv-loop
     μ-loop
+    edges-requires
     loop-holds
-    has-legal-edge-requires
+    element-copy-out-b
+    element-copy-out-b-2
+    element-copy-out-b-3
+    element-copy-out-b-4
     add-e
     loop-less
     loop-again
