@@ -12,7 +12,7 @@ use mathlib.Core.List.{List, [], _∷_, _++_, map, append-nil, append-assoc, Lis
 use lib.Bits.{bitAnd}
 use lib.Dec.{eqb}
 use lib.ListN.{length, take, set, length-set, length-append}
-use lib.Pow.{pow-pos}
+use lib.Pow.{pow-pos, pow-mono}
 use lib.Seq.{take-suc-set}
 use Rattle.lists.specs.Lists.{any, all, filter, flat, below}
 use Rattle.lists.proofs.Bools.{test, eqb≡, ≡eqb, neqb, and-l, and-r, both, bool-ext, not-true, not-false, same-or-not}
@@ -20,7 +20,6 @@ use Rattle.lists.proofs.Lists.{any-some, none-any, mem-below, below-lt, flat-me
 use Rattle.masks.specs.Masks.{has, insert, inside, gather}
 use Rattle.masks.proofs.Bits.{has-and, has-none, has-full, has-high, mask-ext, inside-antisym}
 use Rattle.masks.proofs.Gather.{gather-none, gather-in, gather-out}
-use Rattle.colour_sets.specs.Order.{setAt}
 use Rattle.policy.specs.declared.Policy.{Policy}
 use Rattle.policy.specs.Policies.{edges, source, colourOf, edgeColours, coloursOf, inFamily, accepting, legal}
 use Rattle.policy.proofs.Laws.{legal-counts, colours-up, accepting-is}
@@ -31,7 +30,7 @@ use Rattle.graph.proofs.Cycles.{contains-some, some-contains}
 use Rattle.graph.proofs.Coloured.{coloured-colours}
 use Rattle.graph.proofs.Through.{through-inside}
 use Rattle.decomposition.specs.Forest.{differs, full}
-use Rattle.decomposition.specs.Candidates.{lowestIs, candidateAt, candidatesOf, candidates, judged, rootAt, rootCandidates}
+use Rattle.decomposition.specs.Candidates.{lowestIs, candidateAt, candidatesOf, coloursAt, candidates, judged, rootAt, rootCandidates}
 use Rattle.decomposition.specs.Listed.{single, Appended, isColoured, colouredBelow, candidatesTo, judgedOf, judgedTo, rootsTo}
 use Rattle.decomposition.proofs.Distinct.{length-below, flat-few}
 
@@ -276,20 +275,23 @@ module _ (p : Policy) where
           filter-empty (λ (m : ℕ). not (differs b (accepting p m))) (candidatesOf p c) (λ x k. ap not (differs-other b (accepting p x) (verdict x k ∙ e)))
           ∙ sym (judged-other b c e)
 
+  pub sets-few : legal p ≡ true → (n : ℕ) → n ≡ 2 ^ p .colours → n ≤ 256
+  sets-few h n e = omega (arith, pow-mono (legal-counts p h .colours-few))
+
   pub judged-none : (b : Bool) → judgedTo p b 0 ≡ []
   unfolding judgedTo
   judged-none b = refl
 
-  pub judged-next : (b : Bool) (i c : ℕ) → c ≡ setAt i → judgedTo p b (i + 1) ≡ judgedTo p b i ++ judgedOf p b c
-  unfolding judgedTo
-  judged-next b i c e =
-      ap (filter (λ (m : ℕ). not (differs b (accepting p m)))) (flat-next (λ (j : ℕ). candidatesOf p (setAt j)) i)
-      ∙ filter-append (λ (m : ℕ). not (differs b (accepting p m))) (flat (map (λ (j : ℕ). candidatesOf p (setAt j)) (below i))) (candidatesOf p (setAt i))
-      ∙ ap (λ (l : List ℕ). judgedTo p b i ++ l) (judged-of b (setAt i) ∙ ap (judgedOf p b) (sym e))
+  pub judged-next : (b : Bool) (i n : ℕ) → n ≡ 2 ^ p .colours → judgedTo p b (i + 1) ≡ judgedTo p b i ++ judgedOf p b (n - 1 - i)
+  unfolding judgedTo coloursAt
+  judged-next b i n e =
+      ap (filter (λ (m : ℕ). not (differs b (accepting p m)))) (flat-next (λ (j : ℕ). candidatesOf p (coloursAt p j)) i)
+      ∙ filter-append (λ (m : ℕ). not (differs b (accepting p m))) (flat (map (λ (j : ℕ). candidatesOf p (coloursAt p j)) (below i))) (candidatesOf p (coloursAt p i))
+      ∙ ap (λ (l : List ℕ). judgedTo p b i ++ l) (judged-of b (coloursAt p i) ∙ ap (λ (k : ℕ). judgedOf p b (k - 1 - i)) (sym e))
 
-  pub judged-all : (b : Bool) (n : ℕ) → n ≡ 256 → judgedTo p b n ≡ judged p b
+  pub judged-all : (b : Bool) (n : ℕ) → n ≡ 2 ^ p .colours → judgedTo p b n ≡ judged p b
   unfolding judgedTo judged candidates
-  judged-all b n e = ap (λ (k : ℕ). filter (λ (m : ℕ). not (differs b (accepting p m))) (flat (map (λ (j : ℕ). candidatesOf p (setAt j)) (below k)))) e
+  judged-all b n e = ap (λ (k : ℕ). filter (λ (m : ℕ). not (differs b (accepting p m))) (flat (map (λ (j : ℕ). candidatesOf p (coloursAt p j)) (below k)))) e
 
   -- at most one candidate for each state
   of-few : legal p ≡ true → (c : ℕ) → length (candidatesOf p c) ≤ 16

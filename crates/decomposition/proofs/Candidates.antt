@@ -1,6 +1,6 @@
 -- The candidates are the full cycles, each once, and at most 4,096: every node of the forest is one, the children of a candidate are the
 -- largest candidates of the other verdict properly inside it, and the roots are the largest cycles through the states. Assumes nothing.
-use Prim.Native.Nat.{ℕ, zero, suc, _≤_, _<_}
+use Prim.Native.Nat.{ℕ, zero, suc, _-_, _^_, _≤_, _<_}
 use native.Mathlib.Omega.{arith}
 use native.Mathlib.Decide.{decLt}
 use mathlib.Core.Path.{_≡_, refl, sym, ap, _∙_, subst}
@@ -15,8 +15,6 @@ use Rattle.lists.proofs.Bools.{test, eqb≡, ≡eqb, neqb, and-l, and-r, both, 
 use Rattle.lists.proofs.Lists.{any-some, none-any, filter-mem, mem-filter, mem-below, below-lt, flat-mem, mem-flat}
 use Rattle.masks.specs.Masks.{inside, properly}
 use Rattle.masks.proofs.Bits.{inside-trans, properly-lt}
-use Rattle.colour_sets.specs.Order.{setAt, positionOf}
-use Rattle.colour_sets.proofs.Laws.{set-once, set-position, position-lt}
 use Rattle.policy.specs.declared.Policy.{Policy}
 use Rattle.policy.specs.Policies.{coloursOf, accepting, legal}
 use Rattle.policy.proofs.Laws.{legal-counts, legal-target, colours-lt, accepting-colours}
@@ -26,7 +24,7 @@ use Rattle.graph.proofs.Cycles.{Targets, some-nonzero, contains-some, contains-
 use Rattle.graph.proofs.Through.{through-cycle, through-largest, through-same}
 use Rattle.decomposition.specs.Forest.{Node, isRoot, node, differs, full, inOrder, largest, roots, children}
 use Rattle.decomposition.specs.Laws.{ForestLaws, maskAt, parentAt}
-use Rattle.decomposition.specs.Candidates.{lowestIs, candidateAt, candidatesOf, candidates, judged, rootAt, rootCandidates}
+use Rattle.decomposition.specs.Candidates.{lowestIs, candidateAt, candidatesOf, coloursAt, candidates, judged, rootAt, rootCandidates}
 use Rattle.decomposition.specs.Siblings.{childrenIn}
 use Rattle.decomposition.proofs.Order.{order-mem, mem-order}
 use Rattle.decomposition.proofs.Largest.{largest-order-mem, in-largest-order}
@@ -77,7 +75,7 @@ not-itself : (a : Bool) → a ≡ not a → ⊥
 not-itself true e = true≢false e
 not-itself false e = false≢true e
 
-properly-inside : (x y : ℕ) → properly x y ≡ true → inside x y ≡ true
+pub properly-inside : (x y : ℕ) → properly x y ≡ true → inside x y ≡ true
 unfolding properly
 properly-inside x y t = and-l (inside x y) (not (eqb x y)) t
 
@@ -123,23 +121,32 @@ module _ (p : Policy) where
       let y = cycleThrough p (inColours p c) v in
       Memᴰ·cast e (mem-one (fits c v) y (both (lowestIs p v y) (eqb (coloursOf p y) c) (ap (lowestIs p v) (sym e) ∙ t) (≡eqb (coloursOf p y) c (ap (coloursOf p) (sym e) ∙ d))))
 
+  -- ---- the sets of colours, by position
+  colours-at : (c : ℕ) → c < 2 ^ p .colours → coloursAt p (2 ^ p .colours - 1 - c) ≡ c
+  unfolding coloursAt
+  colours-at c l = omega arith
+
+  colours-once : (i j : ℕ) → i < 2 ^ p .colours → j < 2 ^ p .colours → coloursAt p i ≡ coloursAt p j → i ≡ j
+  unfolding coloursAt
+  colours-once i j l k e = omega arith
+
   -- ---- the candidates
-  candidates-at : (x : ℕ) → List·Memᴰ x (candidates p) → (i v : ℕ) × (i < 256) × (v < p .states) × List·Memᴰ x (candidateAt p (setAt i) v)
+  candidates-at : (x : ℕ) → List·Memᴰ x (candidates p) → (i v : ℕ) × (i < 2 ^ p .colours) × (v < p .states) × List·Memᴰ x (candidateAt p (coloursAt p i) v)
   unfolding candidates candidatesOf
   candidates-at x k =
-      let r = flat-mem (λ (i : ℕ). candidatesOf p (setAt i)) (below 256) x k in
-      let s = flat-mem (candidateAt p (setAt (r .0))) (below (p .states)) x (r .2) in
-      (r .0, s .0, below-lt 256 (r .0) (r .1), below-lt (p .states) (s .0) (s .1), s .2)
+      let r = flat-mem (λ (i : ℕ). candidatesOf p (coloursAt p i)) (below (2 ^ p .colours)) x k in
+      let s = flat-mem (candidateAt p (coloursAt p (r .0))) (below (p .states)) x (r .2) in
+      (r .0, s .0, below-lt (2 ^ p .colours) (r .0) (r .1), below-lt (p .states) (s .0) (s .1), s .2)
 
-  at-candidates : (x i v : ℕ) → i < 256 → v < p .states → List·Memᴰ x (candidateAt p (setAt i) v) → List·Memᴰ x (candidates p)
+  at-candidates : (x i v : ℕ) → i < 2 ^ p .colours → v < p .states → List·Memᴰ x (candidateAt p (coloursAt p i) v) → List·Memᴰ x (candidates p)
   unfolding candidates candidatesOf
   at-candidates x i v h l k =
-      mem-flat (λ (i : ℕ). candidatesOf p (setAt i)) (below 256) i x (mem-below 256 i h) (mem-flat (candidateAt p (setAt i)) (below (p .states)) v x (mem-below (p .states) v l) k)
+      mem-flat (λ (i : ℕ). candidatesOf p (coloursAt p i)) (below (2 ^ p .colours)) i x (mem-below (2 ^ p .colours) i h) (mem-flat (candidateAt p (coloursAt p i)) (below (p .states)) v x (mem-below (p .states) v l) k)
 
   pub candidate-full : (x : ℕ) → List·Memᴰ x (candidates p) → Full p x
   candidate-full x k =
       let r = candidates-at x k in
-      let s = at-mem (setAt (r .0)) (r .1) x (r .4) in
+      let s = at-mem (coloursAt p (r .0)) (r .1) x (r .4) in
       record { some = lowest-some (r .1) x (s .1) .0; state = r .1; state-lt = r .3; is = s .0 ∙ ap (λ (c : ℕ). cycleThrough p (inColours p c) (r .1)) (sym (s .2)) }
 
   -- ---- those with a given verdict
@@ -155,20 +162,17 @@ module _ (p : Policy) where
     targets : Targets p
     targets e l = legal-target p lawful e l
 
-    colours-few : (x : ℕ) → coloursOf p x < 256
-    colours-few x = omega (arith, colours-lt p lawful x, pow-mono (legal-counts p lawful .colours-few))
-
     pub full-candidate : (x : ℕ) → Full p x → List·Memᴰ x (candidates p)
-    full-candidate x f = at-candidates x i u (position-lt c (colours-few x)) (contains-lt p lawful u x on) (mem-at (setAt i) u x is low (sym set))
+    full-candidate x f = at-candidates x i u (omega (arith, colours-lt p lawful x)) (contains-lt p lawful u x on) (mem-at (coloursAt p i) u x is low (sym set))
       where
         c : ℕ
         c = coloursOf p x
 
         i : ℕ
-        i = positionOf c
+        i = 2 ^ p .colours - 1 - c
 
-        set : setAt i ≡ c
-        set = set-position c (colours-few x)
+        set : coloursAt p i ≡ c
+        set = colours-at c (colours-lt p lawful x)
 
         lowest : (u : ℕ) × (contains p u x ≡ true) × (lowestIs p u x ≡ true)
         lowest = some-lowest (f .state) x (full-state p lawful x f)
@@ -182,7 +186,7 @@ module _ (p : Policy) where
         low : lowestIs p u x ≡ true
         low = lowest .2
 
-        is : x ≡ cycleThrough p (inColours p (setAt i)) u
+        is : x ≡ cycleThrough p (inColours p (coloursAt p i)) u
         is = f .is ∙ sym (through-same p targets (inColours p c) (f .state) u (f .state-lt) (ap (contains p u) (sym (f .is)) ∙ on)) ∙ ap (λ (d : ℕ). cycleThrough p (inColours p d) u) (sym set)
 
     pub candidate-cycle : (x : ℕ) → List·Memᴰ x (candidates p) → isCycle p x ≡ true
@@ -206,16 +210,16 @@ module _ (p : Policy) where
         same v u z m n a b =
             lowest-same v u z (at-mem c v z a .1) (at-mem c u z b .1) (at-state c v z (below-lt (p .states) v m) a) (at-state c u z (below-lt (p .states) u n) b)
 
-    of-colours : (c x : ℕ) → List·Memᴰ x (candidatesOf p c) → coloursOf p x ≡ c
+    pub of-colours : (c x : ℕ) → List·Memᴰ x (candidatesOf p c) → coloursOf p x ≡ c
     unfolding candidatesOf
     of-colours c x k = let r = flat-mem (candidateAt p c) (below (p .states)) x k in at-mem c (r .0) x (r .2) .2
 
     pub candidates-distinct : Distinct (candidates p)
     unfolding candidates
-    candidates-distinct = distinct-flat (λ (i : ℕ). candidatesOf p (setAt i)) (below 256) (distinct-below 256) (λ i m. of-distinct (setAt i)) same
+    candidates-distinct = distinct-flat (λ (i : ℕ). candidatesOf p (coloursAt p i)) (below (2 ^ p .colours)) (distinct-below (2 ^ p .colours)) (λ i m. of-distinct (coloursAt p i)) same
       where
-        same : (i j z : ℕ) → List·Memᴰ i (below 256) → List·Memᴰ j (below 256) → List·Memᴰ z (candidatesOf p (setAt i)) → List·Memᴰ z (candidatesOf p (setAt j)) → i ≡ j
-        same i j z m n a b = set-once i j (below-lt 256 i m) (below-lt 256 j n) (sym (of-colours (setAt i) z a) ∙ of-colours (setAt j) z b)
+        same : (i j z : ℕ) → List·Memᴰ i (below (2 ^ p .colours)) → List·Memᴰ j (below (2 ^ p .colours)) → List·Memᴰ z (candidatesOf p (coloursAt p i)) → List·Memᴰ z (candidatesOf p (coloursAt p j)) → i ≡ j
+        same i j z m n a b = colours-once i j (below-lt (2 ^ p .colours) i m) (below-lt (2 ^ p .colours) j n) (sym (of-colours (coloursAt p i) z a) ∙ of-colours (coloursAt p j) z b)
 
     pub judged-distinct : (b : Bool) → Distinct (judged p b)
     unfolding judged
@@ -232,7 +236,7 @@ module _ (p : Policy) where
 
     pub candidates-few : length (candidates p) ≤ 4096
     unfolding candidates
-    candidates-few = omega (arith, flat-few (λ (i : ℕ). candidatesOf p (setAt i)) 16 (λ i. of-few (setAt i)) (below 256), length-below 256)
+    candidates-few = omega (arith, flat-few (λ (i : ℕ). candidatesOf p (coloursAt p i)) 16 (λ i. of-few (coloursAt p i)) (below (2 ^ p .colours)), length-below (2 ^ p .colours), pow-mono (legal-counts p lawful .colours-few))
 
     -- ---- children: of a candidate n
     abbrev within : ℕ → List ℕ

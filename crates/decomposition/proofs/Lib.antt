@@ -5,6 +5,7 @@ pub mod Largest
 pub mod Children
 pub mod Full
 pub mod Candidates
+pub mod LargerFirst
 pub mod Priorities
 pub mod Planted
 pub mod Numbered

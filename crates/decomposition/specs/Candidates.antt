@@ -1,10 +1,9 @@
 -- Where nodes are looked for: one list of cycles for the whole policy, by colour sets, holds every node of the forest.
-use Prim.Native.Nat.{ℕ}
+use Prim.Native.Nat.{ℕ, _-_, _^_}
 use mathlib.Core.Bool.{Bool, not, _&&_, cond}
 use mathlib.Core.List.{List, [], _∷_, map}
 use lib.Dec.{eqb}
 use Rattle.lists.specs.Lists.{any, filter, flat, below}
-use Rattle.colour_sets.specs.Order.{setAt}
 use Rattle.policy.specs.declared.Policy.{Policy}
 use Rattle.policy.specs.Policies.{coloursOf, accepting}
 use Rattle.graph.specs.Cycles.{contains}
@@ -24,9 +23,13 @@ module _ (p : Policy) where
   unfoldable pub candidatesOf : ℕ → List ℕ
   candidatesOf c = flat (map (candidateAt c) (below (p .states)))
 
-  -- for every colour set in the fixed order and every state
+  -- the sets of the policy's colours, by falling mask: the one at position i
+  unfoldable pub coloursAt : ℕ → ℕ
+  coloursAt i = 2 ^ p .colours - 1 - i
+
+  -- for every set of colours, by falling mask, and every state
   unfoldable pub candidates : List ℕ
-  candidates = flat (map (λ i. candidatesOf (setAt i)) (below 256))
+  candidates = flat (map (λ i. candidatesOf (coloursAt i)) (below (2 ^ p .colours)))
 
   -- those with a given verdict
   unfoldable pub judged : Bool → List ℕ

@@ -7,12 +7,11 @@ use lib.Dec.{eqb}
 use lib.ListN.{length, take}
 use Rattle.lists.specs.Lists.{all, filter, flat, below}
 use Rattle.masks.specs.Masks.{has, gather}
-use Rattle.colour_sets.specs.Order.{setAt}
 use Rattle.policy.specs.declared.Policy.{Policy}
 use Rattle.policy.specs.Policies.{edgeColours, inFamily, accepting}
 use Rattle.decomposition.specs.declared.listing.Counts.{Counts}
 use Rattle.decomposition.specs.Forest.{differs, full}
-use Rattle.decomposition.specs.Candidates.{candidateAt, candidatesOf, judged, rootAt, rootCandidates}
+use Rattle.decomposition.specs.Candidates.{candidateAt, candidatesOf, coloursAt, judged, rootAt, rootCandidates}
 
 -- x alone; nothing where x is 0
 unfoldable pub single : ℕ → List ℕ
@@ -43,9 +42,9 @@ module _ (p : Policy) where
   unfoldable pub judgedOf : Bool → ℕ → List ℕ
   judgedOf b c = cond (differs b (inFamily p c)) [] (candidatesOf p c)
 
-  -- of verdict b, for the colour sets before position n
+  -- of verdict b, for the sets of colours before position n
   unfoldable pub judgedTo : Bool → ℕ → List ℕ
-  judgedTo b n = filter (λ m. not (differs b (accepting p m))) (flat (map (λ i. candidatesOf p (setAt i)) (below n)))
+  judgedTo b n = filter (λ m. not (differs b (accepting p m))) (flat (map (λ i. candidatesOf p (coloursAt p i)) (below n)))
 
   -- the candidates for a root at the states below n
   unfoldable pub rootsTo : ℕ → List ℕ

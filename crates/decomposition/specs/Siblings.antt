@@ -1,9 +1,11 @@
 -- Siblings found in a list of masks that need not be in order: the children of a node among them, and the first that stands after a given one. No mask is 0, so
 -- 0 stands for none.
-use Prim.Native.Nat.{ℕ}
-use mathlib.Core.Bool.{Bool, not, _&&_, _||_, cond}
+use Prim.Native.Nat.{ℕ, _<_}
+use mathlib.Core.Path.{_≡_}
+use mathlib.Core.Bool.{Bool, false, not, _&&_, _||_, cond}
 use mathlib.Core.List.{List}
 use lib.Dec.{eqb}
+use lib.ListN.{length, getD}
 use Rattle.lists.specs.Lists.{any, filter}
 use Rattle.masks.specs.Masks.{properly}
 use Rattle.decomposition.specs.Forest.{before, inOrder, largest}
@@ -39,3 +41,8 @@ rootBetter a b m = standsAfter a m && better b m
 
 unfoldable pub childBetter : List ℕ → ℕ → ℕ → ℕ → ℕ → Bool
 childBetter l n a b m = properly m n && (rootBetter a b m && isLargest l m n)
+
+-- ---- the order of a list
+-- no member stands before one that it lies properly inside
+abbrev pub LargerFirst : List ℕ → Type 0
+LargerFirst l = (i j : ℕ) → i < j → j < length l → properly (getD l i 0) (getD l j 0) ≡ false

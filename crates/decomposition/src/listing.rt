@@ -1,7 +1,7 @@
 // The candidates: the cycles among which the nodes of the forest are looked for, listed by verdict; and the candidates for a root.
 ghost use mathlib.Core.Path.{_≡_};
 ghost use mathlib.Core.Bool.{true};
-ghost use Prim.Native.Nat.{_+_, _<_, _≤_};
+ghost use Prim.Native.Nat.{_+_, _^_, _<_, _≤_};
 ghost use lib.ListN.{length};
 ghost use Rattle.policy.specs.Policies.{edges, legal};
 ghost use Rattle.graph.specs.Coloured.{coloured};
@@ -134,7 +134,15 @@ fn append_judged(
     }
 }
 
-// The candidates of a policy, by verdict, in the order of their colour sets and then of their lowest states.
+// How many sets of the policy's colours there are.
+fn set_count(p: Policy) -> usize
+    requires { ⌜ legal p ≡ true ⌝ }
+    ensures { λ r. ⌜ r ≡ 2 ^ p .colours ⌝ }
+{
+    1 << p.colours
+}
+
+// The candidates of a policy, by verdict: by falling masks of their colours, and then by their lowest states.
 pub fn fill_candidates(p: Policy, accepting: &mut [u64], rejecting: &mut [u64]) -> Counts
     requires { ⌜ (legal p ≡ true) × (4096 ≤ length (now accepting)) × (4096 ≤ length (now rejecting)) ⌝ }
     ensures { λ r. ⌜ Listed p (now (accepting .entry)) (now (accepting .exit)) (now (rejecting .entry)) (now (rejecting .exit)) r ⌝ }
@@ -143,8 +151,9 @@ pub fn fill_candidates(p: Policy, accepting: &mut [u64], rejecting: &mut [u64]) 
         accepting: 0,
         rejecting: 0,
     };
-    for i in 0..256usize {
-        let c = colour_sets::set_at(i as u8);
+    let sets = set_count(p);
+    for i in 0..sets {
+        let c = (sets - 1 - i) as u8;
         n = append_judged(p, c, accepting, rejecting, n);
     }
     n
