@@ -1,0 +1,195 @@
+//! Muller policies into parity automata by the alternating cycle decomposition: a safe layer over the proved static library.
+//!
+//! A [`Policy`] is read from command bytes, [`translate`]d into tables that the caller lends, and the built automaton is run letter by letter with [`Run`].
+//! Nothing is allocated. A call needs at most 192 KiB of stack.
+#![no_std]
+#![deny(missing_docs)]
+
+mod ffi;
+mod policy;
+mod refusal;
+
+pub use policy::{Policy, RECORD_LEN};
+pub use refusal::{ReadError, Refusal};
+
+/// What stands in the tables for no node: the parent of a root, the leaf of a state in no cycle.
+pub const NONE: u16 = 65_535;
+
+/// The seven tables that [`translate`] fills in. The lengths of the three node tables are equal, those of the two state tables too, and each row table is letters
+/// times as long as a state table. Row = built state times letters plus letter.
+#[derive(Debug)]
+pub struct Tables<'a> {
+    /// The edges of each node, bit e for edge e.
+    pub node_masks: &'a mut [u64],
+    /// The parent of each node; [`NONE`] for a root.
+    pub node_parents: &'a mut [u16],
+    /// The priority of each node.
+    pub node_priorities: &'a mut [u8],
+    /// The policy state under each built state.
+    pub state_sources: &'a mut [u8],
+    /// The leaf of each built state; [`NONE`] where the policy state is in no cycle.
+    pub state_leaves: &'a mut [u16],
+    /// The built state that each row leads to.
+    pub row_targets: &'a mut [u16],
+    /// The priority of each row.
+    pub row_priorities: &'a mut [u8],
+}
+
+/// What a translation answers beside the tables.
+#[derive(Clone, Copy, Debug, PartialEq, Eq, Hash)]
+pub struct Counts {
+    /// How many nodes the forest has.
+    pub nodes: u16,
+    /// How many states the automaton has.
+    pub states: u16,
+    /// The built state begun in.
+    pub start: u16,
+}
+
+/// The forest and the automaton of a policy, in the tables; places past the result hold 0. Refused with 7, 8, 9 or 10: the tables are unchanged after 7 and 8, and
+/// all 0 after 9 and 10.
+pub fn translate(policy: &Policy, tables: Tables<'_>) -> Result<Counts, Refusal> {
+    let mut counts = [0; 3];
+    // SAFETY: each pointer is that of a slice or an array, with its length; the mutable ones are exclusive.
+    let number = unsafe {
+        ffi::wulfrenda_translate(
+            policy.record().as_ptr(),
+            tables.node_masks.as_mut_ptr(),
+            tables.node_masks.len(),
+            tables.node_parents.as_mut_ptr(),
+            tables.node_parents.len(),
+            tables.node_priorities.as_mut_ptr(),
+            tables.node_priorities.len(),
+            tables.state_sources.as_mut_ptr(),
+            tables.state_sources.len(),
+            tables.state_leaves.as_mut_ptr(),
+            tables.state_leaves.len(),
+            tables.row_targets.as_mut_ptr(),
+            tables.row_targets.len(),
+            tables.row_priorities.as_mut_ptr(),
+            tables.row_priorities.len(),
+            counts.as_mut_ptr(),
+        )
+    };
+    let [nodes, states, start] = counts;
+    Refusal::check(number).map(|()| Counts {
+        nodes,
+        states,
+        start,
+    })
+}
+
+/// The rows of a built automaton: letters times the number of states, in both tables.
+#[derive(Clone, Copy, Debug)]
+pub struct Rows<'a> {
+    /// How many letters there are, 1 to 8.
+    pub letters: u8,
+    /// The state that each row leads to.
+    pub targets: &'a [u16],
+    /// The priority of each row.
+    pub priorities: &'a [u8],
+}
+
+/// A run of a built automaton: a value that holds its present state.
+#[derive(Clone, Copy, Debug, PartialEq, Eq, Hash)]
+pub struct Run {
+    /// The present state.
+    pub state: u16,
+}
+
+impl Run {
+    /// The run after a letter, and the priority that the letter meets. Refused with 8, 11, 12 or 13; the run is a value, so the caller's is unchanged.
+    pub fn read(self, letter: u8, rows: &Rows<'_>) -> Result<(Run, u8), Refusal> {
+        let mut state = self.state;
+        let mut priority = 0;
+        // SAFETY: each pointer is that of a slice, with its length, or of a local.
+        let number = unsafe {
+            ffi::wulfrenda_run(
+                rows.letters,
+                rows.targets.as_ptr(),
+                rows.targets.len(),
+                rows.priorities.as_ptr(),
+                rows.priorities.len(),
+                &mut state,
+                letter,
+                &mut priority,
+            )
+        };
+        Refusal::check(number).map(|()| (Run { state }, priority))
+    }
+}
+
+/// What judging a policy gives.
+#[derive(Clone, Copy, Debug, PartialEq, Eq, Hash)]
+pub struct Verdict {
+    /// The set of the colours that recur.
+    pub colours: u8,
+    /// Whether that set is in the family.
+    pub accepted: bool,
+}
+
+/// Judges a policy from a state, over a stem and then a loop repeated without end. Refused with 7, 11, 14 or 12.
+pub fn judge_policy(
+    policy: &Policy,
+    state: u8,
+    stem: &[u8],
+    cycle: &[u8],
+) -> Result<Verdict, Refusal> {
+    let mut colours = 0;
+    let mut accepted = 0;
+    // SAFETY: each pointer is that of a slice or an array, with its length, or of a local.
+    let number = unsafe {
+        ffi::wulfrenda_judge_policy(
+            policy.record().as_ptr(),
+            state,
+            stem.as_ptr(),
+            stem.len(),
+            cycle.as_ptr(),
+            cycle.len(),
+            &mut colours,
+            &mut accepted,
+        )
+    };
+    Refusal::check(number).map(|()| Verdict {
+        colours,
+        accepted: accepted != 0,
+    })
+}
+
+/// The least priority that recurs over rows from a state, over a stem and then a loop repeated without end. Refused with 8, 11, 14, 12 or 13.
+pub fn judge_rows(rows: &Rows<'_>, state: u16, stem: &[u8], cycle: &[u8]) -> Result<u8, Refusal> {
+    let mut least = 0;
+    // SAFETY: each pointer is that of a slice, with its length, or of a local.
+    let number = unsafe {
+        ffi::wulfrenda_judge_rows(
+            rows.letters,
+            rows.targets.as_ptr(),
+            rows.targets.len(),
+            rows.priorities.as_ptr(),
+            rows.priorities.len(),
+            state,
+            stem.as_ptr(),
+            stem.len(),
+            cycle.as_ptr(),
+            cycle.len(),
+            &mut least,
+        )
+    };
+    Refusal::check(number).map(|()| least)
+}
+
+/// Whether every cycle, reached or not, has the same verdict in both policies. Refused with 7 or 15.
+pub fn compare(first: &Policy, second: &Policy) -> Result<bool, Refusal> {
+    let mut same = 0;
+    // SAFETY: the pointers are those of two arrays and a local.
+    let number = unsafe {
+        ffi::wulfrenda_compare(first.record().as_ptr(), second.record().as_ptr(), &mut same)
+    };
+    Refusal::check(number).map(|()| same != 0)
+}
+
+/// The colour set at a position of the fixed order: falling number of members, then ascending mask.
+pub fn colour_set_at(position: u8) -> u8 {
+    // SAFETY: the function takes a number and returns one.
+    unsafe { ffi::wulfrenda_colour_set(position) }
+}

@@ -1,0 +1,123 @@
+//! A policy, held as the record that the library takes.
+
+use core::fmt;
+
+use crate::ffi;
+use crate::refusal::{ReadError, Refusal};
+
+/// How many bytes a policy's record has: states, letters, colours, initial state; the targets of 64 edges; their colours; and for each of the 256 colour sets
+/// whether it is in the family.
+pub const RECORD_LEN: usize = 388;
+
+const TARGETS: usize = 4;
+const COLOURS: usize = 68;
+const FAMILY: usize = 132;
+
+/// A policy: a deterministic Muller automaton. Edge number = state times letters plus letter. One made by [`Policy::from_record`] need not be legal; the calls
+/// that take policies refuse it then with 7.
+#[derive(Clone, Copy, PartialEq, Eq)]
+pub struct Policy {
+    record: [u8; RECORD_LEN],
+}
+
+impl Policy {
+    /// The policy that command bytes give, and the bytes that follow its end command. Refused with 1 to 6.
+    pub fn read(bytes: &[u8]) -> Result<(Policy, &[u8]), ReadError> {
+        let mut record = [0; RECORD_LEN];
+        let mut offset = 0;
+        // SAFETY: each pointer is that of a slice or an array, with its length, or of a local.
+        let number = unsafe {
+            ffi::wulfrenda_read(
+                bytes.as_ptr(),
+                bytes.len(),
+                record.as_mut_ptr(),
+                &mut offset,
+            )
+        };
+        match Refusal::check(number) {
+            Ok(()) => Ok((Policy { record }, &bytes[offset..])),
+            Err(refusal) => Err(ReadError { refusal, offset }),
+        }
+    }
+
+    /// The policy of a record. A set whose byte is not 0 is in the family; the policy's own record has a 1 there.
+    pub fn from_record(mut record: [u8; RECORD_LEN]) -> Policy {
+        for byte in &mut record[FAMILY..] {
+            *byte = (*byte != 0) as u8;
+        }
+        Policy { record }
+    }
+
+    /// The policy's record.
+    pub fn record(&self) -> &[u8; RECORD_LEN] {
+        &self.record
+    }
+
+    /// How many states there are.
+    pub fn states(&self) -> u8 {
+        self.record[0]
+    }
+
+    /// How many letters there are.
+    pub fn letters(&self) -> u8 {
+        self.record[1]
+    }
+
+    /// How many colours there are.
+    pub fn colours(&self) -> u8 {
+        self.record[2]
+    }
+
+    /// The initial state.
+    pub fn initial(&self) -> u8 {
+        self.record[3]
+    }
+
+    /// The state that an edge leads to; 0 past the last edge.
+    ///
+    /// # Panics
+    /// If the number is 64 or more.
+    pub fn target(&self, edge: usize) -> u8 {
+        self.record[TARGETS..COLOURS][edge]
+    }
+
+    /// The colour of an edge; 0 past the last edge.
+    ///
+    /// # Panics
+    /// If the number is 64 or more.
+    pub fn colour(&self, edge: usize) -> u8 {
+        self.record[COLOURS..FAMILY][edge]
+    }
+
+    /// Whether a colour set is in the family.
+    pub fn accepts(&self, set: u8) -> bool {
+        self.record[FAMILY..][usize::from(set)] != 0
+    }
+}
+
+impl fmt::Debug for Policy {
+    fn fmt(&self, f: &mut fmt::Formatter<'_>) -> fmt::Result {
+        let edges =
+            (usize::from(self.states()) * usize::from(self.letters())).min(COLOURS - TARGETS);
+        f.debug_struct("Policy")
+            .field("states", &self.states())
+            .field("letters", &self.letters())
+            .field("colours", &self.colours())
+            .field("initial", &self.initial())
+            .field("targets", &&self.record[TARGETS..][..edges])
+            .field("edge_colours", &&self.record[COLOURS..][..edges])
+            .field("family", &Family(self))
+            .finish()
+    }
+}
+
+/// The sets of a policy's family, for printing.
+struct Family<'a>(&'a Policy);
+
+impl fmt::Debug for Family<'_> {
+    fn fmt(&self, f: &mut fmt::Formatter<'_>) -> fmt::Result {
+        f.debug_set()
+            .entries((0..=255).filter(|&set| self.0.accepts(set)))
+            .finish()
+    }
+}

@@ -1,0 +1,129 @@
+//! The numbers of the questions that a call may answer with "no".
+
+use core::error::Error;
+use core::fmt;
+
+/// Why a call was refused: the first question that was answered "no".
+#[derive(Clone, Copy, Debug, PartialEq, Eq, Hash)]
+#[repr(u8)]
+pub enum Refusal {
+    /// 1: the command bytes end inside the policy.
+    Truncated = 1,
+    /// 2: a command's first byte is none of 0 to 3.
+    UnknownCommand = 2,
+    /// 3: the first command is not shape, or a later one is.
+    Misplaced = 3,
+    /// 4: an operand is outside the limits or the declared counts, or an accepted set is empty.
+    OutOfRange = 4,
+    /// 5: an edge or a set is given again.
+    Repeated = 5,
+    /// 6: an edge has not been given when the end command comes.
+    Incomplete = 6,
+    /// 7: a policy is not legal.
+    IllegalPolicy = 7,
+    /// 8: the lengths of the tables do not belong together, or there are too many states or no proper number of letters.
+    Lengths = 8,
+    /// 9: the nodes do not fit their tables.
+    TooManyNodes = 9,
+    /// 10: the built states do not fit their tables.
+    TooManyStates = 10,
+    /// 11: the state is none of the policy's, or has no rows.
+    NoSuchState = 11,
+    /// 12: a letter is none of the policy's.
+    NoSuchLetter = 12,
+    /// 13: a row leads to a state that has no rows.
+    NoSuchTarget = 13,
+    /// 14: the loop is empty.
+    EmptyLoop = 14,
+    /// 15: the two policies have different states, letters or targets.
+    DifferentGraphs = 15,
+}
+
+impl Refusal {
+    /// The number of the question.
+    pub fn number(self) -> u8 {
+        self as u8
+    }
+
+    /// What a call answered: nothing was refused where it is 0.
+    pub(crate) fn check(number: u8) -> Result<(), Refusal> {
+        use Refusal::*;
+        Err(match number {
+            0 => return Ok(()),
+            1 => Truncated,
+            2 => UnknownCommand,
+            3 => Misplaced,
+            4 => OutOfRange,
+            5 => Repeated,
+            6 => Incomplete,
+            7 => IllegalPolicy,
+            8 => Lengths,
+            9 => TooManyNodes,
+            10 => TooManyStates,
+            11 => NoSuchState,
+            12 => NoSuchLetter,
+            13 => NoSuchTarget,
+            14 => EmptyLoop,
+            15 => DifferentGraphs,
+            _ => unreachable!("the library answers 0 to 15"),
+        })
+    }
+
+    fn text(self) -> &'static str {
+        match self {
+            Refusal::Truncated => "the command bytes end inside the policy",
+            Refusal::UnknownCommand => "unknown command",
+            Refusal::Misplaced => "the first command is not shape, or a later one is",
+            Refusal::OutOfRange => "an operand is outside the limits",
+            Refusal::Repeated => "an edge or a set is given again",
+            Refusal::Incomplete => "an edge is missing at the end",
+            Refusal::IllegalPolicy => "the policy is not legal",
+            Refusal::Lengths => "the tables' lengths do not belong together",
+            Refusal::TooManyNodes => "the nodes do not fit",
+            Refusal::TooManyStates => "the built states do not fit",
+            Refusal::NoSuchState => "no such state",
+            Refusal::NoSuchLetter => "no such letter",
+            Refusal::NoSuchTarget => "a row leads to no state",
+            Refusal::EmptyLoop => "the loop is empty",
+            Refusal::DifferentGraphs => "the policies have different graphs",
+        }
+    }
+}
+
+impl fmt::Display for Refusal {
+    fn fmt(&self, f: &mut fmt::Formatter<'_>) -> fmt::Result {
+        write!(f, "refused {}: {}", self.number(), self.text())
+    }
+}
+
+impl Error for Refusal {}
+
+/// Why command bytes were not read, and where.
+#[derive(Clone, Copy, Debug, PartialEq, Eq, Hash)]
+pub struct ReadError {
+    /// The question that was answered "no".
+    pub refusal: Refusal,
+    /// Where the refused command begins; the number of bytes, if there is none.
+    pub offset: usize,
+}
+
+impl ReadError {
+    /// The number of the question.
+    pub fn number(self) -> u8 {
+        self.refusal.number()
+    }
+}
+
+impl fmt::Display for ReadError {
+    fn fmt(&self, f: &mut fmt::Formatter<'_>) -> fmt::Result {
+        write!(
+            f,
+            "refused {} {}: {}",
+            self.number(),
+            self.offset,
+            self.refusal.text()
+        )
+    }
+}
+
+impl Error for ReadError {}

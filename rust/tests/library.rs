@@ -1,0 +1,420 @@
+//! The known policies, the edges of the limits, what the tables hold after each refusal, runs, judgings and comparings, through the safe layer.
+
+use wulfrenda::{
+    colour_set_at, compare, judge_policy, judge_rows, translate, Counts, Policy, ReadError,
+    Refusal, Rows, Run, Tables, Verdict, NONE, RECORD_LEN,
+};
+
+const B: [u8; 30] = [
+    1, 2, 2, 2, 0, 2, 0, 0, 0, 0, 2, 0, 1, 1, 1, 2, 1, 0, 0, 0, 2, 1, 1, 1, 1, 3, 1, 3, 2, 0,
+];
+
+/// Policy A: one state; letters 0, 1, 2 with colours 0, 1, 2; family masks 3, 5, 2.
+const A: [u8; 27] = [
+    1, 1, 3, 3, 0, 2, 0, 0, 0, 0, 2, 0, 1, 0, 1, 2, 0, 2, 0, 2, 3, 3, 3, 5, 3, 2, 0,
+];
+
+/// Policy C: two states, one letter, one colour, both targets 1, family mask 1.
+const C: [u8; 18] = [1, 2, 1, 1, 0, 2, 0, 0, 1, 0, 2, 1, 0, 1, 0, 3, 1, 0];
+
+fn policy(bytes: &[u8]) -> Policy {
+    Policy::read(bytes).unwrap().0
+}
+
+/// Tables of the caller's, each place full of nines at first.
+#[derive(Clone, Debug, PartialEq, Eq)]
+struct Lent {
+    node_masks: Vec<u64>,
+    node_parents: Vec<u16>,
+    node_priorities: Vec<u8>,
+    state_sources: Vec<u8>,
+    state_leaves: Vec<u16>,
+    row_targets: Vec<u16>,
+    row_priorities: Vec<u8>,
+}
+
+impl Lent {
+    fn filled(nodes: usize, states: usize, rows: usize, value: u8) -> Lent {
+        Lent {
+            node_masks: vec![value.into(); nodes],
+            node_parents: vec![value.into(); nodes],
+            node_priorities: vec![value; nodes],
+            state_sources: vec![value; states],
+            state_leaves: vec![value.into(); states],
+            row_targets: vec![value.into(); rows],
+            row_priorities: vec![value; rows],
+        }
+    }
+
+    fn new(nodes: usize, states: usize, rows: usize) -> Lent {
+        Lent::filled(nodes, states, rows, 9)
+    }
+
+    fn translate(&mut self, policy: &Policy) -> Result<Counts, Refusal> {
+        translate(
+            policy,
+            Tables {
+                node_masks: &mut self.node_masks,
+                node_parents: &mut self.node_parents,
+                node_priorities: &mut self.node_priorities,
+                state_sources: &mut self.state_sources,
+                state_leaves: &mut self.state_leaves,
+                row_targets: &mut self.row_targets,
+                row_priorities: &mut self.row_priorities,
+            },
+        )
+    }
+
+    fn rows(&self, letters: u8, states: u16) -> Rows<'_> {
+        let rows = usize::from(letters) * usize::from(states);
+        Rows {
+            letters,
+            targets: &self.row_targets[..rows],
+            priorities: &self.row_priorities[..rows],
+        }
+    }
+}
+
+fn counts(nodes: u16, states: u16, start: u16) -> Result<Counts, Refusal> {
+    Ok(Counts {
+        nodes,
+        states,
+        start,
+    })
+}
+
+// ---- reading
+
+#[test]
+fn reading_gives_the_policy_and_the_rest() {
+    let mut bytes = B.to_vec();
+    bytes.extend([7, 8]);
+    let (b, rest) = Policy::read(&bytes).unwrap();
+    assert_eq!(rest, [7, 8]);
+    assert_eq!(rest.as_ptr(), bytes[B.len()..].as_ptr());
+    assert_eq!(
+        (b.states(), b.letters(), b.colours(), b.initial()),
+        (2, 2, 2, 0)
+    );
+    let edges: Vec<_> = (0..64).map(|e| (b.target(e), b.colour(e))).collect();
+    assert_eq!(edges[..4], [(0, 0), (1, 1), (0, 0), (1, 1)]);
+    assert!(edges[4..].iter().all(|&edge| edge == (0, 0)));
+    let family: Vec<u8> = (0..=255).filter(|&set| b.accepts(set)).collect();
+    assert_eq!(family, [1, 2]);
+    assert_eq!(Policy::read(&B).unwrap().1, []);
+}
+
+#[test]
+fn reading_refuses_in_order() {
+    let refused = |bytes: &[u8], refusal, offset| {
+        assert_eq!(Policy::read(bytes), Err(ReadError { refusal, offset }))
+    };
+    refused(&[], Refusal::Truncated, 0);
+    refused(&B[..29], Refusal::Truncated, 29);
+    refused(&B[..7], Refusal::Truncated, 5);
+    refused(&[4], Refusal::UnknownCommand, 0);
+    refused(&[0], Refusal::Misplaced, 0);
+    refused(&[1, 2, 2, 2, 0, 1, 2, 2, 2, 0], Refusal::Misplaced, 5);
+    refused(&[1, 9, 8, 1, 0], Refusal::OutOfRange, 0);
+    refused(&[1, 8, 8, 1, 0, 0], Refusal::Incomplete, 5);
+    refused(&[1, 1, 1, 3, 0, 3, 7, 3, 8], Refusal::OutOfRange, 7);
+    refused(&[1, 1, 1, 3, 0, 3, 0], Refusal::OutOfRange, 5);
+    refused(&[1, 1, 1, 3, 0, 3, 7, 3, 7], Refusal::Repeated, 7);
+    refused(
+        &[1, 1, 1, 1, 0, 2, 0, 0, 0, 0, 2, 0, 0, 0, 0],
+        Refusal::Repeated,
+        10,
+    );
+    refused(&[1, 1, 1, 1, 0, 0], Refusal::Incomplete, 5);
+    let error = Policy::read(&[]).unwrap_err();
+    assert_eq!(error.number(), 1);
+    assert_eq!(
+        error.to_string(),
+        "refused 1 0: the command bytes end inside the policy"
+    );
+}
+
+#[test]
+fn a_record_gives_its_policy_back() {
+    let b = policy(&B);
+    assert_eq!(Policy::from_record(*b.record()), b);
+    let mut record = *b.record();
+    record[132 + 1] = 200;
+    assert_eq!(Policy::from_record(record), b);
+    record[132 + 3] = 1;
+    assert_ne!(Policy::from_record(record), b);
+    assert!(format!("{b:?}").contains("family: {1, 2}"));
+}
+
+#[test]
+#[should_panic]
+fn there_are_64_edges() {
+    policy(&B).target(64);
+}
+
+// ---- translating
+
+#[test]
+fn policy_a() {
+    let mut t = Lent::new(6, 3, 9);
+    assert_eq!(t.translate(&policy(&A)), counts(6, 3, 0));
+    assert_eq!(t.node_masks, [7, 3, 1, 5, 1, 4]);
+    assert_eq!(t.node_parents, [NONE, 0, 1, 0, 3, 3]);
+    assert_eq!(t.node_priorities, [1, 2, 3, 2, 3, 3]);
+    assert_eq!(t.state_sources, [0, 0, 0]);
+    assert_eq!(t.state_leaves, [2, 4, 5]);
+    assert_eq!(t.row_targets, [0, 0, 1, 1, 0, 2, 1, 0, 2]);
+    assert_eq!(t.row_priorities, [3, 2, 1, 3, 1, 2, 2, 1, 3]);
+    for (cycle, least) in [
+        (&[0u8, 1][..], 2),
+        (&[1, 2], 1),
+        (&[1], 2),
+        (&[2], 3),
+        (&[0, 2], 2),
+    ] {
+        assert_eq!(judge_rows(&t.rows(3, 3), 0, &[], cycle), Ok(least));
+    }
+}
+
+#[test]
+fn policy_b_and_zeros_past_it() {
+    let mut t = Lent::new(5, 4, 8);
+    assert_eq!(t.translate(&policy(&B)), counts(3, 2, 0));
+    assert_eq!(t.node_masks, [15, 1, 8, 0, 0]);
+    assert_eq!(t.node_parents, [NONE, 0, 0, 0, 0]);
+    assert_eq!(t.node_priorities, [1, 2, 2, 0, 0]);
+    assert_eq!(t.state_sources, [0, 1, 0, 0]);
+    assert_eq!(t.state_leaves, [1, 2, 0, 0]);
+    assert_eq!(t.row_targets, [0, 1, 0, 1, 0, 0, 0, 0]);
+    assert_eq!(t.row_priorities, [2, 1, 1, 2, 0, 0, 0, 0]);
+}
+
+#[test]
+fn policy_c() {
+    let mut t = Lent::new(1, 2, 2);
+    assert_eq!(t.translate(&policy(&C)), counts(1, 2, 0));
+    assert_eq!(
+        (t.node_masks[0], t.node_parents[0], t.node_priorities[0]),
+        (2, NONE, 0)
+    );
+    assert_eq!(t.state_sources, [0, 1]);
+    assert_eq!(t.state_leaves, [NONE, 0]);
+    assert_eq!(t.row_targets, [1, 1]);
+    assert_eq!(t.row_priorities, [0, 0]);
+}
+
+#[test]
+fn tables_that_are_too_short_are_cleared() {
+    for (nodes, states, refusal) in [
+        (2, 2, Refusal::TooManyNodes),
+        (0, 0, Refusal::TooManyNodes),
+        (3, 1, Refusal::TooManyStates),
+        (3, 0, Refusal::TooManyStates),
+    ] {
+        let mut t = Lent::new(nodes, states, 2 * states);
+        assert_eq!(t.translate(&policy(&B)), Err(refusal));
+        assert_eq!(t, Lent::filled(nodes, states, 2 * states, 0));
+    }
+}
+
+#[test]
+fn tables_of_other_lengths_are_unchanged() {
+    let b = policy(&B);
+    let full = Lent::new(3, 2, 4);
+    let changes: [fn(&mut Lent); 8] = [
+        |t| t.node_masks.truncate(1),
+        |t| t.node_parents.truncate(1),
+        |t| t.node_priorities.truncate(1),
+        |t| t.state_sources.truncate(1),
+        |t| t.state_leaves.truncate(1),
+        |t| t.row_targets.truncate(1),
+        |t| t.row_priorities.truncate(1),
+        |t| t.row_targets.push(9),
+    ];
+    for change in changes {
+        let mut t = full.clone();
+        change(&mut t);
+        let before = t.clone();
+        assert_eq!(t.translate(&b), Err(Refusal::Lengths));
+        assert_eq!(t, before);
+    }
+}
+
+#[test]
+fn an_illegal_policy_leaves_the_tables_unchanged() {
+    let b = *policy(&B).record();
+    // states 0 and 17, letters 0 and 9, colours 0 and 9, initial state 2, a target 2, a colour 2, an entry past the last edge, the empty set, set 4
+    for (at, value) in [
+        (0, 0),
+        (0, 17),
+        (1, 0),
+        (1, 9),
+        (2, 0),
+        (2, 9),
+        (3, 2),
+        (4, 2),
+        (68, 2),
+        (67, 1),
+        (131, 1),
+        (132, 1),
+        (136, 1),
+    ] {
+        let mut record = b;
+        record[at] = value;
+        let p = Policy::from_record(record);
+        let mut t = Lent::new(3, 2, 4);
+        assert_eq!(t.translate(&p), Err(Refusal::IllegalPolicy), "place {at}");
+        assert_eq!(t, Lent::new(3, 2, 4));
+        assert_eq!(judge_policy(&p, 0, &[], &[0]), Err(Refusal::IllegalPolicy));
+        assert_eq!(compare(&policy(&B), &p), Err(Refusal::IllegalPolicy));
+    }
+    assert_eq!(
+        Lent::new(3, 2, 4).translate(&Policy::from_record([0; RECORD_LEN])),
+        Err(Refusal::IllegalPolicy)
+    );
+}
+
+#[test]
+fn the_largest_shape_is_read_and_translated() {
+    let mut bytes = vec![1, 8, 8, 8, 7];
+    for e in 0..64u8 {
+        bytes.extend([2, e / 8, e % 8, e % 8, e % 8]);
+    }
+    bytes.extend([3, 255, 0]);
+    let mut t = Lent::new(9, 64, 512);
+    let Counts {
+        nodes,
+        states,
+        start,
+    } = t.translate(&policy(&bytes)).unwrap();
+    assert_eq!((nodes, states), (9, 56));
+    assert_eq!(t.node_masks[0], u64::MAX);
+    assert_eq!(t.state_sources[usize::from(start)], 7);
+}
+
+// ---- running
+
+#[test]
+fn a_run_over_b() {
+    let mut t = Lent::new(3, 2, 4);
+    let Counts { states, start, .. } = t.translate(&policy(&B)).unwrap();
+    let rows = t.rows(2, states);
+    let mut run = Run { state: start };
+    let mut met = Vec::new();
+    for letter in [0, 0, 1, 1, 0] {
+        let (next, priority) = run.read(letter, &rows).unwrap();
+        run = next;
+        met.push((run.state, priority));
+    }
+    assert_eq!(met, [(0, 2), (0, 2), (1, 1), (1, 2), (0, 1)]);
+    assert_eq!(run.read(2, &rows), Err(Refusal::NoSuchLetter));
+    assert_eq!(Run { state: 2 }.read(2, &rows), Err(Refusal::NoSuchState));
+}
+
+#[test]
+fn running_refuses_in_order() {
+    let read = |letters, targets: &[u16], priorities: &[u8]| {
+        let rows = Rows {
+            letters,
+            targets,
+            priorities,
+        };
+        Run { state: 0 }.read(0, &rows)
+    };
+    assert_eq!(read(0, &[0], &[0]), Err(Refusal::Lengths));
+    assert_eq!(read(9, &[0; 9], &[0; 9]), Err(Refusal::Lengths));
+    assert_eq!(read(1, &[0], &[]), Err(Refusal::Lengths));
+    assert_eq!(read(2, &[0; 3], &[0; 3]), Err(Refusal::Lengths));
+    assert_eq!(read(1, &[0; 65536], &[0; 65536]), Err(Refusal::Lengths));
+    assert_eq!(read(1, &[], &[]), Err(Refusal::NoSuchState));
+    assert_eq!(read(1, &[1], &[0]), Err(Refusal::NoSuchTarget));
+    assert_eq!(read(1, &[0; 65535], &[5; 65535]), Ok((Run { state: 0 }, 5)));
+}
+
+// ---- judging and comparing
+
+#[test]
+fn judgings_agree() {
+    for bytes in [&A[..], &B, &C] {
+        let p = policy(bytes);
+        let mut t = Lent::new(6, 3, 3 * usize::from(p.letters()));
+        let built = t.translate(&p).unwrap();
+        let rows = t.rows(p.letters(), built.states);
+        let words: Vec<Vec<u8>> = (0..81u16)
+            .map(|n| {
+                (0..4)
+                    .map(|i| (n / 3u16.pow(i) % 3) as u8 % p.letters())
+                    .collect()
+            })
+            .collect();
+        for stem in &words[..9] {
+            for cycle in &words {
+                let policy = judge_policy(&p, p.initial(), stem, cycle).unwrap();
+                let least = judge_rows(&rows, built.start, stem, cycle).unwrap();
+                assert_eq!(policy.accepted, least % 2 == 0);
+            }
+        }
+    }
+}
+
+#[test]
+fn judging_a_policy() {
+    let b = policy(&B);
+    let verdict = |colours, accepted| Ok(Verdict { colours, accepted });
+    assert_eq!(judge_policy(&b, 0, &[0], &[1]), verdict(2, true));
+    assert_eq!(judge_policy(&b, 1, &[], &[0, 1]), verdict(3, false));
+    assert_eq!(judge_policy(&b, 2, &[], &[]), Err(Refusal::NoSuchState));
+    assert_eq!(judge_policy(&b, 0, &[2], &[]), Err(Refusal::EmptyLoop));
+    assert_eq!(judge_policy(&b, 0, &[2], &[0]), Err(Refusal::NoSuchLetter));
+    assert_eq!(judge_policy(&b, 0, &[], &[2]), Err(Refusal::NoSuchLetter));
+}
+
+#[test]
+fn judging_rows_refuses_in_order() {
+    let rows = Rows {
+        letters: 1,
+        targets: &[1, 2],
+        priorities: &[0, 0],
+    };
+    assert_eq!(judge_rows(&rows, 2, &[], &[]), Err(Refusal::NoSuchState));
+    assert_eq!(judge_rows(&rows, 0, &[1], &[]), Err(Refusal::EmptyLoop));
+    assert_eq!(judge_rows(&rows, 0, &[], &[1]), Err(Refusal::NoSuchLetter));
+    assert_eq!(judge_rows(&rows, 0, &[], &[0]), Err(Refusal::NoSuchTarget));
+    let rows = Rows { letters: 0, ..rows };
+    assert_eq!(judge_rows(&rows, 0, &[], &[0]), Err(Refusal::Lengths));
+}
+
+#[test]
+fn comparing() {
+    let b = policy(&B);
+    assert_eq!(compare(&b, &b), Ok(true));
+    let mut other = *b.record();
+    other[3] = 1;
+    assert_eq!(compare(&b, &Policy::from_record(other)), Ok(true));
+    other[132 + 3] = 1;
+    assert_eq!(compare(&b, &Policy::from_record(other)), Ok(false));
+    assert_eq!(compare(&b, &policy(&A)), Err(Refusal::DifferentGraphs));
+    other[4] = 1;
+    assert_eq!(
+        compare(&b, &Policy::from_record(other)),
+        Err(Refusal::DifferentGraphs)
+    );
+}
+
+#[test]
+fn the_order_of_the_colour_sets() {
+    let order: Vec<u8> = (0..=255).map(colour_set_at).collect();
+    let mut expected: Vec<u8> = (0..=255).collect();
+    expected.sort_by_key(|set| (8 - set.count_ones(), *set));
+    assert_eq!(order, expected);
+    assert_eq!((order[0], order[255]), (255, 0));
+}
+
+#[test]
+fn every_refusal_says_its_number() {
+    assert_eq!(
+        Refusal::DifferentGraphs.to_string(),
+        "refused 15: the policies have different graphs"
+    );
+    assert_eq!(Refusal::Lengths.number(), 8);
+}
