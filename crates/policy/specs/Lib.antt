@@ -1,1 +1,2 @@
 pub mod Policies
+pub mod ByColour

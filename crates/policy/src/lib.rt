@@ -4,6 +4,7 @@ ghost use mathlib.Core.Path.{_≡_};
 ghost use Prim.Native.Nat.{_<_, _≤_};
 ghost use mathlib.Core.Bool.{true};
 ghost use Rattle.lists.specs.Lists.{all, below};
+ghost use Rattle.policy.specs.ByColour.{byColour, tableEdges, tableColours};
 ghost use Rattle.policy.specs.Policies.{edges, targetOf, colourOf, coloursOf, inFamily, accepting, legalCounts, legalEdge, legalSet, legal};
 
 pub struct Policy {
@@ -68,6 +69,50 @@ pub fn is_accepting(p: Policy, m: u64) -> bool
 {
     in_family(p, colours_of(p, m))
 }
+
+// ---- the edges by colour
+
+// The edges of each colour.
+pub fn by_colour(p: Policy) -> [u64; 8]
+    requires { ⌜ legal p ≡ true ⌝ }
+    ensures { λ r. ⌜ r ≡ byColour p ⌝ }
+{
+    let mut t = [0u64; 8];
+    let n = edges(p);
+    for e in 0..n {
+        let c = p.colour[e] as usize;
+        t[c] = masks::with(t[c], e);
+    }
+    t
+}
+
+// The edges of a colour set, by such a table.
+pub fn edges_in(t: &[u64; 8], c: u8) -> u64
+    ensures { λ r. ⌜ r ≡ tableEdges (now (t .entry)) c ⌝ }
+{
+    let mut m: u64 = 0;
+    for k in 0..8u8 {
+        if masks::set_has(c, k) {
+            m = masks::either(m, t[k as usize]);
+        }
+    }
+    m
+}
+
+// The colours of an edge set, by such a table.
+pub fn colours_in(t: &[u64; 8], m: u64) -> u8
+    ensures { λ r. ⌜ r ≡ tableColours (now (t .entry)) m ⌝ }
+{
+    let mut s: u8 = 0;
+    for k in 0..8u8 {
+        if masks::both(m, t[k as usize]) != 0 {
+            s = masks::set_with(s, k);
+        }
+    }
+    s
+}
+
+// ---- legal policies
 
 // Whether the counts are within the limits.
 fn has_legal_counts(p: Policy) -> bool

@@ -1,0 +1,253 @@
+-- The table of the edges by colour: one turn of each loop over it, and that it gives the edges of a colour set and the colours of an edge set. Assumes nothing.
+use Prim.Native.Nat.{ℕ, zero, suc, _+_, _^_, _<_}
+use native.Mathlib.Omega.{arith}
+use native.Mathlib.Decide.{ℕ-discrete, decLt}
+use native.Mathlib.Numerals.{add-one}
+use mathlib.Core.Path.{_≡_, refl, sym, ap, _∙_, subst}
+use mathlib.Core.Logic.{_⊎_, inl, inr, _≢_}
+use mathlib.Core.Bool.{Bool, true, false, _&&_, cond, true≢false, false≢true, and-true}
+use mathlib.Core.List.{List, List·Memᴰ·head, List·Memᴰ·eq-of-singleton}
+use lib.Bits.{bitAnd, bitOr}
+use lib.Dec.{eqb}
+use lib.ListN.{length, getD, set, replicate, length-set}
+use lib.Seq.{ext-getD, getD-set-same, getD-set-other}
+use Rattle.lists.specs.Lists.{all, below}
+use Rattle.lists.proofs.Bools.{test, and-l, and-r, both, or-cases, or-left, or-right, eqb≡, ≡eqb, neqb, bool-ext}
+use Rattle.lists.proofs.Lists.{getD-map-below}
+use Rattle.masks.specs.Masks.{has, insert, gather}
+use Rattle.masks.proofs.Bits.{has-and, has-or, has-none, has-insert, has-high, mask-ext}
+use Rattle.masks.proofs.Gather.{gather-lt, has-gather, gather-in, gather-out}
+use Rattle.policy.specs.declared.Policy.{Policy}
+use Rattle.policy.specs.Policies.{edges, colourOf, edgeColours, coloursOf, legal}
+use Rattle.policy.specs.ByColour.{hasColour, edgesIn, byColourTo, byColour, tableEdgesTo, tableEdges, tableColoursTo, tableColours}
+use Rattle.policy.proofs.Laws.{legal-counts, legal-colour, colours-some, some-colours}
+
+-- ---- one turn of the loops over a table
+pub edges-none : (t : List ℕ) (c : ℕ) → tableEdgesTo t 0 c ≡ 0
+unfolding tableEdgesTo
+edges-none t c = refl
+
+pub edges-with : (t : List ℕ) (n c : ℕ) → has c n ≡ true → tableEdgesTo t (n + 1) c ≡ bitOr (tableEdgesTo t n c) (getD t n 0)
+unfolding tableEdgesTo
+edges-with t n c h = rw add-one (ap (λ (b : Bool). cond b (bitOr (tableEdgesTo t n c) (getD t n 0)) (tableEdgesTo t n c)) h)
+
+pub edges-without : (t : List ℕ) (n c : ℕ) → has c n ≡ false → tableEdgesTo t (n + 1) c ≡ tableEdgesTo t n c
+unfolding tableEdgesTo
+edges-without t n c h = rw add-one (ap (λ (b : Bool). cond b (bitOr (tableEdgesTo t n c) (getD t n 0)) (tableEdgesTo t n c)) h)
+
+pub colours-to-none : (t : List ℕ) (m : ℕ) → tableColoursTo t 0 m ≡ 0
+unfolding tableColoursTo
+colours-to-none t m = refl
+
+pub colours-with : (t : List ℕ) (n m : ℕ) → bitAnd m (getD t n 0) ≢ 0 → tableColoursTo t (n + 1) m ≡ insert (tableColoursTo t n m) n
+unfolding tableColoursTo
+colours-with t n m h = rw add-one (ap (λ (b : Bool). cond b (tableColoursTo t n m) (insert (tableColoursTo t n m) n)) (neqb (bitAnd m (getD t n 0)) 0 h))
+
+pub colours-without : (t : List ℕ) (n m : ℕ) → bitAnd m (getD t n 0) ≡ 0 → tableColoursTo t (n + 1) m ≡ tableColoursTo t n m
+unfolding tableColoursTo
+colours-without t n m h = rw add-one (ap (λ (b : Bool). cond b (tableColoursTo t n m) (insert (tableColoursTo t n m) n)) (≡eqb (bitAnd m (getD t n 0)) 0 h))
+
+-- ---- the bits of what they give
+-- a set without a member is empty
+empty : (m : ℕ) → ((e : ℕ) → has m e ≡ true → ⊥) → m ≡ 0
+empty m h = mask-ext m 0 (λ e. bool-ext (has m e) (has 0 e) (λ t. absurd (h e t)) (λ t. absurd (false≢true (sym (has-none e) ∙ t))))
+
+edges-to-some : (t : List ℕ) (n c e : ℕ) → has (tableEdgesTo t n c) e ≡ true → (k : ℕ) × (k < n) × (has c k ≡ true) × (has (getD t k 0) e ≡ true)
+unfolding tableEdgesTo
+edges-to-some t zero c e h = absurd (false≢true (sym (has-none e) ∙ h))
+edges-to-some t (suc n) c e h = go (test (has c n)) (edges-to-some t n c e)
+  where
+    Some : ℕ → Type 0
+    Some n = (k : ℕ) × (k < n) × (has c k ≡ true) × (has (getD t k 0) e ≡ true)
+
+    up : Some n → Some (suc n)
+    up r = (r .0, omega (arith, r .1), r .2, r .3)
+
+    one : has c n ≡ true → (has (tableEdgesTo t n c) e ≡ true → Some n) → (has (tableEdgesTo t n c) e ≡ true) ⊎ (has (getD t n 0) e ≡ true) → Some (suc n)
+    one u ih (inl k) = up (ih k)
+    one u ih (inr k) = (n, omega arith, u, k)
+
+    go : (has c n ≡ true) ⊎ (has c n ≡ false) → (has (tableEdgesTo t n c) e ≡ true → Some n) → Some (suc n)
+    go (inl u) ih = one u ih (or-cases (has (tableEdgesTo t n c) e) (has (getD t n 0) e) (sym (has-or e (tableEdgesTo t n c) (getD t n 0)) ∙ (rw u at h)))
+    go (inr u) ih = up (ih (rw u at h))
+
+some-edges-to : (t : List ℕ) (n c e k : ℕ) → k < n → has c k ≡ true → has (getD t k 0) e ≡ true → has (tableEdgesTo t n c) e ≡ true
+unfolding tableEdgesTo
+some-edges-to t zero c e k l u h = absurd (omega arith)
+some-edges-to t (suc n) c e k l u h = go (ℕ-discrete k n) (test (has c n)) (some-edges-to t n c e k)
+  where
+    go : Dec (k ≡ n) → (has c n ≡ true) ⊎ (has c n ≡ false) → (k < n → has c k ≡ true → has (getD t k 0) e ≡ true → has (tableEdgesTo t n c) e ≡ true) → has (tableEdgesTo t (suc n) c) e ≡ true
+    go (yes q) (inl w) ih = rw w (has-or e (tableEdgesTo t n c) (getD t n 0) ∙ or-right (has (tableEdgesTo t n c) e) (has (getD t n 0) e) (ap (λ (k : ℕ). has (getD t k 0) e) (sym q) ∙ h))
+    go (yes q) (inr w) ih = absurd (true≢false (sym u ∙ ap (has c) q ∙ w))
+    go (no q) (inl w) ih = rw w (has-or e (tableEdgesTo t n c) (getD t n 0) ∙ or-left (has (tableEdgesTo t n c) e) (has (getD t n 0) e) (ih (omega arith) u h))
+    go (no q) (inr w) ih = rw w (ih (omega arith) u h)
+
+-- bit c of the colours: c is below n, and entry c has an edge of m
+colours-to-some : (t : List ℕ) (n m c : ℕ) → has (tableColoursTo t n m) c ≡ true → (c < n) × (bitAnd m (getD t c 0) ≢ 0)
+unfolding tableColoursTo
+colours-to-some t zero m c h = absurd (false≢true (sym (has-none c) ∙ h))
+colours-to-some t (suc n) m c h = go (test (eqb (bitAnd m (getD t n 0)) 0)) (colours-to-some t n m c)
+  where
+    Some : ℕ → Type 0
+    Some n = (c < n) × (bitAnd m (getD t c 0) ≢ 0)
+
+    up : Some n → Some (suc n)
+    up r = (omega (arith, r .0), r .1)
+
+    one : eqb (bitAnd m (getD t n 0)) 0 ≡ false → (has (tableColoursTo t n m) c ≡ true → Some n) → (has (tableColoursTo t n m) c ≡ true) ⊎ (eqb n c ≡ true) → Some (suc n)
+    one u ih (inl k) = up (ih k)
+    one u ih (inr k) = (omega (arith, eqb≡ n c k), λ z. true≢false (sym (≡eqb (bitAnd m (getD t n 0)) 0 (ap (λ (x : ℕ). bitAnd m (getD t x 0)) (eqb≡ n c k) ∙ z)) ∙ u))
+
+    go : (eqb (bitAnd m (getD t n 0)) 0 ≡ true) ⊎ (eqb (bitAnd m (getD t n 0)) 0 ≡ false) → (has (tableColoursTo t n m) c ≡ true → Some n) → Some (suc n)
+    go (inl u) ih = up (ih (rw u at h))
+    go (inr u) ih = one u ih (or-cases (has (tableColoursTo t n m) c) (eqb n c) (sym (has-insert (tableColoursTo t n m) n c) ∙ (rw u at h)))
+
+some-colours-to : (t : List ℕ) (n m c : ℕ) → c < n → bitAnd m (getD t c 0) ≢ 0 → has (tableColoursTo t n m) c ≡ true
+unfolding tableColoursTo
+some-colours-to t zero m c l h = absurd (omega arith)
+some-colours-to t (suc n) m c l h = go (ℕ-discrete n c) (test (eqb (bitAnd m (getD t n 0)) 0)) (some-colours-to t n m c)
+  where
+    go : Dec (n ≡ c) → (eqb (bitAnd m (getD t n 0)) 0 ≡ true) ⊎ (eqb (bitAnd m (getD t n 0)) 0 ≡ false) → (c < n → bitAnd m (getD t c 0) ≢ 0 → has (tableColoursTo t n m) c ≡ true) → has (tableColoursTo t (suc n) m) c ≡ true
+    go (yes q) (inl u) ih = absurd (h (ap (λ (x : ℕ). bitAnd m (getD t x 0)) (sym q) ∙ eqb≡ (bitAnd m (getD t n 0)) 0 u))
+    go (yes q) (inr u) ih = rw u (has-insert (tableColoursTo t n m) n c ∙ or-right (has (tableColoursTo t n m) c) (eqb n c) (≡eqb n c q))
+    go (no q) (inl u) ih = rw u (ih (omega arith) h)
+    go (no q) (inr u) ih = rw u (has-insert (tableColoursTo t n m) n c ∙ or-left (has (tableColoursTo t n m) c) (eqb n c) (ih (omega arith) h))
+
+module _ (p : Policy) where
+  of-colour : (c e : ℕ) → colourOf p e ≡ c → hasColour p c e ≡ true
+  unfolding hasColour
+  of-colour c e q = ≡eqb (colourOf p e) c q
+
+  not-colour : (c e : ℕ) → colourOf p e ≢ c → hasColour p c e ≡ false
+  unfolding hasColour
+  not-colour c e q = neqb (colourOf p e) c q
+
+  is-colour : (c e : ℕ) → hasColour p c e ≡ true → colourOf p e ≡ c
+  unfolding hasColour
+  is-colour c e t = eqb≡ (colourOf p e) c t
+
+  -- ---- one turn of the loop that fills the table
+  pub by-none : replicate 8 0 ≡ byColourTo p 0
+  unfolding byColourTo gather
+  by-none = refl
+
+  by-long : (n : ℕ) → length (byColourTo p n) ≡ 8
+  unfolding byColourTo
+  by-long n = refl
+
+  by-at : (n c : ℕ) → c < 8 → getD (byColourTo p n) c 0 ≡ gather (hasColour p c) n
+  unfolding byColourTo
+  by-at n c l = getD-map-below (λ (c : ℕ). gather (hasColour p c) n) 8 c 0 l
+
+  pub by-more : (n : ℕ) → colourOf p n < 8 → set (byColourTo p n) (colourOf p n) (insert (getD (byColourTo p n) (colourOf p n) 0) n) ≡ byColourTo p (n + 1)
+  by-more n l = ext-getD 0 after (byColourTo p (n + 1)) (long ∙ sym (by-long (n + 1))) (λ c h. at c (subst (λ (k : ℕ). c < k) long h) (ℕ-discrete c k))
+    where
+      k : ℕ
+      k = colourOf p n
+
+      after : List ℕ
+      after = set (byColourTo p n) k (insert (getD (byColourTo p n) k 0) n)
+
+      long : length after ≡ 8
+      long = length-set (byColourTo p n) k (insert (getD (byColourTo p n) k 0) n) ∙ by-long n
+
+      at : (c : ℕ) → c < 8 → Dec (c ≡ k) → getD after c 0 ≡ getD (byColourTo p (n + 1)) c 0
+      at c h (yes q) =
+          ap (λ (c : ℕ). getD after c 0) q ∙ getD-set-same (byColourTo p n) k (insert (getD (byColourTo p n) k 0) n) 0 (subst (λ (z : ℕ). k < z) (sym (by-long n)) l)
+          ∙ ap (λ (x : ℕ). insert x n) (by-at n k l) ∙ sym (gather-in (hasColour p k) n (of-colour k n refl)) ∙ sym (by-at (n + 1) k l) ∙ ap (λ (c : ℕ). getD (byColourTo p (n + 1)) c 0) (sym q)
+      at c h (no q) =
+          getD-set-other (byColourTo p n) k c (insert (getD (byColourTo p n) k 0) n) 0 q
+          ∙ by-at n c h ∙ sym (gather-out (hasColour p c) n (not-colour c n (λ e. q (sym e)))) ∙ sym (by-at (n + 1) c h)
+
+  pub by-all : (n : ℕ) → n ≡ edges p → byColourTo p n ≡ byColour p
+  unfolding byColour
+  by-all n q = ap (byColourTo p) q
+
+  -- ---- the table, by its edges
+  bit-lt : (n m e : ℕ) → m < 2 ^ n → has m e ≡ true → e < n
+  bit-lt n m e l t = go (decLt e n)
+    where
+      go : Dec (e < n) → e < n
+      go (yes k) = k
+      go (no k) = absurd (false≢true (sym (has-high n e m l (omega arith)) ∙ t))
+
+  gathered : (t : ℕ → Bool) (n e : ℕ) → has (gather t n) e ≡ true → (e < n) × (t e ≡ true)
+  gathered t n e h = let l = bit-lt n (gather t n) e (gather-lt t n) h in (l, sym (has-gather t n e l) ∙ h)
+
+  table-some : (c e : ℕ) → c < 8 → has (getD (byColour p) c 0) e ≡ true → (e < edges p) × (colourOf p e ≡ c)
+  unfolding byColour
+  table-some c e l h =
+      let r = gathered (hasColour p c) (edges p) e (ap (λ (m : ℕ). has m e) (sym (by-at (edges p) c l)) ∙ h) in
+      (r .0, is-colour c e (r .1))
+
+  some-table : (c e : ℕ) → c < 8 → e < edges p → colourOf p e ≡ c → has (getD (byColour p) c 0) e ≡ true
+  unfolding byColour
+  some-table c e l h q = ap (λ (m : ℕ). has m e) (by-at (edges p) c l) ∙ has-gather (hasColour p c) (edges p) e h ∙ of-colour c e q
+
+  -- ---- the edges of a colour set
+  pub edges-in-some : (c e : ℕ) → has (edgesIn p c) e ≡ true → (e < edges p) × (all (has c) (edgeColours p e) ≡ true)
+  unfolding edgesIn
+  edges-in-some c e h = gathered (λ (e : ℕ). all (has c) (edgeColours p e)) (edges p) e h
+
+  pub some-edges-in : (c e : ℕ) → e < edges p → all (has c) (edgeColours p e) ≡ true → has (edgesIn p c) e ≡ true
+  unfolding edgesIn
+  some-edges-in c e l h = has-gather (λ (e : ℕ). all (has c) (edgeColours p e)) (edges p) e l ∙ h
+
+  colours-one : (c e : ℕ) → all (has c) (edgeColours p e) ≡ has c (colourOf p e)
+  unfolding edgeColours
+  colours-one c e = and-true (has c (colourOf p e))
+
+  module _ (lawful : legal p ≡ true) where
+    pub colour-few : (e : ℕ) → e < edges p → colourOf p e < 8
+    colour-few e l = omega (arith, legal-colour p lawful e l, legal-counts p lawful .colours-few)
+
+    -- the table gives the edges of a colour set
+    pub table-edges-are : (c : ℕ) → tableEdges (byColour p) c ≡ edgesIn p c
+    unfolding tableEdges
+    table-edges-are c = mask-ext (tableEdges (byColour p) c) (edgesIn p c) (λ e. bool-ext (has (tableEdges (byColour p) c) e) (has (edgesIn p c) e) (there e) (back e))
+      where
+        there : (e : ℕ) → has (tableEdges (byColour p) c) e ≡ true → has (edgesIn p c) e ≡ true
+        there e h =
+            let r = edges-to-some (byColour p) 8 c e h in
+            let s = table-some (r .0) e (r .1) (r .3) in
+            some-edges-in c e (s .0) (colours-one c e ∙ ap (has c) (s .1) ∙ r .2)
+
+        back : (e : ℕ) → has (edgesIn p c) e ≡ true → has (tableEdges (byColour p) c) e ≡ true
+        back e h =
+            let r = edges-in-some c e h in
+            let few = colour-few e (r .0) in
+            some-edges-to (byColour p) 8 c e (colourOf p e) few (sym (colours-one c e) ∙ r .1) (some-table (colourOf p e) e few (r .0) refl)
+
+    -- and the colours of an edge set
+    pub table-colours-are : (m : ℕ) → tableColours (byColour p) m ≡ coloursOf p m
+    unfolding tableColours edgeColours
+    table-colours-are m = mask-ext (tableColours (byColour p) m) (coloursOf p m) (λ c. bool-ext (has (tableColours (byColour p) m) c) (has (coloursOf p m) c) (there c) (back c))
+      where
+        there : (c : ℕ) → has (tableColours (byColour p) m) c ≡ true → has (coloursOf p m) c ≡ true
+        there c h = go (test (has (coloursOf p m) c))
+          where
+            r : (c < 8) × (bitAnd m (getD (byColour p) c 0) ≢ 0)
+            r = colours-to-some (byColour p) 8 m c h
+
+            none : has (coloursOf p m) c ≡ false → bitAnd m (getD (byColour p) c 0) ≡ 0
+            none f =
+                empty (bitAnd m (getD (byColour p) c 0))
+                (λ e t.
+                let u : has m e && has (getD (byColour p) c 0) e ≡ true = sym (has-and e m (getD (byColour p) c 0)) ∙ t in
+                let s = table-some c e (r .0) (and-r (has m e) (has (getD (byColour p) c 0) e) u) in
+                true≢false (sym (some-colours p m e c (s .0) (and-l (has m e) (has (getD (byColour p) c 0) e) u) (List·Memᴰ·head (sym (s .1)))) ∙ f))
+
+            go : (has (coloursOf p m) c ≡ true) ⊎ (has (coloursOf p m) c ≡ false) → has (coloursOf p m) c ≡ true
+            go (inl t) = t
+            go (inr f) = absurd (r .1 (none f))
+
+        back : (c : ℕ) → has (coloursOf p m) c ≡ true → has (tableColours (byColour p) m) c ≡ true
+        back c h =
+            let r = colours-some p m c h in
+            let is : c ≡ colourOf p (r .0) = List·Memᴰ·eq-of-singleton (r .3) in
+            let few : c < 8 = subst (λ (x : ℕ). x < 8) (sym is) (colour-few (r .0) (r .1)) in
+            some-colours-to (byColour p) 8 m c few
+            (λ z.
+            false≢true
+            (sym (ap (λ (x : ℕ). has x (r .0)) z ∙ has-none (r .0))
+            ∙ has-and (r .0) m (getD (byColour p) c 0) ∙ both (has m (r .0)) (has (getD (byColour p) c 0) (r .0)) (r .2) (some-table c (r .0) few (r .1) (sym is))))
