@@ -45,6 +45,41 @@ pub fn policy(
     }
 }
 
+/// How many states row tables have, if their lengths are those of some states.
+fn states(letters: usize, targets: &[u16], priorities: &[u8]) -> Result<usize, Refusal> {
+    let whole = (1..=8).contains(&letters)
+        && targets.len() == priorities.len()
+        && targets.len() % letters == 0
+        && targets.len() / letters <= 65_535;
+    if whole {
+        Ok(targets.len() / letters)
+    } else {
+        Err(8)
+    }
+}
+
+/// One letter over rows: the next state and the priority.
+pub fn step(
+    letters: usize,
+    targets: &[u16],
+    priorities: &[u8],
+    state: u16,
+    letter: u8,
+) -> Result<(u16, u8), Refusal> {
+    let states = states(letters, targets, priorities)?;
+    if state as usize >= states {
+        return Err(11);
+    }
+    if letter as usize >= letters {
+        return Err(12);
+    }
+    let row = state as usize * letters + letter as usize;
+    if targets[row] as usize >= states {
+        return Err(13);
+    }
+    Ok((targets[row], priorities[row]))
+}
+
 /// The least priority that recurs.
 pub fn rows(
     letters: usize,
@@ -54,14 +89,7 @@ pub fn rows(
     stem: &[u8],
     cycle: &[u8],
 ) -> Result<u8, Refusal> {
-    if !(1..=8).contains(&letters)
-        || targets.len() != priorities.len()
-        || targets.len() % letters != 0
-        || targets.len() / letters > 65_535
-    {
-        return Err(8);
-    }
-    let states = targets.len() / letters;
+    let states = states(letters, targets, priorities)?;
     if state >= states {
         return Err(11);
     }
@@ -71,7 +99,7 @@ pub fn rows(
     if stem.iter().chain(cycle).any(|&a| a as usize >= letters) {
         return Err(12);
     }
-    let step = |s: usize, a: u8| {
+    let move_on = |s: usize, a: u8| {
         let row = s * letters + a as usize;
         let t = targets[row] as usize;
         if t < states {
@@ -82,7 +110,7 @@ pub fn rows(
     };
     let mut s = state;
     for &a in stem {
-        s = step(s, a)?.0;
+        s = move_on(s, a)?.0;
     }
     let mut began: HashMap<u64, usize, BuildHasherDefault<Mix>> = HashMap::default();
     let mut met = Vec::new();
@@ -93,7 +121,7 @@ pub fn rows(
         began.insert(s as u64, met.len());
         let mut least = 255;
         for &a in cycle {
-            let (t, k) = step(s, a)?;
+            let (t, k) = move_on(s, a)?;
             least = least.min(k);
             s = t;
         }

@@ -1,0 +1,283 @@
+//! The proved library and the fast independent translator side by side: the same policies, the same work, the best of several rounds. Prints a table.
+
+use comparison::{unhex, Lent};
+use independent::policy::{self, Policy};
+use independent::random::Random;
+use independent::{fast, judge};
+use std::hint::black_box;
+use std::time::{Duration, Instant};
+use wulfrenda::Run;
+
+/// The least time of one call, in nanoseconds. The two are called in turn, so that both see the same machine.
+fn best(mut ours: impl FnMut(), mut theirs: impl FnMut()) -> (f64, f64) {
+    let mut least = [f64::MAX; 2];
+    let begin = Instant::now();
+    let mut rounds = 0;
+    while rounds < 7 || begin.elapsed() < Duration::from_millis(600) {
+        let t = Instant::now();
+        ours();
+        least[0] = least[0].min(t.elapsed().as_nanos() as f64);
+        let t = Instant::now();
+        theirs();
+        least[1] = least[1].min(t.elapsed().as_nanos() as f64);
+        rounds += 1;
+    }
+    (least[0], least[1])
+}
+
+fn ignore<T>(_: T) {}
+
+fn time(ns: f64) -> String {
+    match ns {
+        _ if ns < 1e4 => format!("{ns:.0} ns"),
+        _ if ns < 1e7 => format!("{:.1} µs", ns / 1e3),
+        _ => format!("{:.1} ms", ns / 1e6),
+    }
+}
+
+/// Reading the command bytes and translating, for a list of policies: from bytes to tables on both sides.
+fn translating(name: &str, policies: &[Policy]) {
+    let mut translator = fast::Translator::default();
+    let bytes: Vec<Vec<u8>> = policies.iter().map(Policy::bytes).collect();
+    let (mut nodes, mut rows) = (0, 0);
+    let mut tables: Vec<Lent> = Vec::new();
+    for p in policies {
+        let room = match translator.translate(p, 65_535, 65_535) {
+            Ok(a) => (a.nodes.len(), a.states.len()),
+            Err(_) => (65_535, 65_535),
+        };
+        nodes += room.0;
+        rows += room.1 * p.letters;
+        tables.push(Lent::new(room.0, room.1, room.1 * p.letters, 0));
+    }
+    let rounds = (20_000 / (nodes + rows)).max(1);
+    let (ours, theirs) = best(
+        || {
+            for _ in 0..rounds {
+                for (b, t) in bytes.iter().zip(&mut tables) {
+                    let (p, _) = wulfrenda::Policy::read(black_box(b)).unwrap();
+                    black_box(t.translate(&p)).ok();
+                }
+            }
+        },
+        || {
+            for _ in 0..rounds {
+                for b in &bytes {
+                    let (p, _) = policy::read(black_box(b)).unwrap();
+                    black_box(translator.translate(&p, 65_535, 65_535)).ok();
+                }
+            }
+        },
+    );
+    let (each, all) = (policies.len() as f64, rounds as f64);
+    println!(
+        "| {name} | {} | {} | {} | {} | {:.0} | {:.1} | {:.2} |",
+        nodes / policies.len(),
+        rows / policies.len(),
+        time(ours / all / each),
+        time(theirs / all / each),
+        ours / all / nodes as f64,
+        ours / all / rows as f64,
+        ours / theirs
+    );
+}
+
+/// A line of the second table: what a call costs, and one of its steps.
+fn line(name: &str, steps: usize, (ours, theirs): (f64, f64)) {
+    println!(
+        "| {name} | {} | {} | {:.2} | {:.2} |",
+        time(ours),
+        time(theirs),
+        ours / steps as f64,
+        ours / theirs
+    );
+}
+
+/// A policy with random targets and colours, and a family of random sets or of all sets with an even number of members.
+fn random_policy(
+    random: &mut Random,
+    states: usize,
+    letters: usize,
+    colours: usize,
+    even: bool,
+) -> Policy {
+    Policy {
+        states,
+        letters,
+        colours,
+        initial: 0,
+        edges: (0..states * letters)
+            .map(|_| (random.below(states), random.below(colours)))
+            .collect(),
+        family: (0..1usize << colours)
+            .map(|s| {
+                s != 0
+                    && if even {
+                        s.count_ones() % 2 == 0
+                    } else {
+                        random.chance(50)
+                    }
+            })
+            .collect(),
+    }
+}
+
+fn file(text: &str) -> Policy {
+    policy::read(&unhex(text)).unwrap().0
+}
+
+fn main() {
+    let mut random = Random::new(1);
+    let mut some = |n: usize,
+                    states: [usize; 2],
+                    letters: [usize; 2],
+                    colours: [usize; 2],
+                    even|
+     -> Vec<Policy> {
+        (0..n)
+            .map(|_| {
+                let mut pick = |[from, to]: [usize; 2]| from + random.below(to - from + 1);
+                let (s, l, c) = (pick(states), pick(letters), pick(colours));
+                random_policy(&mut random, s, l, c, even)
+            })
+            .collect()
+    };
+    let small = some(100, [1, 3], [1, 3], [1, 3], false);
+    let sites = some(100, [4, 8], [2, 4], [3, 5], false);
+    let large = some(10, [16, 16], [4, 4], [8, 8], false);
+    let alternating = some(3, [16, 16], [4, 4], [8, 8], true);
+    let known = [
+        include_str!("../../../../examples/a.hex"),
+        include_str!("../../../../examples/b.hex"),
+        include_str!("../../../../examples/c.hex"),
+    ];
+    println!("| policies | nodes | rows | ours | independent | ns a node | ns a row | ratio |");
+    println!("|---|---:|---:|---:|---:|---:|---:|---:|");
+    translating("A, B and C", &known.map(file));
+    translating("100 small: 1 to 3 states and colours", &small);
+    translating("100 sites: 4 to 8 states, 3 to 5 colours", &sites);
+    translating(
+        "1,000 nodes",
+        &[file(include_str!("../../policies/nodes_1000.hex"))],
+    );
+    translating("10 of 16 states, 4 letters, 8 colours", &large);
+    translating("3 of the same size, even sets accepted", &alternating);
+    translating(
+        "10,000 nodes",
+        &[file(include_str!("../../policies/nodes_10000.hex"))],
+    );
+    translating(
+        "65,535 nodes",
+        &[file(include_str!("../../policies/nodes_65535.hex"))],
+    );
+    translating(
+        "109,601 nodes: does not fit",
+        &[file(include_str!("../../policies/too_many.hex"))],
+    );
+
+    println!("\n| call | ours | independent | ns a letter or edge | ratio |");
+    println!("|---|---:|---:|---:|---:|");
+    let p = &alternating[0];
+    let ours = wulfrenda::Policy::from_record(p.record());
+    let a = fast::translate(p, 65_535, 65_535).unwrap();
+    let t = Lent::holding(&a, a.nodes.len(), a.states.len(), a.rows.len());
+    let rows = t.rows(p.letters as u8);
+    for length in [10, 1_000] {
+        let cycle: Vec<u8> = (0..length).map(|_| random.below(p.letters) as u8).collect();
+        let state = usize::from(a.start);
+        // how many letters are read until the runs repeat is the same on both sides only in order of size; count the loop once
+        line(
+            &format!("judging the policy, a loop of {length}"),
+            length,
+            best(
+                || {
+                    black_box(ignore(wulfrenda::judge_policy(
+                        &ours,
+                        0,
+                        &[],
+                        black_box(&cycle),
+                    )))
+                },
+                || black_box(ignore(judge::policy(p, 0, &[], black_box(&cycle)))),
+            ),
+        );
+        line(
+            &format!("judging {} rows, a loop of {length}", a.rows.len()),
+            length,
+            best(
+                || {
+                    black_box(ignore(wulfrenda::judge_rows(
+                        &rows,
+                        state as u16,
+                        &[],
+                        black_box(&cycle),
+                    )))
+                },
+                || {
+                    black_box(ignore(judge::rows(
+                        p.letters,
+                        &t.row_targets,
+                        &t.row_priorities,
+                        state,
+                        &[],
+                        black_box(&cycle),
+                    )))
+                },
+            ),
+        );
+    }
+    let word: Vec<u8> = (0..10_000).map(|_| random.below(p.letters) as u8).collect();
+    line(
+        "running 10,000 letters, a call for each",
+        word.len(),
+        best(
+            || {
+                let mut run = Run { state: a.start };
+                for &letter in &word {
+                    run = black_box(run.read(letter, &rows)).unwrap().0;
+                }
+            },
+            || {
+                let mut state = a.start;
+                for &letter in &word {
+                    state = black_box(judge::step(
+                        p.letters,
+                        &t.row_targets,
+                        &t.row_priorities,
+                        state,
+                        letter,
+                    ))
+                    .unwrap()
+                    .0;
+                }
+            },
+        ),
+    );
+    for (name, p) in [
+        ("a site of 8 states", &sites[0]),
+        ("16 states and 8 colours", &large[0]),
+        ("the same, even sets", &alternating[0]),
+    ] {
+        // the same policy with its colours counted from the other end
+        let mut q = p.clone();
+        for edge in &mut q.edges {
+            edge.1 = p.colours - 1 - edge.1;
+        }
+        for set in 0..p.family.len() {
+            q.family[set] = p.family[set.reverse_bits() >> (usize::BITS as usize - p.colours)];
+        }
+        let (first, second) = (
+            wulfrenda::Policy::from_record(p.record()),
+            wulfrenda::Policy::from_record(q.record()),
+        );
+        assert_eq!(wulfrenda::compare(&first, &second), Ok(true));
+        line(
+            &format!("comparing {name} with itself renamed"),
+            p.edges.len(),
+            best(
+                || black_box(ignore(wulfrenda::compare(black_box(&first), &second))),
+                || black_box(ignore(fast::compare(black_box(p), &q))),
+            ),
+        );
+    }
+}

@@ -1,0 +1,315 @@
+//! The proved library answers what the independent translator does, on policies of every shape, valid and damaged, and in tables too short, just right and longer.
+//! SEED and POLICIES change the fixed seed and the number of policies, for a longer run by hand.
+
+use comparison::{hex, Lent};
+use independent::policy::{from_record, Policy};
+use independent::random::Random;
+use independent::{fast, judge, policy, Automaton};
+use wulfrenda::{Counts, Refusal, Rows, Run};
+
+fn number(name: &str, usual: u64) -> u64 {
+    std::env::var(name).map_or(usual, |x| x.parse().expect("a number"))
+}
+
+fn random(seed: u64) -> Random {
+    Random::new(seed + 1000 * number("SEED", 0))
+}
+
+fn policies(usual: u64) -> u64 {
+    number("POLICIES", usual)
+}
+
+/// The same policy on the proved side.
+fn proved(p: &Policy) -> wulfrenda::Policy {
+    wulfrenda::Policy::from_record(p.record())
+}
+
+fn refusal<T>(r: Result<T, Refusal>) -> Result<T, u8> {
+    r.map_err(Refusal::number)
+}
+
+fn counts(a: &Automaton) -> Counts {
+    Counts {
+        nodes: a.nodes.len() as u16,
+        states: a.states.len() as u16,
+        start: a.start,
+    }
+}
+
+/// Bytes with some of them changed, cut off, put in or taken out.
+fn damaged(random: &mut Random, mut bytes: Vec<u8>) -> Vec<u8> {
+    for _ in 0..=random.below(3) {
+        if bytes.is_empty() {
+            break;
+        }
+        let at = random.below(bytes.len());
+        match random.below(4) {
+            0 => bytes[at] = random.below(256) as u8,
+            1 => bytes.truncate(at),
+            2 => bytes.insert(at, random.below(8) as u8),
+            _ => drop(bytes.remove(at)),
+        }
+    }
+    bytes
+}
+
+fn read_alike(bytes: &[u8]) {
+    let ours = wulfrenda::Policy::read(bytes)
+        .map(|(p, rest)| (*p.record(), bytes.len() - rest.len()))
+        .map_err(|e| (e.number(), e.offset));
+    let theirs = policy::read(bytes).map(|(p, end)| (p.record(), end));
+    assert_eq!(ours, theirs, "bytes {}", hex(bytes));
+}
+
+#[test]
+fn reading() {
+    let mut random = random(11);
+    for i in 0..policies(10_000) {
+        let mut bytes = random.policy([4, 8, 16, 32, 64][i as usize % 5]).bytes();
+        bytes.extend((0..random.below(6)).map(|b| b as u8));
+        read_alike(&bytes);
+        read_alike(&damaged(&mut random, bytes));
+    }
+    read_alike(&[]);
+}
+
+fn translated_alike(p: &Policy, places: (usize, usize), theirs: Result<&Automaton, u8>) {
+    let (nodes, states) = places;
+    let rows = states * p.letters;
+    let mut tables = Lent::new(nodes, states, rows, 0xa5);
+    let ours = refusal(tables.translate(&proved(p)));
+    let expected = match theirs {
+        Ok(a) => Lent::holding(a, nodes, states, rows),
+        Err(_) => Lent::new(nodes, states, rows, 0),
+    };
+    let text = p.hex();
+    assert_eq!(ours, theirs.map(counts), "policy {text} in {places:?}");
+    assert!(tables == expected, "tables of policy {text} in {places:?}");
+}
+
+#[test]
+fn translating() {
+    let mut random = random(12);
+    let mut translator = fast::Translator::default();
+    let mut fitting = 0;
+    for i in 0..policies(6_000) {
+        let p = random.policy([4, 8, 16, 32, 64][i as usize % 5]);
+        let most = 65_535;
+        let a = match translator.translate(&p, most, most) {
+            Ok(a) => a,
+            Err(number) => {
+                translated_alike(&p, (most, most), Err(number));
+                translated_alike(&p, (most + 1, most + 1), Err(number));
+                continue;
+            }
+        };
+        fitting += 1;
+        let (nodes, states) = (a.nodes.len(), a.states.len());
+        translated_alike(&p, (nodes, states), Ok(a));
+        translated_alike(
+            &p,
+            (nodes + random.below(9), states + random.below(9)),
+            Ok(a),
+        );
+        translated_alike(&p, (nodes, states - 1), Err(10));
+        if nodes > 0 {
+            translated_alike(&p, (nodes - 1, states), Err(9));
+            translated_alike(&p, (nodes - 1, states - 1), Err(9));
+        }
+    }
+    assert!(fitting > policies(6_000) / 2);
+}
+
+#[test]
+fn lengths_that_do_not_belong_together() {
+    let mut random = random(13);
+    for _ in 0..policies(1_000) {
+        let p = random.policy(16);
+        let mut tables = Lent::new(40, 40, 40 * p.letters, 0xa5);
+        match random.below(7) {
+            0 => drop(tables.node_masks.pop()),
+            1 => drop(tables.node_parents.pop()),
+            2 => drop(tables.node_priorities.pop()),
+            3 => drop(tables.state_sources.pop()),
+            4 => drop(tables.state_leaves.pop()),
+            5 => drop(tables.row_targets.pop()),
+            _ => drop(tables.row_priorities.pop()),
+        }
+        let before = tables.clone();
+        assert_eq!(
+            refusal(tables.translate(&proved(&p))),
+            Err(8),
+            "{}",
+            p.hex()
+        );
+        assert_eq!(tables, before, "{}", p.hex());
+    }
+}
+
+#[test]
+fn records_that_are_not_legal() {
+    let mut random = random(14);
+    let mut illegal = 0;
+    for _ in 0..policies(6_000) {
+        let p = random.policy(32);
+        let mut record = p.record();
+        for _ in 0..=random.below(2) {
+            let at = [random.below(4), random.below(132), random.below(388)][random.below(3)];
+            record[at] = [random.below(256), random.below(20)][random.below(2)] as u8;
+        }
+        let ours = wulfrenda::Policy::from_record(record);
+        let text = hex(&record);
+        if from_record(&record).is_some() {
+            continue;
+        }
+        illegal += 1;
+        let mut tables = Lent::new(30, 30, 30 * p.letters, 0xa5);
+        let before = tables.clone();
+        assert_eq!(refusal(tables.translate(&ours)), Err(7), "record {text}");
+        assert_eq!(tables, before, "record {text}");
+        let judged = wulfrenda::judge_policy(&ours, 0, &[], &[0]);
+        assert_eq!(refusal(judged), Err(7), "record {text}");
+        let other = proved(&p);
+        for (a, b) in [(&ours, &other), (&other, &ours)] {
+            assert_eq!(refusal(wulfrenda::compare(a, b)), Err(7), "record {text}");
+        }
+    }
+    assert!(illegal > policies(6_000) / 4);
+}
+
+/// A stem and a loop, now and then with a letter too many or an empty loop.
+fn words(random: &mut Random, letters: usize) -> (Vec<u8>, Vec<u8>) {
+    let wild = random.chance(10);
+    let most = if wild { letters + 1 } else { letters };
+    let (stem, mut cycle) = (random.letters(most, 9), random.letters(most, 12));
+    if !random.chance(5) {
+        cycle.push(random.below(most) as u8);
+    }
+    (stem, cycle)
+}
+
+#[test]
+fn running_and_judging() {
+    let mut random = random(15);
+    let mut translator = fast::Translator::default();
+    for i in 0..policies(4_000) {
+        let p = random.policy([4, 8, 16, 32][i as usize % 4]);
+        let Ok(a) = translator.translate(&p, 4096, 4096) else {
+            continue;
+        };
+        let ours = proved(&p);
+        let letters = p.letters;
+        let mut tables = Lent::holding(a, 4096, a.states.len(), a.rows.len());
+        for _ in 0..8 {
+            let (stem, cycle) = words(&mut random, letters);
+            let text = format!("policy {} stem {stem:?} loop {cycle:?}", p.hex());
+            let v = random.below(p.states + 1);
+            let verdict = wulfrenda::judge_policy(&ours, v as u8, &stem, &cycle);
+            let verdict = verdict.map(|x| (usize::from(x.colours), x.accepted));
+            assert_eq!(
+                refusal(verdict),
+                judge::policy(&p, v, &stem, &cycle),
+                "{text}"
+            );
+            let s = random.below(a.states.len() + 1);
+            let rows = tables.rows(letters as u8);
+            judged_alike(&rows, s, &stem, &cycle, &text);
+            ran_alike(&rows, s, &stem, &text);
+        }
+        // rows that lead nowhere, other numbers of letters, tables of two lengths
+        let at = random.below(tables.row_targets.len());
+        tables.row_targets[at] = [a.states.len(), 65_535][random.below(2)] as u16;
+        let (stem, cycle) = words(&mut random, letters);
+        let text = format!("policy {} row {at} stem {stem:?} loop {cycle:?}", p.hex());
+        let s = random.below(a.states.len());
+        judged_alike(&tables.rows(letters as u8), s, &stem, &cycle, &text);
+        ran_alike(&tables.rows(letters as u8), s, &stem, &text);
+        let other = tables.rows(random.below(11) as u8);
+        judged_alike(&other, s, &stem, &cycle, &text);
+        ran_alike(&other, s, &stem, &text);
+        tables.row_priorities.pop();
+        judged_alike(&tables.rows(letters as u8), s, &stem, &cycle, &text);
+        ran_alike(&tables.rows(letters as u8), s, &stem, &text);
+    }
+}
+
+fn judged_alike(rows: &Rows, s: usize, stem: &[u8], cycle: &[u8], text: &str) {
+    let letters = usize::from(rows.letters);
+    let theirs = judge::rows(letters, rows.targets, rows.priorities, s, stem, cycle);
+    let ours = wulfrenda::judge_rows(rows, s as u16, stem, cycle);
+    assert_eq!(refusal(ours), theirs, "{text} state {s}");
+}
+
+/// Reads the letters one at a time on both sides; a refused one leaves the run where it is.
+fn ran_alike(rows: &Rows, s: usize, word: &[u8], text: &str) {
+    let mut run = Run { state: s as u16 };
+    for &letter in word {
+        let ours = run.read(letter, rows).map(|(run, met)| (run.state, met));
+        let letters = usize::from(rows.letters);
+        let theirs = judge::step(letters, rows.targets, rows.priorities, run.state, letter);
+        assert_eq!(refusal(ours), theirs, "{text} state {}", run.state);
+        if let Ok((state, _)) = ours {
+            run = Run { state };
+        }
+    }
+}
+
+/// The policy under other names of its colours.
+fn renamed(random: &mut Random, p: &Policy) -> Policy {
+    let mut names: Vec<usize> = (0..p.colours).collect();
+    for i in (1..names.len()).rev() {
+        names.swap(i, random.below(i + 1));
+    }
+    let mut q = p.clone();
+    for edge in &mut q.edges {
+        edge.1 = names[edge.1];
+    }
+    for (set, &member) in p.family.iter().enumerate() {
+        let other = (0..p.colours).filter(|c| set >> c & 1 == 1);
+        q.family[other.map(|c| 1 << names[c]).sum::<usize>()] = member;
+    }
+    q
+}
+
+#[test]
+fn comparing() {
+    let mut random = random(16);
+    let mut answers = [0; 3];
+    for i in 0..policies(3_000) {
+        let p = random.policy([4, 8, 16, 32, 64][i as usize % 5]);
+        let mut q = renamed(&mut random, &p);
+        match random.below(6) {
+            0 => q.initial = random.below(q.states),
+            1 | 2 => {
+                let set = 1 + random.below(q.family.len() - 1);
+                q.family[set] = !q.family[set];
+            }
+            3 => {
+                let e = random.below(q.edges.len());
+                q.edges[e].1 = random.below(q.colours);
+            }
+            4 => {
+                let e = random.below(q.edges.len());
+                q.edges[e].0 = random.below(q.states);
+            }
+            _ => q = random.policy(8),
+        }
+        let ours = refusal(wulfrenda::compare(&proved(&p), &proved(&q)));
+        assert_eq!(ours, fast::compare(&p, &q), "{} {}", p.hex(), q.hex());
+        answers[ours.map_or(2, usize::from)] += 1;
+    }
+    // each of the three answers came up
+    assert!(
+        answers.iter().all(|&n| n > policies(3_000) / 50),
+        "{answers:?}"
+    );
+}
+
+#[test]
+fn the_order_of_the_colour_sets() {
+    let mut sets: Vec<u8> = (0..=255).collect();
+    sets.sort_by_key(|s| (std::cmp::Reverse(s.count_ones()), *s));
+    for (position, &set) in sets.iter().enumerate() {
+        assert_eq!(wulfrenda::colour_set_at(position as u8), set);
+    }
+}
