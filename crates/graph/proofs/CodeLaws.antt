@@ -4,25 +4,25 @@
 use Prim.Native.Nat.{ℕ, zero, suc, _+_, _*_, _%_, _≤_, _<_}
 use native.Mathlib.Omega.{arith}
 use native.Mathlib.Decide.{ℕ-discrete}
-use native.Mathlib.Nat.{mod-lt, div-add-mod', mul-le-mul-right, suc-mul}
+use native.Mathlib.Nat.{mod-lt, div-add-mod', mul-le-mul-right, zero-mul, suc-mul, add-zero}
 use native.Mathlib.Numerals.{add-one}
 use mathlib.Core.Path.{_≡_, refl, sym, ap, _∙_, subst}
-use mathlib.Core.Logic.{_⊎_, inl, inr, _≢_}
-use mathlib.Core.Bool.{Bool, true, false, _&&_, cond, false≢true}
+use mathlib.Core.Logic.{_⊎_, inl, inr}
+use mathlib.Core.Bool.{Bool, true, false, _&&_, cond, and-true, and-false, false≢true}
 use mathlib.Core.List.{List, [], _∷_}
 use lib.Dec.{eqb}
-use lib.Arith.{digits-div, lt-of-le-ne}
 use lib.Bits.{bitOr}
 use lib.ListN.{length, getD, set, replicate, length-set, length-replicate}
 use lib.Seq.{getD-set-same, getD-set-other}
 use Rattle.lists.proofs.Bools.{test, or-cases, or-left, or-right, eqb≡, ≡eqb, bool-ext}
 use Rattle.masks.specs.Masks.{has, insert, gather, members}
+use Rattle.masks.proofs.Gather.{gather-none, gather-in, gather-out}
 use Rattle.masks.proofs.Bits.{has-none, has-or, has-insert, mask-ext}
 use Rattle.policy.specs.declared.Policy.{Policy}
 use Rattle.policy.specs.Policies.{edges, edgeOf, source, targetOf, legal}
-use Rattle.policy.proofs.Laws.{legal-counts, edges-le, legal-target, source-edge, edge-lt, source-lt}
+use Rattle.policy.proofs.Laws.{legal-counts, edges-le, legal-target, source-edge, edge-lt}
 use Rattle.graph.specs.Cycles.{Path, reach}
-use Rattle.graph.specs.Through.{cycleThrough, Rows, withEdge, edgeRow, edgeRows, States, joinRow, joinRows, joinedRows}
+use Rattle.graph.specs.Through.{cycleThrough, Rows, withEdge, edgeRow, edgeRows, States, joinRow, joinRows, joinedRows, returning, throughRows}
 use Rattle.graph.proofs.Paths.{members-has, members-lt, reach-sound, reach-complete}
 use Rattle.graph.proofs.Through.{Leads, leads-join, leads-edge}
 
@@ -151,21 +151,21 @@ unfolding joinedRows
 joined-next rows n l k u lu = join-at (joinedRows rows n k) k (getD (joinedRows rows n k) k 0) n u (omega (arith, joined-length rows n k)) lu
 
 module _ (p : Policy) (m : ℕ) where
-  edge-rows-length : (n : ℕ) → length (edgeRows p m n) ≡ 16
+  edge-rows-length : (n : ℕ) → length (edgeRows (p .target) (p .letters) m n) ≡ 16
   unfolding edgeRows
   edge-rows-length zero = length-replicate {A = ℕ} 16 0
   edge-rows-length (suc n) = simp length-set (edge-rows-length n)
 
-  edge-rows-at : (n v : ℕ) → n ≤ 16 → v < n → getD (edgeRows p m n) v 0 ≡ edgeRow (p .target) (p .letters) m v (p .letters)
+  edge-rows-at : (n v : ℕ) → n ≤ 16 → v < n → getD (edgeRows (p .target) (p .letters) m n) v 0 ≡ edgeRow (p .target) (p .letters) m v (p .letters)
   unfolding edgeRows
   edge-rows-at zero v l lv = absurd (omega arith)
   edge-rows-at (suc n) v l lv = go (ℕ-discrete v n) (edge-rows-at n v (omega arith))
     where
-      go : Dec (v ≡ n) → (v < n → getD (edgeRows p m n) v 0 ≡ edgeRow (p .target) (p .letters) m v (p .letters)) → getD (edgeRows p m (suc n)) v 0 ≡ edgeRow (p .target) (p .letters) m v (p .letters)
+      go : Dec (v ≡ n) → (v < n → getD (edgeRows (p .target) (p .letters) m n) v 0 ≡ edgeRow (p .target) (p .letters) m v (p .letters)) → getD (edgeRows (p .target) (p .letters) m (suc n)) v 0 ≡ edgeRow (p .target) (p .letters) m v (p .letters)
       go (yes q) ih =
-          ap (λ (z : ℕ). getD (edgeRows p m (suc n)) z 0) q ∙ getD-set-same (edgeRows p m n) n (edgeRow (p .target) (p .letters) m n (p .letters)) 0 (omega (arith, edge-rows-length n))
+          ap (λ (z : ℕ). getD (edgeRows (p .target) (p .letters) m (suc n)) z 0) q ∙ getD-set-same (edgeRows (p .target) (p .letters) m n) n (edgeRow (p .target) (p .letters) m n (p .letters)) 0 (omega (arith, edge-rows-length n))
           ∙ ap (λ (z : ℕ). edgeRow (p .target) (p .letters) m z (p .letters)) (sym q)
-      go (no q) ih = getD-set-other (edgeRows p m n) n v (edgeRow (p .target) (p .letters) m n (p .letters)) 0 q ∙ ih (omega arith)
+      go (no q) ih = getD-set-other (edgeRows (p .target) (p .letters) m n) n v (edgeRow (p .target) (p .letters) m n (p .letters)) 0 q ∙ ih (omega arith)
 
   -- ---- a first row: the state, and the targets of its edges in m
   edge-row-self : (v a : ℕ) → has (edgeRow (p .target) (p .letters) m v a) v ≡ true
@@ -221,11 +221,11 @@ module _ (p : Policy) (m : ℕ) where
   module _ (ok : legal p ≡ true) where
     -- row u, joined at the states below k
     row : ℕ → ℕ → ℕ
-    row k u = getD (joinedRows (edgeRows p m (p .states)) (p .states) k) u 0
+    row k u = getD (joinedRows (edgeRows (p .target) (p .letters) m (p .states)) (p .states) k) u 0
 
     next : (k u : ℕ) → k < p .states → u < p .states → row (suc k) u ≡ joinRow (row k u) k (row k k)
     unfolding row
-    next k u lk lu = joined-next (edgeRows p m (p .states)) (p .states) (omega (arith, edge-rows-length (p .states), legal-counts p ok .states-few)) k u lu
+    next k u lk lu = joined-next (edgeRows (p .target) (p .letters) m (p .states)) (p .states) (omega (arith, edge-rows-length (p .states), legal-counts p ok .states-few)) k u lu
 
     first-is : (u : ℕ) → u < p .states → row 0 u ≡ edgeRow (p .target) (p .letters) m u (p .letters)
     unfolding row joinedRows
@@ -262,7 +262,7 @@ module _ (p : Policy) (m : ℕ) where
         (turns-keep (p .states) row next (p .states) (source p e) (targetOf p e) (omega arith) ls (first-edge e ls (members-has (edges p) m e (a .1)))) in
         turns-closed (p .states) row next (p .states) (targetOf p e) u x (omega arith) lt l one (last-path (targetOf p e) w x lt (a .2))
 
-    pub rows-reach : Rows p m (joinedRows (edgeRows p m (p .states)) (p .states) (p .states))
+    pub rows-reach : Rows p m (joinedRows (edgeRows (p .target) (p .letters) m (p .states)) (p .states) (p .states))
     unfolding row
     rows-reach v l = mask-ext (row (p .states) v) (reach p (members (edges p) m) v) (λ x. bool-ext (has (row (p .states) v) x) (has (reach p (members (edges p) m) v) x) (sound x) (complete x))
       where
@@ -306,13 +306,13 @@ pub edge-row-more : (t : List ℕ) (l m v a : ℕ) → edgeRow t l m v (a + 1) �
 unfolding edgeRow
 edge-row-more t l m v a = rw add-one
 
-pub edge-rows-none : (p : Policy) (m : ℕ) → edgeRows p m 0 ≡ replicate 16 0
+pub edge-rows-none : (t : List ℕ) (l m : ℕ) → edgeRows t l m 0 ≡ replicate 16 0
 unfolding edgeRows
-edge-rows-none p m = refl
+edge-rows-none t l m = refl
 
-pub edge-rows-more : (p : Policy) (m n : ℕ) → edgeRows p m (n + 1) ≡ set (edgeRows p m n) n (edgeRow (p .target) (p .letters) m n (p .letters))
+pub edge-rows-more : (t : List ℕ) (l m n : ℕ) → edgeRows t l m (n + 1) ≡ set (edgeRows t l m n) n (edgeRow t l m n l)
 unfolding edgeRows
-edge-rows-more p m n = rw add-one
+edge-rows-more t l m n = rw add-one
 
 pub join-none : (rows : List ℕ) (k pivot : ℕ) → joinRows rows k pivot 0 ≡ rows
 unfolding joinRows
@@ -330,32 +330,103 @@ pub joined-more : (rows : List ℕ) (n k : ℕ) → joinedRows rows n (k + 1) �
 unfolding joinedRows
 joined-more rows n k = rw add-one
 
--- ---- the edges of the largest cycle through v
-module _ (p : Policy) (m v : ℕ) where
+pub returning-none : (t rows : List ℕ) (l m u v x : ℕ) → returning t rows l m u v x 0 ≡ x
+unfolding returning
+returning-none t rows l m u v x = refl
+
+pub returning-in : (t rows : List ℕ) (l m u v x a : ℕ) → has m (u * l + a) && has (getD rows (getD t (u * l + a) 0) 0) v ≡ true
+    → returning t rows l m u v x (a + 1) ≡ insert (returning t rows l m u v x a) (u * l + a)
+unfolding returning
+returning-in t rows l m u v x a h = rw (add-one a, h) refl
+
+pub returning-out : (t rows : List ℕ) (l m u v x a : ℕ) → has m (u * l + a) && has (getD rows (getD t (u * l + a) 0) 0) v ≡ false
+    → returning t rows l m u v x (a + 1) ≡ returning t rows l m u v x a
+unfolding returning
+returning-out t rows l m u v x a h = rw (add-one a, h) refl
+
+pub through-none : (t rows : List ℕ) (l m v : ℕ) → throughRows t rows l m v 0 ≡ 0
+unfolding throughRows
+through-none t rows l m v = refl
+
+pub through-in : (t rows : List ℕ) (l m v u : ℕ) → has (getD rows v 0) u ≡ true → throughRows t rows l m v (u + 1) ≡ returning t rows l m u v (throughRows t rows l m v u) l
+unfolding throughRows
+through-in t rows l m v u h = rw (add-one u, h) refl
+
+pub through-out : (t rows : List ℕ) (l m v u : ℕ) → has (getD rows v 0) u ≡ false → throughRows t rows l m v (u + 1) ≡ throughRows t rows l m v u
+unfolding throughRows
+through-out t rows l m v u h = rw (add-one u, h) refl
+
+-- ---- the largest cycle through v, state by state: its edges below the first one of u, then those of u
+module _ (p : Policy) (ok : legal p ≡ true) (m v : ℕ) where
   -- the test that cycleThrough gathers by
-  pub onThrough : ℕ → Bool
-  onThrough e = let es = members (edges p) m in has m e && has (reach p es v) (source p e) && has (reach p es (targetOf p e)) v
+  on : ℕ → Bool
+  on e = let es = members (edges p) m in has m e && has (reach p es v) (source p e) && has (reach p es (targetOf p e)) v
 
-  pub through-all : gather onThrough (edges p) ≡ cycleThrough p m v
-  unfolding cycleThrough onThrough
-  through-all = refl
+  -- its edges that leave the states below u
+  throughTo : ℕ → ℕ
+  throughTo u = gather on (u * p .letters)
 
-  pub through-test : legal p ≡ true → (rows : List ℕ) → Rows p m rows → v < p .states → (e u : ℕ) → e < edges p → source p e ≡ u
-      → has m e && has (getD rows v 0) u && has (getD rows (getD (p .target) e 0) 0) v ≡ onThrough e
-  unfolding onThrough targetOf
-  through-test ok rows is l e u le su = rw (← su, is v l, is (targetOf p e) (legal-target p ok e le))
+  module _ (rows : List ℕ) (is : Rows p m rows) (l : v < p .states) (u : ℕ) (lu : u < p .states) where
+    -- whether the edge at letter a is on it, by whether v leads to u
+    on-at : (b : Bool) → has (getD rows v 0) u ≡ b → (a : ℕ) → a < p .letters → on (u * p .letters + a) ≡ has m (u * p .letters + a) && b && has (getD rows (getD (p .target) (u * p .letters + a) 0) 0) v
+    unfolding on targetOf edgeOf
+    on-at b h a la =
+        let e = edgeOf p u a in
+        let le : e < edges p = edge-lt p u a lu la in
+        rw (source-edge p ok u a la, ← is v l, h, ← is (targetOf p e) (legal-target p ok e le)) refl
 
-module _ (p : Policy) (ok : legal p ≡ true) (e u a : ℕ) (is : e ≡ u * p .letters + a) where
-  pub source-is : a < p .letters → source p e ≡ u
-  unfolding source
-  source-is l = rw is (digits-div u l)
+    returning-to : has (getD rows v 0) u ≡ true → (a : ℕ) → a ≤ p .letters → returning (p .target) rows (p .letters) m u v (throughTo u) a ≡ gather on (u * p .letters + a)
+    unfolding returning throughTo
+    returning-to h zero k = ap (gather on) (sym (add-zero (u * p .letters)))
+    returning-to h (suc a) k = go (test back) (returning-to h a (omega arith))
+      where
+        e : ℕ
+        e = u * p .letters + a
 
-  pub source-few : e < edges p → a < p .letters → u < 16
-  source-few le l = state-few p ok u (subst (λ (x : ℕ). x < p .states) (source-is l) (source-lt p ok e le))
+        back : Bool
+        back = has m e && has (getD rows (getD (p .target) e 0) 0) v
 
-  -- the next edge is the next of the same state, or the first of the next state
-  pub turn-same : (u′ a′ : ℕ) → u′ ≡ u → a′ ≡ a + 1 → a < p .letters → a + 1 ≢ p .letters → (e + 1 ≡ u′ * p .letters + a′) × (a′ < p .letters)
-  turn-same u′ a′ qu qa l n = (rw (qu, qa) (omega arith), omega (arith, lt-of-le-ne l (λ q. n (add-one a ∙ q))))
+        is-on : on e ≡ back
+        is-on = on-at true h a k ∙ ap (λ (b : Bool). b && has (getD rows (getD (p .target) e 0) 0) v) (and-true (has m e))
 
-  pub turn-next : (u′ a′ : ℕ) → u′ ≡ u + 1 → a′ ≡ 0 → a + 1 ≡ p .letters → (e + 1 ≡ u′ * p .letters + a′) × (a′ < p .letters)
-  turn-next u′ a′ qu qa q = (rw (qu, qa, add-one u, suc-mul u (p .letters)) (omega arith), omega (arith, legal-counts p ok .letters-some))
+        next : gather on (e + 1) ≡ gather on (u * p .letters + suc a)
+        next = let q : e + 1 ≡ u * p .letters + suc a = omega arith in ap (gather on) q
+
+        go : (back ≡ true) ⊎ (back ≡ false) → returning (p .target) rows (p .letters) m u v (throughTo u) a ≡ gather on e → returning (p .target) rows (p .letters) m u v (throughTo u) (suc a) ≡ gather on (u * p .letters + suc a)
+        go (inl t) ih = rw t (ap (λ (x : ℕ). insert x e) ih ∙ sym (gather-in on e (is-on ∙ t)) ∙ next)
+        go (inr f) ih = rw f (ih ∙ sym (gather-out on e (is-on ∙ f)) ∙ next)
+
+    none-to : has (getD rows v 0) u ≡ false → (a : ℕ) → a ≤ p .letters → throughTo u ≡ gather on (u * p .letters + a)
+    unfolding throughTo
+    none-to h zero k = ap (gather on) (sym (add-zero (u * p .letters)))
+    none-to h (suc a) k =
+        let e = u * p .letters + a in
+        let off : on e ≡ false = on-at false h a k ∙ ap (λ (b : Bool). b && has (getD rows (getD (p .target) e 0) 0) v) (and-false (has m e)) in
+        let q : e + 1 ≡ u * p .letters + suc a = omega arith in
+        none-to h a (omega arith) ∙ sym (gather-out on e off) ∙ ap (gather on) q
+
+    last : gather on (u * p .letters + p .letters) ≡ throughTo (u + 1)
+    unfolding throughTo
+    last = let q : u * p .letters + p .letters ≡ (u + 1) * p .letters = rw (add-one u, suc-mul u (p .letters)) (omega arith) in ap (gather on) q
+
+    through-state : has (getD rows v 0) u ≡ true → returning (p .target) rows (p .letters) m u v (throughTo u) (p .letters) ≡ throughTo (u + 1)
+    through-state h = returning-to h (p .letters) (omega arith) ∙ last
+
+    through-other : has (getD rows v 0) u ≡ false → throughTo u ≡ throughTo (u + 1)
+    through-other h = none-to h (p .letters) (omega arith) ∙ last
+
+  through-to : (rows : List ℕ) → Rows p m rows → v < p .states → (u : ℕ) → u ≤ p .states → throughRows (p .target) rows (p .letters) m v u ≡ throughTo u
+  unfolding throughRows throughTo
+  through-to rows is l zero k = sym (ap (gather on) (zero-mul (p .letters)) ∙ gather-none on)
+  through-to rows is l (suc u) k = go (test (has (getD rows v 0) u)) (through-to rows is l u (omega arith))
+    where
+      next : throughTo (u + 1) ≡ throughTo (suc u)
+      next = ap throughTo (add-one u)
+
+      go : (has (getD rows v 0) u ≡ true) ⊎ (has (getD rows v 0) u ≡ false) → throughRows (p .target) rows (p .letters) m v u ≡ throughTo u → throughRows (p .target) rows (p .letters) m v (suc u) ≡ throughTo (suc u)
+      go (inl t) ih = rw t (ap (λ (x : ℕ). returning (p .target) rows (p .letters) m u v x (p .letters)) ih ∙ through-state rows is l u k t ∙ next)
+      go (inr f) ih = rw f (ih ∙ through-other rows is l u k f ∙ next)
+
+  pub rows-through : (t rows : List ℕ) → t ≡ p .target → Rows p m rows → v < p .states → throughRows t rows (p .letters) m v (p .states) ≡ cycleThrough p m v
+  unfolding throughTo on cycleThrough edges
+  rows-through t rows e is l = ap (λ (k : List ℕ). throughRows k rows (p .letters) m v (p .states)) e ∙ through-to rows is l (p .states) (omega arith)

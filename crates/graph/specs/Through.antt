@@ -32,9 +32,9 @@ edgeRow t l m v zero = insert 0 v
 edgeRow t l m v (suc a) = withEdge t m (edgeRow t l m v a) (v * l + a)
 
 -- these rows for the states below n
-unfoldable pub edgeRows : Policy → ℕ → ℕ → List ℕ
-edgeRows p m zero = replicate 16 0
-edgeRows p m (suc n) = set (edgeRows p m n) n (edgeRow (p .target) (p .letters) m n (p .letters))
+unfoldable pub edgeRows : List ℕ → ℕ → ℕ → ℕ → List ℕ
+edgeRows t l m zero = replicate 16 0
+edgeRows t l m (suc n) = set (edgeRows t l m n) n (edgeRow t l m n l)
 
 -- the first n entries of a list are states
 abbrev pub States : List ℕ → ℕ → Type 0
@@ -54,3 +54,19 @@ joinRows rows k pivot (suc n) = let r = joinRows rows k pivot n in set r n (join
 unfoldable pub joinedRows : List ℕ → ℕ → ℕ → List ℕ
 joinedRows rows n zero = rows
 joinedRows rows n (suc k) = let r = joinedRows rows n k in joinRows r k (getD r k 0) n
+
+-- ---- the largest cycle, state by state
+-- the edges x, with those of the first a edges of u that are in m and whose target has v in its row
+unfoldable pub returning : List ℕ → List ℕ → ℕ → ℕ → ℕ → ℕ → ℕ → ℕ → ℕ
+returning t rows l m u v x zero = x
+returning t rows l m u v x (suc a) =
+    let r = returning t rows l m u v x a in
+    let e = u * l + a in
+    cond (has m e && has (getD rows (getD t e 0) 0) v) (insert r e) r
+
+-- the edges of m that leave a state below n of row v, and whose target has v in its row
+unfoldable pub throughRows : List ℕ → List ℕ → ℕ → ℕ → ℕ → ℕ → ℕ
+throughRows t rows l m v zero = 0
+throughRows t rows l m v (suc u) =
+    let r = throughRows t rows l m v u in
+    cond (has (getD rows v 0) u) (returning t rows l m u v r l) r

@@ -5,8 +5,8 @@ ghost use mathlib.Core.Bool.{true, _&&_};
 ghost use Prim.Native.Nat.{_+_, _*_, _<_, _≤_};
 ghost use lib.ListN.{getD};
 ghost use Rattle.masks.specs.Masks.{has};
-ghost use Rattle.policy.specs.Policies.{edges, source, legal};
-ghost use Rattle.graph.specs.Through.{cycleThrough, Rows, withEdge, edgeRow, edgeRows, States, joinRow, joinRows};
+ghost use Rattle.policy.specs.Policies.{legal};
+ghost use Rattle.graph.specs.Through.{cycleThrough, Rows, withEdge, edgeRow, edgeRows, States, joinRow, joinRows, returning};
 use policy::Policy;
 
 // A row, with the target of edge e where e is in m. The targets are t.
@@ -34,15 +34,15 @@ fn edge_row(t: &[u8; 64], letters: usize, m: u64, v: usize) -> u64
 }
 
 // The rows of single edges.
-fn edge_rows(p: Policy, m: u64) -> [u64; 16]
-    requires { ⌜ legal p ≡ true ⌝ }
-    ensures { λ r. ⌜ r ≡ edgeRows p m (p .states) ⌝ }
+fn edge_rows(p: Policy, heads: &[u8; 64], m: u64) -> [u64; 16]
+    requires { ⌜ (legal p ≡ true) × (now heads ≡ p .target) ⌝ }
+    ensures { λ r. ⌜ r ≡ edgeRows (p .target) (p .letters) m (p .states) ⌝ }
 {
     let n = p.states as usize;
     let letters = p.letters as usize;
     let mut rows = [0u64; 16];
     for v in 0..n {
-        rows[v] = edge_row(&p.target, letters, m, v);
+        rows[v] = edge_row(heads, letters, m, v);
     }
     rows
 }
@@ -69,47 +69,64 @@ fn join_rows(rows: &mut [u64; 16], k: usize, n: usize)
     }
 }
 
-// The states that each state reaches inside m.
-pub fn reach_all(p: Policy, m: u64) -> [u64; 16]
-    requires { ⌜ legal p ≡ true ⌝ }
+// The states that each state reaches inside m. The heads are the targets of p's edges, lent, since p's own would be copied at each call.
+pub fn reach_all(p: Policy, heads: &[u8; 64], m: u64) -> [u64; 16]
+    requires { ⌜ (legal p ≡ true) × (now heads ≡ p .target) ⌝ }
     ensures { λ r. ⌜ Rows p m r ⌝ }
 {
     let n = p.states as usize;
-    let mut rows = edge_rows(p, m);
+    let mut rows = edge_rows(p, heads, m);
     for k in 0..n {
         join_rows(&mut rows, k, n);
     }
     rows
 }
 
-// Whether edge e is in m, and its source u among the states reached from v, and v among those that its target reaches.
-fn is_through(m: u64, from: u64, back: u64, e: usize, u: usize, v: usize) -> bool
-    requires { ⌜ (e < 64) × (u < 64) × (v < 64) ⌝ }
-    ensures { λ r. ⌜ r ≡ has m e && has from u && has back v ⌝ }
+// Whether edge e is in m, and v in the row of its target.
+fn leads_back(m: u64, row: u64, e: usize, v: usize) -> bool
+    requires { ⌜ (e < 64) × (v < 64) ⌝ }
+    ensures { λ r. ⌜ r ≡ has m e && has row v ⌝ }
 {
-    masks::has(m, e) & masks::has(from, u) & masks::has(back, v)
+    masks::has(m, e) & masks::has(row, v)
 }
 
-// The largest cycle through state v inside m; empty where there is none. The rows are those of m.
-pub fn cycle_through(p: Policy, rows: [u64; 16], m: u64, v: usize) -> u64
-    requires { ⌜ (legal p ≡ true) × (v < p .states) × Rows p m rows ⌝ }
-    ensures { λ r. ⌜ r ≡ cycleThrough p m v ⌝ }
+// The edges x, with those of m that leave u and whose target reaches v.
+fn with_returning(
+    heads: &[u8; 64],
+    rows: &[u64; 16],
+    letters: usize,
+    m: u64,
+    u: usize,
+    v: usize,
+    x: u64,
+) -> u64
+    requires { ⌜ (u < 16) × (v < 16) × (u * letters + letters ≤ 64) × States (now heads) (u * letters + letters) ⌝ }
+    ensures { λ r. ⌜ r ≡ returning (now (heads .entry)) (now (rows .entry)) letters m u v x letters ⌝ }
 {
-    let letters = p.letters as usize;
-    let from = rows[v];
-    let n = policy::edges(p);
-    let mut r: u64 = 0;
-    let mut u: usize = 0;
-    let mut a: usize = 0;
-    for e in 0..n {
-        let t = p.target[e] as usize;
-        if is_through(m, from, rows[t], e, u, v) {
+    let first = u * letters;
+    let mut r = x;
+    for a in 0..letters {
+        let e = first + a;
+        let t = heads[e] as usize;
+        if leads_back(m, rows[t], e, v) {
             r = masks::with(r, e);
         }
-        a = a + 1;
-        if a == letters {
-            a = 0;
-            u = u + 1;
+    }
+    r
+}
+
+// The largest cycle through state v inside m; empty where there is none. The heads are the targets of p's edges, and the rows are those of m.
+pub fn cycle_through(p: Policy, heads: &[u8; 64], rows: &[u64; 16], m: u64, v: usize) -> u64
+    requires { ⌜ (legal p ≡ true) × (now heads ≡ p .target) × (v < p .states) × Rows p m (now rows) ⌝ }
+    ensures { λ r. ⌜ r ≡ cycleThrough p m v ⌝ }
+{
+    let n = p.states as usize;
+    let letters = p.letters as usize;
+    let from = rows[v];
+    let mut r: u64 = 0;
+    for u in 0..n {
+        if masks::has(from, u) {
+            r = with_returning(heads, rows, letters, m, u, v, r);
         }
     }
     r

@@ -12,10 +12,10 @@ use Rattle.graph.proofs.reach_all.Statement.{statement}
 use Rattle.graph.proofs.reach_all.Tie as tie
 
 abbrev Inv-loop : tie.InvT-loop
-Inv-loop m n rows₀ k₀ rows k = (k ≤ n) × (rows ≡ joinedRows rows₀ n k)
+Inv-loop heads m n rows₀ k₀ rows k = (k ≤ n) × (rows ≡ joinedRows rows₀ n k)
 
 abbrev μ-loop : tie.MeasureT-loop
-μ-loop m n rows₀ k₀ rows k = n - k
+μ-loop heads m n rows₀ k₀ rows k = n - k
 
 cast-n : tie.Need-cast-n Inv-loop μ-loop
 cast-n c = search needs
@@ -27,7 +27,7 @@ loop-holds : tie.Need-loop-holds Inv-loop μ-loop
 loop-holds c = (omega arith, sym (joined-none _ _))
 
 join-rows-requires : tie.Need-join-rows-requires Inv-loop μ-loop
-join-rows-requires c κs = let s = c .before .before .before .before .before in (c .before .loop-test .taken, legal-counts (s .args .p) (s .pre) .states-few)
+join-rows-requires c κs = let s = c .before .before .before .before .before in (c .before .loop-test .taken, legal-counts (s .args .p) (s .pre .0) .states-few)
 
 add-k : tie.Need-add-k Inv-loop μ-loop
 add-k c = omega arith
@@ -42,8 +42,8 @@ returns : tie.Need-returns Inv-loop μ-loop
 returns c =
     let s = c .before .before .before .before in
     let p = s .args .p in
-    let e : c .before .loop .rows ≡ joinedRows (edgeRows p (s .args .m) (p .states)) (p .states) (p .states) = cc (le-antisymm (c .before .loop .inv .0) (c .loop-test .left)) in
-    subst (λ (l : List ℕ). Rows p (s .args .m) l) (sym e) (rows-reach p (s .args .m) (s .pre))
+    let e : c .before .loop .rows ≡ joinedRows (edgeRows (p .target) (p .letters) (s .args .m) (p .states)) (p .states) (p .states) = cc (le-antisymm (c .before .loop .inv .0) (c .loop-test .left)) in
+    subst (λ (l : List ℕ). Rows p (s .args .m) l) (sym e) (rows-reach p (s .args .m) (s .pre .0))
 
 pub reach-all-spec : {M : Type 1} → statement M
 reach-all-spec =

@@ -1,0 +1,91 @@
+-- `graph::with_returning` meets its contract. The invariant: r has those of the edges passed that lead back. Assumes nothing.
+use mathlib.Core.Path.{_≡_, sym, ap, _∙_}
+use mathlib.Core.Logic.{⊎-elim}
+use Prim.Native.Nat.{ℕ, _+_, _*_, _-_, _≤_, _<_}
+use native.Mathlib.Nat.{le-antisymm}
+use native.Mathlib.Omega.{arith}
+use lib.ListN.{getD}
+use Rattle.masks.specs.Masks.{insert}
+use Rattle.graph.specs.Through.{returning}
+use Rattle.graph.proofs.CodeLaws.{returning-none, returning-in, returning-out}
+use Rattle.graph.proofs.with_returning.Statement.{statement}
+use Rattle.graph.proofs.with_returning.Tie as tie
+
+abbrev Inv-loop : tie.InvT-loop
+Inv-loop heads rows letters m u v x first r₀ a₀ r a = (a ≤ letters) × (r ≡ returning heads rows letters m u v x a)
+
+abbrev μ-loop : tie.MeasureT-loop
+μ-loop heads rows letters m u v x first r₀ a₀ r a = letters - a
+
+mul-first : tie.Need-mul-first Inv-loop μ-loop
+mul-first c = omega (arith, c .pre .2)
+
+loop-holds : tie.Need-loop-holds Inv-loop μ-loop
+loop-holds c = (omega arith, sym (returning-none _ _ _ _ _ _ _))
+
+add-e : tie.Need-add-e Inv-loop μ-loop
+add-e c = omega (arith, c .before .before .pre .2)
+
+element-copy-out-t : tie.Need-element-copy-out-t Inv-loop μ-loop
+element-copy-out-t c = omega (arith, c .before .before .pre .2)
+
+-- the target of an edge of u is a state
+target-few : (c : tie.In-loop Inv-loop μ-loop) → getD (c .before .before .args .heads .now) (c .before .before .args .u * c .before .before .args .letters + c .before .loop .a) 0 < 16
+target-few c = c .before .before .pre .3 (c .before .before .args .u * c .before .before .args .letters + c .before .loop .a) (omega arith)
+
+cast-t : tie.Need-cast-t Inv-loop μ-loop
+cast-t c = omega (arith, target-few (c .before))
+
+mul-leads-back : tie.Need-mul-leads-back Inv-loop μ-loop
+mul-leads-back c = omega (arith, target-few (c .before))
+
+element-copy-out-leads-back : tie.Need-element-copy-out-leads-back Inv-loop μ-loop
+element-copy-out-leads-back c = omega (arith, target-few (c .before))
+
+leads-back-requires : tie.Need-leads-back-requires Inv-loop μ-loop
+leads-back-requires c κs = (omega (arith, c .before .before .before .before .pre .2), omega (arith, target-few (c .before .before)))
+
+with-requires : tie.Need-with-requires Inv-loop μ-loop
+with-requires c κs = omega (arith, c .before .before .before .before .before .before .pre .2)
+
+add-a : tie.Need-add-a Inv-loop μ-loop
+add-a c = omega arith
+
+loop-less : tie.Need-loop-less Inv-loop μ-loop
+loop-less c = omega arith
+
+loop-again : tie.Need-loop-again Inv-loop μ-loop
+loop-again c =
+    let s = c .before .before .before .before .before .before .args in
+    let inv = c .before .before .before .before .before .loop .inv in
+    let a = c .before .before .before .before .before .loop .a in
+    let e = s .u * s .letters + a in (
+      omega arith,
+      ⊎-elim
+          (λ w. w .2 ∙ w .1 .ensures ∙ ap (λ (x : ℕ). insert x e) (inv .1) ∙ sym (returning-in (s .heads .now) (s .rows .now) (s .letters) (s .m) (s .u) (s .v) (s .x) a (sym (c .before .leads-back .ensures) ∙ w .0 .taken)))
+          (λ w. w .1 ∙ inv .1 ∙ sym (returning-out (s .heads .now) (s .rows .now) (s .letters) (s .m) (s .u) (s .v) (s .x) a (sym (c .before .leads-back .ensures) ∙ w .0 .left)))
+          (c .if1 .came),
+    )
+
+returns : tie.Need-returns Inv-loop μ-loop
+returns c = cc (le-antisymm (c .before .loop .inv .0) (c .loop-test .left))
+
+pub with-returning-spec : {M : Type 1} → statement M
+with-returning-spec =
+    tie.close
+    (tie.spec
+    Inv-loop
+    μ-loop
+    mul-first
+    loop-holds
+    add-e
+    element-copy-out-t
+    cast-t
+    mul-leads-back
+    element-copy-out-leads-back
+    leads-back-requires
+    with-requires
+    add-a
+    loop-less
+    loop-again
+    returns)
