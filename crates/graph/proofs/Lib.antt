@@ -2,4 +2,5 @@ pub mod Paths
 pub mod Cycles
 pub mod Coloured
 pub mod Through
+pub mod ByColour
 pub mod CodeLaws
