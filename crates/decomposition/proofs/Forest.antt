@@ -30,7 +30,7 @@ use Rattle.decomposition.proofs.Priorities.{root-even, child-even, chil
 use Rattle.decomposition.proofs.Numbered.{Numbered, numbered}
 
 -- a cycle has a colour: it has an edge, and each edge has one
-cycle-coloured : (p : Policy) (m : ℕ) → isCycle p m ≡ true → 0 < ones (coloursOf p m)
+pub cycle-coloured : (p : Policy) (m : ℕ) → isCycle p m ≡ true → 0 < ones (coloursOf p m)
 cycle-coloured p m c = go (ones-inside 0 (coloursOf p m) (λ i t. absurd (false≢true (sym (has-none i) ∙ t))))
   where
     coloured : Cycle p m → (i : ℕ) × (has (coloursOf p m) i ≡ true)

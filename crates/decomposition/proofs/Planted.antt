@@ -16,7 +16,7 @@ use Rattle.decomposition.specs.Forest.{Node, trees, tree, forest, childr
 abbrev pub pending : ℕ → ℕ → Bool → ℕ → Node
 pending parent level accepted m = record { mask = m; parent = parent; level = level; accepted = accepted }
 
-trees-same : (s t : ℕ → ℕ → List Node) (ms : List ℕ) → ((m : ℕ) → List·Memᴰ m ms → (n : ℕ) → s n m ≡ t n m) → (n : ℕ) → trees s n ms ≡ trees t n ms
+pub trees-same : (s t : ℕ → ℕ → List Node) (ms : List ℕ) → ((m : ℕ) → List·Memᴰ m ms → (n : ℕ) → s n m ≡ t n m) → (n : ℕ) → trees s n ms ≡ trees t n ms
 unfolding trees
 trees-same s t [] h n = refl
 trees-same s t (m ∷ ms) h n =
@@ -60,7 +60,7 @@ module _ (p : Policy) where
 -- a child has fewer edges, so there is an end
 module _ (p : Policy) (fewer : (m c : ℕ) → List·Memᴰ c (children p m) → ones c < ones m) where
   -- enough levels are enough
-  tree-enough : (k parent level : ℕ) (accepted : Bool) (n m : ℕ) → ones m < k → tree p (suc k) parent level accepted n m ≡ tree p k parent level accepted n m
+  pub tree-enough : (k parent level : ℕ) (accepted : Bool) (n m : ℕ) → ones m < k → tree p (suc k) parent level accepted n m ≡ tree p k parent level accepted n m
   unfolding tree
   tree-enough zero parent level accepted n m l = absurd (omega arith)
   tree-enough (suc k) parent level accepted n m l =
