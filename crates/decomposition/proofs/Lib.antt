@@ -15,3 +15,5 @@ pub mod Siblings
 pub mod NodeLaws
 pub mod CandidateLaws
 pub mod NodeColumns
+pub mod Search
+pub mod Subtrees

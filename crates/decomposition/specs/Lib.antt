@@ -5,3 +5,5 @@ pub mod Candidates
 pub mod Siblings
 pub mod NodeTables
 pub mod Listed
+pub mod Search
+pub mod Subtrees

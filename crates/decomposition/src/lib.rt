@@ -9,6 +9,7 @@ ghost use Rattle.decomposition.specs.Siblings.{around, isLargest, stands
 
 pub mod listing;
 pub mod nodes;
+pub mod searching;
 
 // ---- siblings, found in a list of masks; 0 stands for none
 
