@@ -169,9 +169,6 @@ module _ (p : Policy) (lawful : legal p ≡ true) where
 pub mask-column : {p : Policy} {masks parents ranks : List ℕ} → Nodes p masks parents ranks → MaskColumn p masks
 mask-column n = record { few = n .few; long = n .masks-long; are = n .masks-are }
 
-pub parent-column : {p : Policy} {masks parents ranks : List ℕ} → Nodes p masks parents ranks → ParentColumn p parents
-parent-column n = record { few = n .few; long = n .parents-long; are = n .parents-are }
-
 -- ---- the tables of states and rows
 -- it goes by the lengths alone
 pub building-same : (p : Policy) (s₁ s₀ : List ℕ) → length s₁ ≡ length s₀ → buildingOf p s₁ ≡ buildingOf p s₀

@@ -3,17 +3,17 @@
 use Prim.Native.Nat.{ℕ, _+_, _*_, _≤_, _<_}
 use native.Mathlib.Omega.{arith}
 use native.Mathlib.Nat.{le-refl}
-use native.Mathlib.Decide.{ℕ-discrete}
+use native.Mathlib.Decide.{ℕ-discrete, decLt}
 use mathlib.Core.Path.{_≡_, refl, sym, ap, ap₂, _∙_, subst}
 use mathlib.Core.Logic.{_⊎_, inl, inr, _≢_}
-use mathlib.Core.Bool.{Bool, true, false, not, cond, true≢false, false≢true}
+use mathlib.Core.Bool.{Bool, true, false, not, _||_, cond, true≢false, false≢true}
 use mathlib.Core.List.{List, [], List·Memᴰ}
-use lib.Dec.{eqb, ltb}
+use lib.Dec.{eqb, ltb, leb}
 use lib.ListN.{length, getD, set, length-set}
 use lib.Seq.{getD-set-same, getD-set-other}
 use Rattle.lists.specs.Lists.{filter, firstOr}
 use Rattle.lists.proofs.Lists.{filter-mem}
-use Rattle.lists.proofs.Bools.{test, eqb≡, ≡eqb, neqb, lt-true, lt-false, not-true}
+use Rattle.lists.proofs.Bools.{test, eqb≡, ≡eqb, neqb, lt-true, lt-false, le-false, or-left, or-right, not-true}
 use Rattle.masks.specs.Masks.{has}
 use Rattle.masks.proofs.Bits.{inside-all}
 use Rattle.policy.specs.declared.Policy.{Policy}
@@ -26,7 +26,7 @@ use Rattle.decomposition.proofs.Chains.{chain-self, chain-le, chain-lt, chain-p
 use Rattle.decomposition.proofs.Forest.{forest-laws}
 use Rattle.builder.specs.Automaton.{orElse, deepest, lead, leaves, leafAfter, priorityAfter, built, stateAt, number, rowTarget, rowPriority}
 use Rattle.builder.specs.Stages.{endOf, firstOver, Nodes, Ends, States, Starts}
-use Rattle.builder.specs.Rows.{ParentColumn, LeafColumn, AscendsIn, LowerBound, Met, raisedTo}
+use Rattle.builder.specs.Rows.{ParentColumn, LeafColumn, AscendsIn, LowerBound, Narrowed, Met, raisedTo}
 use Rattle.builder.proofs.EdgeRuns.{Good}
 use Rattle.builder.proofs.Next.{first-cases}
 use Rattle.builder.proofs.Branch.{of-child, chain-inside, child-lt, child-between, lead-is, deepest-mem, deepest-under, deepest-at}
@@ -363,14 +363,17 @@ module _ (p : Policy) (ends entries : List ℕ) (e l : ℕ) (met : Bool) (at chi
       find-first r none w =
           sym (target-first p (a .0) entries (b .2) e (a .1) l stands met at child priority (a .3) t r₀ r q ended (λ i j. none (omega (arith, b .4)) (omega (arith, b .1 .ends-are at at-lt))) (bound at r w))
 
--- ---- binary search
--- what is sought lies from low up to high
-pub record Narrowed (l : List ℕ) (from to x low high : ℕ) : Type 0 where
-  pub from-low : from ≤ low
-  pub low-high : low ≤ high
-  pub high-to : high ≤ to
-  pub before : (i : ℕ) → from ≤ i → i < low → getD l i 0 < x
-  pub after : (i : ℕ) → high ≤ i → i < to → x ≤ getD l i 0
+-- ---- searches in an ascending run
+pub hint-in : (from to h : ℕ) → (ltb h from || leb to h) ≡ false → (from ≤ h) × (h < to)
+hint-in from to h e = (go (test (ltb h from)), over (test (leb to h)))
+  where
+    go : (ltb h from ≡ true) ⊎ (ltb h from ≡ false) → from ≤ h
+    go (inl t) = absurd (true≢false (sym (or-left (ltb h from) (leb to h) t) ∙ e))
+    go (inr f) = lt-false h from f
+
+    over : (leb to h ≡ true) ⊎ (leb to h ≡ false) → h < to
+    over (inl t) = absurd (true≢false (sym (or-right (ltb h from) (leb to h) t) ∙ e))
+    over (inr f) = le-false to h f
 
 module _ (l : List ℕ) (from to x : ℕ) where
   pub narrowed-up : (low high m : ℕ) → AscendsIn l from to → Narrowed l from to x low high → low ≤ m → m < high → getD l m 0 < x → Narrowed l from to x (m + 1) high
@@ -389,6 +392,42 @@ module _ (l : List ℕ) (from to x : ℕ) where
 
   pub narrowed-done : (low high : ℕ) → Narrowed l from to x low high → high ≤ low → LowerBound l from to x low
   narrowed-done low high r h = record { low = r .from-low; high = omega (arith, r .low-high, r .high-to); before = r .before; after = λ i a b. r .after i (omega arith) b }
+
+  pub narrowed-none : from ≤ to → Narrowed l from to x from to
+  narrowed-none h = record { from-low = le-refl from; low-high = h; high-to = le-refl to; before = λ i a b. absurd (omega arith); after = λ i a b. absurd (omega arith) }
+
+  pub narrowed-bound : (low high r : ℕ) → Narrowed l from to x low high → LowerBound l low high x r → LowerBound l from to x r
+  narrowed-bound low high r n b = record {
+    low = omega (arith, n .from-low, b .low);
+    high = omega (arith, n .high-to, b .high);
+    before = λ i p q. under i p q (decLt i low);
+    after = λ i p q. over i p q (decLt i high);
+  }
+    where
+      under : (i : ℕ) → from ≤ i → i < r → Dec (i < low) → getD l i 0 < x
+      under i p q (yes d) = n .before i p d
+      under i p q (no d) = b .before i (omega arith) q
+
+      over : (i : ℕ) → r ≤ i → i < to → Dec (i < high) → x ≤ getD l i 0
+      over i p q (yes d) = b .after i p d
+      over i p q (no d) = n .after i (omega arith) q
+
+  pub narrowed-both : (low high u v : ℕ) → Narrowed l from to x low high → Narrowed l low high x u v → Narrowed l from to x u v
+  narrowed-both low high u v n b = record {
+    from-low = omega (arith, n .from-low, b .from-low);
+    low-high = b .low-high;
+    high-to = omega (arith, n .high-to, b .high-to);
+    before = λ i p q. under i p q (decLt i low);
+    after = λ i p q. over i p q (decLt i high);
+  }
+    where
+      under : (i : ℕ) → from ≤ i → i < u → Dec (i < low) → getD l i 0 < x
+      under i p q (yes d) = n .before i p d
+      under i p q (no d) = b .before i (omega arith) q
+
+      over : (i : ℕ) → v ≤ i → i < to → Dec (i < high) → x ≤ getD l i 0
+      over i p q (yes d) = b .after i p d
+      over i p q (no d) = n .after i (omega arith) q
 
 -- ---- filling in the ends
 -- the first n places hold their successors

@@ -33,6 +33,14 @@ pub record LowerBound (l : List ℕ) (from to x r : ℕ) : Type 0 where
   pub before : (i : ℕ) → from ≤ i → i < r → getD l i 0 < x
   pub after : (i : ℕ) → r ≤ i → i < to → x ≤ getD l i 0
 
+-- the first place from `from` up to `to` whose entry is x or more stands from low up to high
+pub record Narrowed (l : List ℕ) (from to x low high : ℕ) : Type 0 where
+  pub from-low : from ≤ low
+  pub low-high : low ≤ high
+  pub high-to : high ≤ to
+  pub before : (i : ℕ) → from ≤ i → i < low → getD l i 0 < x
+  pub after : (i : ℕ) → high ≤ i → i < to → x ≤ getD l i 0
+
 -- what stands at `up`, raised to what stands at n
 unfoldable pub raisedTo : List ℕ → ℕ → ℕ → List ℕ
 raisedTo l up n = cond (ltb (getD l up 0) (getD l n 0)) (set l up (getD l n 0)) l

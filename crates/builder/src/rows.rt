@@ -10,7 +10,7 @@ ghost use Rattle.policy.specs.Policies.{legal, edges, edgeOf, source, targetOf}
 ghost use Rattle.decomposition.specs.Forest.{forest};
 ghost use Rattle.builder.specs.Automaton.{orElse, leaves, leafAfter, built, number, rowTarget, rowPriority};
 ghost use Rattle.builder.specs.Stages.{firstOver, Nodes, Ends, States, Starts};
-ghost use Rattle.builder.specs.Rows.{ParentColumn, LeafColumn, AscendsIn, LowerBound, raisedTo, Met};
+ghost use Rattle.builder.specs.Rows.{ParentColumn, LeafColumn, AscendsIn, LowerBound, Narrowed, raisedTo, Met};
 
 // A table's entry as a place.
 fn wide(x: u16) -> usize
@@ -26,22 +26,90 @@ fn byte(x: u8) -> usize
     x as usize
 }
 
-// The first place from `from` up to `to` whose entry is x or more; `to` where there is none.
-pub fn lower_bound(entries: &[u16], from: usize, to: usize, x: usize) -> usize
+// The first place from low up to high whose entry is x or more, by halving; high where there is none.
+fn halve(entries: &[u16], low: usize, high: usize, x: usize) -> usize
+    requires { ⌜ (low ≤ high) × (high ≤ length (now entries)) × AscendsIn (now entries) low high ⌝ }
+    ensures { λ r. ⌜ LowerBound (now (entries .entry)) low high x r ⌝ }
+{
+    let mut from = low;
+    let mut to = high;
+    while from < to {
+        let middle = from + (to - from) / 2;
+        if wide(entries[middle]) < x {
+            from = middle + 1;
+        } else {
+            to = middle;
+        }
+    }
+    from
+}
+
+// The places from low up to high.
+struct Span {
+    low: usize,
+    high: usize,
+}
+
+// Up from low in steps of doubling width, as long as the entries are below x.
+fn step_up(entries: &[u16], low: usize, high: usize, x: usize) -> Span
+    requires { ⌜ (low ≤ high) × (high ≤ length (now entries)) × AscendsIn (now entries) low high ⌝ }
+    ensures { λ r. ⌜ Narrowed (now (entries .entry)) low high x (r .low) (r .high) ⌝ }
+{
+    let mut from = low;
+    let mut to = high;
+    let mut step: usize = 1;
+    while step < to - from {
+        let next = from + step;
+        if wide(entries[next]) < x {
+            from = next + 1;
+            step = step + step;
+        } else {
+            to = next;
+        }
+    }
+    Span {
+        low: from,
+        high: to,
+    }
+}
+
+// Down from high in steps of doubling width, as long as the entries are x or more.
+fn step_down(entries: &[u16], low: usize, high: usize, x: usize) -> Span
+    requires { ⌜ (low ≤ high) × (high ≤ length (now entries)) × AscendsIn (now entries) low high ⌝ }
+    ensures { λ r. ⌜ Narrowed (now (entries .entry)) low high x (r .low) (r .high) ⌝ }
+{
+    let mut from = low;
+    let mut to = high;
+    let mut step: usize = 1;
+    while step < to - from {
+        let next = to - step;
+        if wide(entries[next]) < x {
+            from = next + 1;
+        } else {
+            to = next;
+            step = step + step;
+        }
+    }
+    Span {
+        low: from,
+        high: to,
+    }
+}
+
+// The first place from `from` up to `to` whose entry is x or more; `to` where there is none. A hint near it, whatever number it is, makes it quicker.
+pub fn lower_bound(entries: &[u16], from: usize, to: usize, x: usize, hint: usize) -> usize
     requires { ⌜ (from ≤ to) × (to ≤ length (now entries)) × AscendsIn (now entries) from to ⌝ }
     ensures { λ r. ⌜ LowerBound (now (entries .entry)) from to x r ⌝ }
 {
-    let mut low = from;
-    let mut high = to;
-    while low < high {
-        let middle = low + (high - low) / 2;
-        if wide(entries[middle]) < x {
-            low = middle + 1;
-        } else {
-            high = middle;
-        }
+    if (hint < from) | (to <= hint) {
+        return halve(entries, from, to, x);
     }
-    low
+    if wide(entries[hint]) < x {
+        let s = step_up(entries, hint + 1, to, x);
+        return halve(entries, s.low, s.high, x);
+    }
+    let s = step_down(entries, from, hint, x);
+    halve(entries, s.low, s.high, x)
 }
 
 // Each node ends right after itself.
@@ -140,14 +208,14 @@ fn find(
         return from;
     }
     if child != node {
-        let after = lower_bound(entries, from, to, wide(ends[child]));
+        let after = lower_bound(entries, from, to, wide(ends[child]), from);
         if after < to {
             if entries[after] < ends[node] {
                 return after;
             }
         }
     }
-    lower_bound(entries, from, to, node)
+    lower_bound(entries, from, to, node, from)
 }
 
 // The edge of a state and a letter.

@@ -112,6 +112,101 @@ fn fill_built(
     Building::Whole(placed.count, crate::states::start_of(p, starts))
 }
 
+// The stages after the nodes, with a table for the nodes' ends that has a place for each node.
+fn build_with(
+    p: Policy,
+    masks: &[u64],
+    parents: &[u16],
+    ranks: &[u8],
+    ends: &mut [u16],
+    count: usize,
+    sources: &mut [u8],
+    leaves: &mut [u16],
+    targets: &mut [u16],
+    priorities: &mut [u8],
+) -> Building
+    requires { ⌜ (legal p ≡ true) × Nodes p (now masks) (now parents) (now ranks) × (count ≡ length (forest p)) × Sized p (now sources) (now leaves) (now targets) (now priorities) × (count ≤ length (now ends)) ⌝ }
+    ensures answer { λ r. ⌜ r ≡ buildingOf p (now (sources .entry)) ⌝ }
+    ensures written { λ _. ⌜ BuiltTables p (now (sources .entry)) (now (leaves .entry)) (now (targets .entry)) (now (priorities .entry)) (now (sources .exit)) (now (leaves .exit)) (now (targets .exit)) (now (priorities .exit)) ⌝ }
+{
+    crate::rows::fill_ends(p, parents, count, ends);
+    clear_built(sources, leaves, targets, priorities);
+    fill_built(
+        p,
+        masks,
+        parents,
+        ranks,
+        ends,
+        count,
+        sources,
+        leaves,
+        targets,
+        priorities,
+    )
+}
+
+// With at most 256 nodes a small table serves, which is quicker to lay out.
+fn build_small(
+    p: Policy,
+    masks: &[u64],
+    parents: &[u16],
+    ranks: &[u8],
+    count: usize,
+    sources: &mut [u8],
+    leaves: &mut [u16],
+    targets: &mut [u16],
+    priorities: &mut [u8],
+) -> Building
+    requires { ⌜ (legal p ≡ true) × Nodes p (now masks) (now parents) (now ranks) × (count ≡ length (forest p)) × Sized p (now sources) (now leaves) (now targets) (now priorities) × (count ≤ 256) ⌝ }
+    ensures answer { λ r. ⌜ r ≡ buildingOf p (now (sources .entry)) ⌝ }
+    ensures written { λ _. ⌜ BuiltTables p (now (sources .entry)) (now (leaves .entry)) (now (targets .entry)) (now (priorities .entry)) (now (sources .exit)) (now (leaves .exit)) (now (targets .exit)) (now (priorities .exit)) ⌝ }
+{
+    let mut ends = [0u16; 256];
+    build_with(
+        p,
+        masks,
+        parents,
+        ranks,
+        &mut ends,
+        count,
+        sources,
+        leaves,
+        targets,
+        priorities,
+    )
+}
+
+// With more, a table for as many as there can be.
+fn build_large(
+    p: Policy,
+    masks: &[u64],
+    parents: &[u16],
+    ranks: &[u8],
+    count: usize,
+    sources: &mut [u8],
+    leaves: &mut [u16],
+    targets: &mut [u16],
+    priorities: &mut [u8],
+) -> Building
+    requires { ⌜ (legal p ≡ true) × Nodes p (now masks) (now parents) (now ranks) × (count ≡ length (forest p)) × Sized p (now sources) (now leaves) (now targets) (now priorities) ⌝ }
+    ensures answer { λ r. ⌜ r ≡ buildingOf p (now (sources .entry)) ⌝ }
+    ensures written { λ _. ⌜ BuiltTables p (now (sources .entry)) (now (leaves .entry)) (now (targets .entry)) (now (priorities .entry)) (now (sources .exit)) (now (leaves .exit)) (now (targets .exit)) (now (priorities .exit)) ⌝ }
+{
+    let mut ends = [0u16; 65535];
+    build_with(
+        p,
+        masks,
+        parents,
+        ranks,
+        &mut ends,
+        count,
+        sources,
+        leaves,
+        targets,
+        priorities,
+    )
+}
+
 // The stages after the nodes. Where the built states do not fit, every place is 0.
 pub fn build(
     p: Policy,
@@ -128,15 +223,24 @@ pub fn build(
     ensures answer { λ r. ⌜ r ≡ buildingOf p (now (sources .entry)) ⌝ }
     ensures written { λ _. ⌜ BuiltTables p (now (sources .entry)) (now (leaves .entry)) (now (targets .entry)) (now (priorities .entry)) (now (sources .exit)) (now (leaves .exit)) (now (targets .exit)) (now (priorities .exit)) ⌝ }
 {
-    let mut ends = [0u16; 65535];
-    crate::rows::fill_ends(p, parents, count, &mut ends);
-    clear_built(sources, leaves, targets, priorities);
-    fill_built(
+    if count <= 256 {
+        return build_small(
+            p,
+            masks,
+            parents,
+            ranks,
+            count,
+            sources,
+            leaves,
+            targets,
+            priorities,
+        );
+    }
+    build_large(
         p,
         masks,
         parents,
         ranks,
-        &ends,
         count,
         sources,
         leaves,

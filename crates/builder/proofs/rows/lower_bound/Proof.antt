@@ -1,68 +1,64 @@
--- `lower_bound` meets its contract. The invariant: what is sought lies from low up to high. Assumes nothing.
-use Prim.Native.Nat.{_-_}
+-- `lower_bound` meets its contract: what a search narrows down is narrowed down in the whole run. Assumes nothing.
 use native.Mathlib.Omega.{arith}
+use Rattle.builder.specs.Rows.{Narrowed}
+use Rattle.builder.proofs.RowLaws.{hint-in, narrowed-none, narrowed-up, narrowed-down, narrowed-both, narrowed-bound}
 use borrow.Author.Needs.{needs}
-use Rattle.builder.proofs.RowLaws.{Narrowed, narrowed-up, narrowed-down, narrowed-done}
 use Rattle.builder.proofs.rows.lower_bound.Statement.{statement}
 use Rattle.builder.proofs.rows.lower_bound.Tie as tie
 
-abbrev Inv-loop : tie.InvT-loop
-Inv-loop entries from to x low₀ high₀ low high = Narrowed entries from to x low high
+halve-requires : tie.Need-halve-requires
+halve-requires c κs = search needs
 
-abbrev μ-loop : tie.MeasureT-loop
-μ-loop entries from to x low₀ high₀ low high = high - low
+returns : tie.Need-returns
+returns c = search needs
 
-loop-holds : tie.Need-loop-holds Inv-loop μ-loop
-loop-holds c = search needs
+mul-wide : tie.Need-mul-wide
+mul-wide c = omega (arith, hint-in (c .before .before .args .from) (c .before .before .args .to) (c .before .before .args .hint) (c .if1 .left))
 
-sub-middle : tie.Need-sub-middle Inv-loop μ-loop
-sub-middle c = search needs
+shared-slice-read-wide : tie.Need-shared-slice-read-wide
+shared-slice-read-wide c = omega (arith, hint-in (c .before .before .before .args .from) (c .before .before .before .args .to) (c .before .before .before .args .hint) (c .before .if1 .left))
 
-add-middle : tie.Need-add-middle Inv-loop μ-loop
-add-middle c = search needs
-
-mul-wide : tie.Need-mul-wide Inv-loop μ-loop
-mul-wide c = search needs
-
-shared-slice-read-wide : tie.Need-shared-slice-read-wide Inv-loop μ-loop
-shared-slice-read-wide c = search needs
-
-wide-requires : tie.Need-wide-requires Inv-loop μ-loop
+wide-requires : tie.Need-wide-requires
 wide-requires c κs = search needs
 
-add-low : tie.Need-add-low Inv-loop μ-loop
-add-low c = search needs
+add-step-up : tie.Need-add-step-up
+add-step-up c = omega (arith, hint-in (c .before .before .before .before .before .args .from) (c .before .before .before .before .before .args .to) (c .before .before .before .before .before .args .hint) (c .before .before .before .if1 .left))
 
-loop-less : tie.Need-loop-less Inv-loop μ-loop
-loop-less c = search needs
+step-up-requires : tie.Need-step-up-requires
+step-up-requires c κs = let h = hint-in (c .before .before .before .before .before .args .from) (c .before .before .before .before .before .args .to) (c .before .before .before .before .before .args .hint) (c .before .before .before .if1 .left) in (omega arith, omega arith, λ i j p q r. c .before .before .before .before .before .pre .2 i j (omega arith) q (omega arith))
 
-loop-again : tie.Need-loop-again Inv-loop μ-loop
-loop-again c = narrowed-up _ _ _ _ _ _ _ (c .before .before .before .before .before .before .pre .2) (c .before .before .before .before .loop .inv) (omega arith) (omega arith) (omega arith)
+halve-requires-2 : tie.Need-halve-requires-2
+halve-requires-2 c κs = let h = hint-in (c .before .before .before .before .before .before .args .from) (c .before .before .before .before .before .before .args .to) (c .before .before .before .before .before .before .args .hint) (c .before .before .before .before .if1 .left) in let n = c .step-up .ensures in (n .low-high, omega (arith, n .high-to), λ i j p q r. c .before .before .before .before .before .before .pre .2 i j (omega arith) q (omega arith))
 
-loop-less-2 : tie.Need-loop-less-2 Inv-loop μ-loop
-loop-less-2 c = search needs
+returns-2 : tie.Need-returns-2
+returns-2 c =
+    let h = hint-in (c .before .before .before .before .before .before .before .args .from) (c .before .before .before .before .before .before .before .args .to) (c .before .before .before .before .before .before .before .args .hint) (c .before .before .before .before .before .if1 .left) in
+    narrowed-bound _ _ _ _ _ _ _ (narrowed-both _ _ _ _ _ _ _ _ (narrowed-up _ _ _ _ _ _ _ (c .before .before .before .before .before .before .before .pre .2) (narrowed-none _ _ _ _ (c .before .before .before .before .before .before .before .pre .0)) (h .0) (h .1) (omega arith)) (c .before .step-up .ensures)) (c .halve2 .ensures)
 
-loop-again-2 : tie.Need-loop-again-2 Inv-loop μ-loop
-loop-again-2 c = narrowed-down _ _ _ _ _ _ _ (c .before .before .before .before .before .before .pre .2) (c .before .before .before .before .loop .inv) (omega arith) (omega arith) (omega arith)
+step-down-requires : tie.Need-step-down-requires
+step-down-requires c κs = let h = hint-in (c .before .before .before .before .before .args .from) (c .before .before .before .before .before .args .to) (c .before .before .before .before .before .args .hint) (c .before .before .before .if1 .left) in (omega arith, omega arith, λ i j p q r. c .before .before .before .before .before .pre .2 i j (omega arith) q (omega arith))
 
-returns : tie.Need-returns Inv-loop μ-loop
-returns c = narrowed-done _ _ _ _ _ _ (c .before .loop .inv) (omega arith)
+halve-requires-3 : tie.Need-halve-requires-3
+halve-requires-3 c κs = let h = hint-in (c .before .before .before .before .before .before .args .from) (c .before .before .before .before .before .before .args .to) (c .before .before .before .before .before .before .args .hint) (c .before .before .before .before .if1 .left) in let n = c .step-down .ensures in (n .low-high, omega (arith, n .high-to), λ i j p q r. c .before .before .before .before .before .before .pre .2 i j (omega arith) q (omega arith))
+
+returns-3 : tie.Need-returns-3
+returns-3 c =
+    let h = hint-in (c .before .before .before .before .before .before .before .args .from) (c .before .before .before .before .before .before .before .args .to) (c .before .before .before .before .before .before .before .args .hint) (c .before .before .before .before .before .if1 .left) in
+    narrowed-bound _ _ _ _ _ _ _ (narrowed-both _ _ _ _ _ _ _ _ (narrowed-down _ _ _ _ _ _ _ (c .before .before .before .before .before .before .before .pre .2) (narrowed-none _ _ _ _ (c .before .before .before .before .before .before .before .pre .0)) (h .0) (h .1) (omega arith)) (c .before .step-down .ensures)) (c .halve3 .ensures)
 
 pub lower-bound-spec : {M : Type 1} → statement M
 lower-bound-spec =
     tie.close
     (tie.spec
-    Inv-loop
-    μ-loop
-    loop-holds
-    sub-middle
-    add-middle
+    halve-requires
+    returns
     mul-wide
     shared-slice-read-wide
     wide-requires
-    add-low
-    loop-less
-    loop-again
-    loop-less-2
-    loop-again-2
-    returns)
+    add-step-up
+    step-up-requires
+    halve-requires-2
+    returns-2
+    step-down-requires
+    halve-requires-3
+    returns-3)
