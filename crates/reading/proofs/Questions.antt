@@ -1,20 +1,21 @@
 -- The questions of reading, over plain values: what each command's case says, what a "no" gives, and what holds where every answer is "yes".
 -- Assumes nothing.
-use Prim.Native.Nat.{ℕ, suc, _+_, _-_, _*_, _≤_, _<_}
+use Prim.Native.Nat.{ℕ, suc, _+_, _-_, _*_, _^_, _≤_, _<_}
 use native.Mathlib.Omega.{arith}
 use native.Mathlib.Nat.{mul-le-mul}
-use native.Mathlib.Decide.{ℕ-discrete}
-use mathlib.Core.Path.{_≡_, refl, sym, _∙_, subst}
-use mathlib.Core.Logic.{_⊎_, inl, inr}
+use native.Mathlib.Decide.{decLt}
+use mathlib.Core.Path.{_≡_, refl, sym, _∙_}
 use mathlib.Core.Bool.{Bool, true, false, not, _&&_, cond, true≢false}
 use mathlib.Core.List.{List}
 use lib.Dec.{ltb}
 use lib.ListN.{length, getD}
+use lib.Pow.{pow-pos}
 use borrow.Author.Tests.{ltb-true, leb-true, lt-ltb, le-ltb, le-leb, lt-leb, eq-eqb}
 use Rattle.lists.specs.Lists.{all, below}
-use Rattle.lists.proofs.Bools.{test, and-l, and-r}
+use Rattle.lists.proofs.Bools.{and-l, and-r, bool-ext}
 use Rattle.lists.proofs.Lists.{all-each, each-all, mem-below, below-lt}
-use Rattle.masks.specs.Masks.{has}
+use Rattle.masks.specs.Masks.{has, inside}
+use Rattle.masks.proofs.Bits.{inside-all, all-inside, has-high, has-full}
 use Rattle.policy.specs.declared.Policy.{Policy}
 use Rattle.policy.specs.Policies.{edges, edgeOf}
 use Rattle.policy.proofs.Laws.{edge-lt}
@@ -72,26 +73,20 @@ module _ {p : Policy} (bounded : Bounded p) where
       let u = and-r in-states in-letters r in
       omega (arith, edge-lt p v a (ltb-true v (p .states) w) (ltb-true a (p .letters) u), bounded .few-edges)
 
-module _ (g : ℕ) where
-  pub none-given : allGiven g 0 ≡ true
-  unfolding allGiven
-  none-given = refl
+-- every edge below n is given where the full set of them lies inside the given one
+full-lt : (n e : ℕ) → has (2 ^ n - 1) e ≡ true → e < n
+full-lt n e t = go (decLt e n)
+  where
+    go : Dec (e < n) → e < n
+    go (yes h) = h
+    go (no h) = absurd (true≢false (sym t ∙ has-high n e (2 ^ n - 1) (omega (arith, pow-pos n)) (omega arith)))
 
-  pub one-given : (e : ℕ) → allGiven g e ≡ true → has g e ≡ true → allGiven g (e + 1) ≡ true
-  unfolding allGiven
-  one-given e h t = each-all (has g) (below (e + 1)) (λ x m. go x (below-lt (e + 1) x m) (ℕ-discrete x e))
-    where
-      go : (x : ℕ) → x < e + 1 → Dec (x ≡ e) → has g x ≡ true
-      go x k (yes q) = subst (λ (y : ℕ). has g y ≡ true) (sym q) t
-      go x k (no q) = all-each (has g) (below e) h x (mem-below e x (omega arith))
-
-  pub lacks-given : (n e : ℕ) → e < n → has g e ≡ false → false ≡ allGiven g n
-  unfolding allGiven
-  lacks-given n e h f = go (test (all (has g) (below n)))
-    where
-      go : (all (has g) (below n) ≡ true) ⊎ (all (has g) (below n) ≡ false) → false ≡ all (has g) (below n)
-      go (inl t) = absurd (true≢false (sym (all-each (has g) (below n) t e (mem-below n e h)) ∙ f))
-      go (inr t) = sym t
+pub full-given : (given n : ℕ) → inside (2 ^ n - 1) given ≡ allGiven given n
+unfolding allGiven
+full-given given n =
+    bool-ext (inside (2 ^ n - 1) given) (all (has given) (below n))
+    (λ h. each-all (has given) (below n) (λ e m. inside-all (2 ^ n - 1) given h e (has-full n e (below-lt n e m))))
+    (λ h. all-inside (2 ^ n - 1) given (λ e t. all-each (has given) (below n) h e (mem-below n e (full-lt n e t))))
 
 -- ---- a "no"
 -- the command is known, and its operands are there

@@ -11,7 +11,9 @@ use lib.ListN.{length, getD, take, drop, length-drop}
 use lib.Seq.{take-all, drop-length}
 use borrow.Author.Tests.{eqb-true, eq-eqb, ne-eqb}
 use Rattle.lists.proofs.Bools.{test}
+use Rattle.masks.specs.Masks.{insert}
 use Rattle.policy.specs.declared.Policy.{Policy}
+use Rattle.policy.specs.Policies.{edgeOf}
 use Rattle.policy.proofs.Laws.{counts}
 use Rattle.reading.specs.declared.Draft.{Draft}
 use Rattle.reading.specs.declared.Answer.{Answer}
@@ -108,6 +110,25 @@ module _ {b : List ℕ} {at : ℕ} {d : Draft} (o : Onway b at d) where
           bounded = bounded-after d (commandAt b at) (o .bounded) (w .within);
           is = sym (turn-on b at d (o .within) z (rw is-c at t)) ∙ o .is;
         })
+
+-- ---- the draft in place
+-- p and given are the draft after c, which is not the end command
+pub record Taken (d : Draft) (c : Command) (p : Policy) (given : ℕ) : Type 0 where
+  pub goes-on : isEnd c ≡ false
+  pub is : _≡_ {A = Draft} (record { policy = p; given = given }) (after d c)
+
+module _ {d : Draft} {c : Command} {p : Policy} {given : ℕ} where
+  pub taken-shape : {v a k i : ℕ} → c ≡ Shape v a k i → p ≡ counted v a k i → given ≡ 0 → Taken d c p given
+  unfolding after isEnd
+  taken-shape e q g = rw (e, q, g) (record { goes-on = refl; is = refl })
+
+  pub taken-edge : {v a t k e : ℕ} → c ≡ Edge v a t k → e ≡ edgeOf (d .policy) v a → p ≡ withEdge (d .policy) e t k → given ≡ insert (d .given) e → Taken d c p given
+  unfolding after isEnd
+  taken-edge e n q g = rw (e, q, g, n) (record { goes-on = refl; is = refl })
+
+  pub taken-accept : {s i : ℕ} → c ≡ Accept s → i ≡ s → p ≡ withSet (d .policy) i → given ≡ d .given → Taken d c p given
+  unfolding after isEnd
+  taken-accept e n q g = rw (e, q, g, n) (record { goes-on = refl; is = refl })
 
 -- ---- where the reading ends
 abbrev EndsWithin : List ℕ → Outcome → Type 0

@@ -4,7 +4,7 @@ ghost use mathlib.Core.Bool.{true};
 ghost use Prim.Native.Nat.{_+_, _-_, _*_, _<_, _≤_, _^_};
 ghost use lib.ListN.{length};
 ghost use Rattle.policy.specs.Policies.{edgeOf, legalCounts};
-ghost use Rattle.reading.specs.Reading.{Bounded, after, allGiven, commandAt, commandKnown, completeAtEnd, counted, firstTime, inPlace, isEnd, operandCount, operandsThere, readingOf, refusalOf, restOf, withEdge, withSet, withinLimits};
+ghost use Rattle.reading.specs.Reading.{Bounded, allGiven, commandAt, commandKnown, completeAtEnd, counted, firstTime, inPlace, operandCount, operandsThere, readingOf, refusalOf, restOf, withinLimits};
 
 // A command with its operands.
 pub enum Command {
@@ -91,17 +91,6 @@ fn command_at(bytes: &[u8], at: usize) -> Command
     Command::End
 }
 
-fn is_end(c: Command) -> bool
-    ensures { λ r. ⌜ r ≡ isEnd c ⌝ }
-{
-    match c {
-        Command::End => true,
-        Command::Shape(_, _, _, _) => false,
-        Command::Edge(_, _, _, _) => false,
-        Command::Accept(_) => false,
-    }
-}
-
 // ---- the questions
 fn is_in_place(at: usize, c: Command) -> bool
     ensures { λ r. ⌜ r ≡ inPlace at c ⌝ }
@@ -158,8 +147,9 @@ fn edge_of(p: policy::Policy, state: u8, letter: u8) -> usize
     wide(state) * wide(p.letters) + wide(letter)
 }
 
-fn is_first_time(d: Draft, c: Command) -> bool
-    requires { ⌜ (Bounded (d .policy)) × (withinLimits (d .policy) c ≡ true) ⌝ }
+// The draft's family is lent beside it: indexed in the draft itself it would be copied.
+fn is_first_time(d: Draft, family: &[bool; 256], c: Command) -> bool
+    requires { ⌜ (Bounded (d .policy)) × (withinLimits (d .policy) c ≡ true) × (now family ≡ d .policy .family) ⌝ }
     ensures { λ r. ⌜ r ≡ firstTime d c ⌝ }
 {
     let p = d.policy;
@@ -169,7 +159,7 @@ fn is_first_time(d: Draft, c: Command) -> bool
         Command::Edge(state, letter, _, _) => !masks::has(d.given, edge_of(p, state, letter)),
         Command::Accept(set) => {
             let i = wide(set);
-            !p.family[i]
+            !family[i]
         }
     }
 }
@@ -178,14 +168,7 @@ fn all_given(given: u64, edges: usize) -> bool
     requires { ⌜ edges ≤ 64 ⌝ }
     ensures { λ r. ⌜ r ≡ allGiven given edges ⌝ }
 {
-    let mut e = 0;
-    while e < edges {
-        if !masks::has(given, e) {
-            return false;
-        }
-        e += 1;
-    }
-    true
+    masks::inside(masks::full(edges), given)
 }
 
 fn is_complete_at_end(d: Draft, c: Command) -> bool
@@ -202,8 +185,8 @@ fn is_complete_at_end(d: Draft, c: Command) -> bool
 }
 
 // The number of the first question that is answered no; 0 where there is none.
-fn refusal(bytes: &[u8], at: usize, d: Draft) -> u8
-    requires { ⌜ Bounded (d .policy) ⌝ }
+fn refusal(bytes: &[u8], at: usize, d: Draft, family: &[bool; 256]) -> u8
+    requires { ⌜ (Bounded (d .policy)) × (now family ≡ d .policy .family) ⌝ }
     ensures { λ r. ⌜ r ≡ refusalOf (now (bytes .entry)) at d ⌝ }
 {
     if bytes.len() <= at {
@@ -224,7 +207,7 @@ fn refusal(bytes: &[u8], at: usize, d: Draft) -> u8
     if !is_within_limits(p, c) {
         return 4;
     }
-    if !is_first_time(d, c) {
+    if !is_first_time(d, family, c) {
         return 5;
     }
     if !is_complete_at_end(d, c) {
@@ -233,80 +216,47 @@ fn refusal(bytes: &[u8], at: usize, d: Draft) -> u8
     0
 }
 
-// ---- the draft
-fn with_edge(p: policy::Policy, e: usize, target: u8, colour: u8) -> policy::Policy
-    requires { ⌜ e < 64 ⌝ }
-    ensures { λ r. ⌜ r ≡ withEdge p e target colour ⌝ }
-{
-    let mut q = p;
-    q.target[e] = target;
-    q.colour[e] = colour;
-    q
-}
-
-fn with_set(p: policy::Policy, set: u8) -> policy::Policy
-    ensures { λ r. ⌜ r ≡ withSet p set ⌝ }
-{
-    let i = wide(set);
-    let mut q = p;
-    q.family[i] = true;
-    q
-}
-
-// The draft after a command that was not refused.
-fn draft_after(d: Draft, c: Command) -> Draft
-    requires { ⌜ (Bounded (d .policy)) × (withinLimits (d .policy) c ≡ true) ⌝ }
-    ensures { λ r. ⌜ r ≡ after d c ⌝ }
-{
-    let p = d.policy;
-    match c {
-        Command::End => d,
-        Command::Shape(states, letters, colours, initial) => Draft {
-            policy: counted_policy(states, letters, colours, initial),
-            given: 0,
-        },
-        Command::Edge(state, letter, target, colour) => {
-            let e = edge_of(p, state, letter);
-            Draft {
-                policy: with_edge(p, e, target, colour),
-                given: masks::with(d.given, e),
-            }
-        }
-        Command::Accept(set) => Draft {
-            policy: with_set(p, set),
-            given: d.given,
-        },
-    }
-}
-
 // ---- reading
-// The policy of the commands up to the end command, or the first refusal.
+// The policy of the commands up to the end command, or the first refusal. The draft's policy is written in place.
 pub fn read(bytes: &[u8]) -> Answer
     ensures { λ r. ⌜ r ≡ readingOf (now (bytes .entry)) ⌝ }
 {
     let none = counted_policy(0, 0, 0, 0);
-    let mut d = Draft {
-        policy: none,
-        given: 0,
-    };
+    let mut p = none;
+    let mut given = 0;
     let mut at = 0;
     loop {
-        let number = refusal(bytes, at, d);
-        let p = d.policy;
+        let d = Draft { policy: p, given };
+        let number = refusal(bytes, at, d, &p.family);
         if number != 0 {
             return Answer {
                 outcome: Outcome::Refused(number, at),
                 policy: none,
             };
         }
-        let c = command_at(bytes, at);
-        if is_end(c) {
-            return Answer {
-                outcome: Outcome::Read(at + 1),
-                policy: p,
-            };
+        match command_at(bytes, at) {
+            Command::End => {
+                let end = at + 1;
+                return Answer {
+                    outcome: Outcome::Read(end),
+                    policy: p,
+                };
+            }
+            Command::Shape(states, letters, colours, initial) => {
+                p = counted_policy(states, letters, colours, initial);
+                given = 0;
+            }
+            Command::Edge(state, letter, target, colour) => {
+                let e = edge_of(p, state, letter);
+                p.target[e] = target;
+                p.colour[e] = colour;
+                given = masks::with(given, e);
+            }
+            Command::Accept(set) => {
+                let s = wide(set);
+                p.family[s] = true;
+            }
         }
-        d = draft_after(d, c);
         at = at + 1 + operand_count(bytes[at]);
     }
 }

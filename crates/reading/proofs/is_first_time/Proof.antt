@@ -46,7 +46,7 @@ returns-3 c = rw (c .has .ensures, c .before .edge-of .ensures) (sym (ap (firstT
 
 returns-4 : tie.Need-returns-4
 unfolding firstTime inFamily
-returns-4 c = rw (c .before .wide .ensures .0) (sym (ap (firstTime (c .before .before .before .before .before .before .args .d)) (c .before .before .before .c2 .given .1)))
+returns-4 c = rw (c .before .wide .ensures .0, c .before .before .before .before .before .before .pre .2) (sym (ap (firstTime (c .before .before .before .before .before .before .args .d)) (c .before .before .before .c2 .given .1)))
 
 pub is-first-time-spec : {M : Type 1} → statement M
 is-first-time-spec =

@@ -70,7 +70,7 @@ returns-5 : tie.Need-returns-5
 returns-5 c = no-limits _ (whole (c .before .before .before .before .before)) (placed (c .before .before .before)) (sym (c .before .is-within-limits .ensures) ∙ not-true _ (c .if5 .taken))
 
 is-first-time-requires : tie.Need-is-first-time-requires
-is-first-time-requires c κs = (c .before .before .before .before .before .before .before .before .before .before .before .before .before .pre, within c)
+is-first-time-requires c κs = let h = c .before .before .before .before .before .before .before .before .before .before .before .before .before .pre in (h .0, within c, h .1)
 
 returns-6 : tie.Need-returns-6
 returns-6 c = no-first _ (whole (c .before .before .before .before .before .before .before)) (placed (c .before .before .before .before .before)) (within (c .before .before)) (sym (c .before .is-first-time .ensures) ∙ not-true _ (c .if6 .taken))
