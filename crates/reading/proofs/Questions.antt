@@ -73,7 +73,6 @@ module _ {p : Policy} (bounded : Bounded p) where
       let u = and-r in-states in-letters r in
       omega (arith, edge-lt p v a (ltb-true v (p .states) w) (ltb-true a (p .letters) u), bounded .few-edges)
 
--- every edge below n is given where the full set of them lies inside the given one
 full-lt : (n e : ℕ) → has (2 ^ n - 1) e ≡ true → e < n
 full-lt n e t = go (decLt e n)
   where
@@ -81,6 +80,7 @@ full-lt n e t = go (decLt e n)
     go (yes h) = h
     go (no h) = absurd (true≢false (sym t ∙ has-high n e (2 ^ n - 1) (omega (arith, pow-pos n)) (omega arith)))
 
+-- every edge below n is given exactly where the full set of them lies inside the given one
 pub full-given : (given n : ℕ) → inside (2 ^ n - 1) given ≡ allGiven given n
 unfolding allGiven
 full-given given n =

@@ -1,6 +1,5 @@
--- `reading::all_given` meets its contract: every edge is given where the full set lies inside the given one.
+-- `reading::all_given` meets its contract: the law of the full set.
 -- Assumes nothing.
-use mathlib.Core.Path.{_∙_}
 use borrow.Author.Needs.{needs}
 use Rattle.reading.proofs.Questions.{full-given}
 use Rattle.reading.proofs.all_given.Statement.{statement}
