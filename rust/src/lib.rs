@@ -1,7 +1,18 @@
 //! Muller policies into parity automata by the alternating cycle decomposition: a safe layer over the proved static library.
 //!
 //! A [`Policy`] is read from command bytes, [`translate`]d into tables that the caller lends, and the built automaton is run letter by letter with [`Run`].
-//! Nothing is allocated. A call needs at most 192 KiB of stack.
+//! Nothing is allocated.
+//!
+//! ```
+//! use wulfrenda::{judge_policy, Policy};
+//!
+//! // shape: one state, letter and colour; the edge; accept {0}; end; and a byte that is not the policy's
+//! let bytes = [1, 1, 1, 1, 0, 2, 0, 0, 0, 0, 3, 1, 0, 99];
+//! let (policy, rest) = Policy::read(&bytes)?;
+//! assert_eq!(rest, [99]);
+//! assert!(judge_policy(&policy, 0, &[], &[0])?.accepted);
+//! # Ok::<(), Box<dyn std::error::Error>>(())
+//! ```
 #![no_std]
 #![deny(missing_docs)]
 
@@ -14,6 +25,9 @@ pub use refusal::{ReadError, Refusal};
 
 /// What stands in the tables for no node: the parent of a root, the leaf of a state in no cycle.
 pub const NONE: u16 = 65_535;
+
+/// Stack enough for any call.
+pub const STACK_BYTES: usize = 196_608;
 
 /// The seven tables that [`translate`] fills in. The lengths of the three node tables are equal, those of the two state tables too, and each row table is letters
 /// times as long as a state table. Row = built state times letters plus letter.

@@ -2,7 +2,7 @@
 
 use wulfrenda::{
     colour_set_at, compare, judge_policy, judge_rows, translate, Counts, Policy, ReadError,
-    Refusal, Rows, Run, Tables, Verdict, NONE, RECORD_LEN,
+    Refusal, Rows, Run, Tables, Verdict, NONE, RECORD_LEN, STACK_BYTES,
 };
 
 const B: [u8; 30] = [
@@ -274,22 +274,37 @@ fn an_illegal_policy_leaves_the_tables_unchanged() {
     );
 }
 
-#[test]
-fn the_largest_shape_is_read_and_translated() {
+/// 8 states, 8 letters and 8 colours; letter a leads to state a and has colour a. Of the sets with a larger number of members than `above`, every second size is accepted.
+fn largest(above: u32) -> Policy {
     let mut bytes = vec![1, 8, 8, 8, 7];
     for e in 0..64u8 {
         bytes.extend([2, e / 8, e % 8, e % 8, e % 8]);
     }
-    bytes.extend([3, 255, 0]);
+    for set in 1..=255u8 {
+        if set.count_ones() > above && set.count_ones() % 2 == 0 {
+            bytes.extend([3, set]);
+        }
+    }
+    bytes.push(0);
+    policy(&bytes)
+}
+
+#[test]
+fn the_largest_shape_is_read_and_translated() {
     let mut t = Lent::new(9, 64, 512);
-    let Counts {
-        nodes,
-        states,
-        start,
-    } = t.translate(&policy(&bytes)).unwrap();
-    assert_eq!((nodes, states), (9, 56));
+    let built = t.translate(&largest(7)).unwrap();
+    assert_eq!((built.nodes, built.states), (9, 56));
     assert_eq!(t.node_masks[0], u64::MAX);
-    assert_eq!(t.state_sources[usize::from(start)], 7);
+    assert_eq!(t.state_sources[usize::from(built.start)], 7);
+}
+
+#[test]
+fn the_stack_that_is_named_is_enough() {
+    // the thread itself needs a few KiB more
+    let thread = std::thread::Builder::new().stack_size(STACK_BYTES + 16 * 1024);
+    let deep = || Lent::new(65_535, 65_535, 8 * 65_535).translate(&largest(3));
+    let built = thread.spawn(deep).unwrap().join().unwrap().unwrap();
+    assert_eq!(built.nodes, 1 + 8 * (1 + 7 * (1 + 6 * (1 + 5 * (1 + 4)))));
 }
 
 // ---- running

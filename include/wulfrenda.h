@@ -1,0 +1,188 @@
+/*
+ * Wulfrenda: Muller policies into parity automata by the alternating cycle decomposition.
+ *
+ * The functions of libwulfrenda.a (`rt staticlib wulfrenda` writes it to target/staticlib). Each is proved to meet its contract in
+ * crates/wulfrenda/src/lib.rt; this file says the same in words. "The scope document" is the one that the README names.
+ *
+ * Of every call:
+ *
+ * - Pointers are not null, also where a length is 0, and are aligned as their types ask.
+ * - A length counts elements, not bytes, and the elements are there.
+ * - What a call writes (a pointer without `const`) overlaps no other argument of that call. What it only reads may overlap.
+ * - Nothing else is asked. Any bytes, numbers and lengths may be passed: what makes no sense is refused.
+ * - There is no heap, no global state and no error channel beside the answer. Calls from several threads do not meet.
+ * - WULFRENDA_STACK_BYTES of stack are enough for any call.
+ */
+#ifndef WULFRENDA_H
+#define WULFRENDA_H
+
+#include <stddef.h>
+#include <stdint.h>
+
+#ifdef __cplusplus
+extern "C" {
+#endif
+
+/* ---- limits */
+
+#define WULFRENDA_MAX_STATES 16
+#define WULFRENDA_MAX_LETTERS 8
+#define WULFRENDA_MAX_COLOURS 8
+#define WULFRENDA_MAX_EDGES 64 /* states times letters */
+
+/* In the tables, no node: the parent of a root, the leaf of a built state whose policy state is in no cycle. */
+#define WULFRENDA_NONE 65535
+
+/* Stack enough for any call. Measured on x86-64: wulfrenda_translate 167,224 bytes, whatever the policy; the others less than 5,000. */
+#define WULFRENDA_STACK_BYTES 196608
+
+/* ---- a policy's record
+ *
+ * A policy crosses as 388 bytes:
+ *
+ *   byte 0          states, 1 to 16
+ *   byte 1          letters, 1 to 8
+ *   byte 2          colours, 1 to 8
+ *   byte 3          the initial state
+ *   bytes 4..67     the target of each edge; edge = state times letters plus letter; 0 past the last edge
+ *   bytes 68..131   the colour of each edge; 0 past the last edge
+ *   bytes 132..387  for each colour set, an 8-bit mask: not 0 if the set is in the family
+ *
+ * wulfrenda_read writes 1 for a set in the family. A record may also be filled in by hand: one that is not legal is refused with 7 by the
+ * calls that take it. Legal: the counts within their limits, states times letters at most 64, the initial state and every target a state,
+ * every edge's colour a colour, 0 past the last edge, and no member of the family empty or with a bit at or above the number of colours.
+ */
+#define WULFRENDA_RECORD_BYTES 388
+#define WULFRENDA_RECORD_TARGETS 4
+#define WULFRENDA_RECORD_COLOURS 68
+#define WULFRENDA_RECORD_FAMILY 132
+
+/* ---- answers: 0, or the number of the first question that was answered "no". The questions are put in the order that each call names. */
+
+#define WULFRENDA_OK 0
+#define WULFRENDA_TRUNCATED 1         /* Is there another byte? Are a command's operands all there? */
+#define WULFRENDA_UNKNOWN_COMMAND 2   /* Is the command's byte 0 to 3? */
+#define WULFRENDA_MISPLACED 3         /* Is it shape if first, and not shape if later? */
+#define WULFRENDA_OUT_OF_RANGE 4      /* Are the operands within the limits and the declared counts, and an accepted set non-empty? */
+#define WULFRENDA_REPEATED 5          /* Is this edge, or this set, given for the first time? */
+#define WULFRENDA_INCOMPLETE 6        /* At end: has every edge been given? */
+#define WULFRENDA_ILLEGAL_POLICY 7    /* Is the policy legal? */
+#define WULFRENDA_LENGTHS 8           /* Do the tables' lengths belong together? */
+#define WULFRENDA_TOO_MANY_NODES 9    /* Does the node count fit the node tables? */
+#define WULFRENDA_TOO_MANY_STATES 10  /* Does the built state count fit the state tables? */
+#define WULFRENDA_NO_SUCH_STATE 11    /* Is the state one of the policy's, or one that has rows? */
+#define WULFRENDA_NO_SUCH_LETTER 12   /* Is the letter below the number of letters? */
+#define WULFRENDA_NO_SUCH_TARGET 13   /* Is the row's target a state that has rows? */
+#define WULFRENDA_EMPTY_LOOP 14       /* Is the loop non-empty? */
+#define WULFRENDA_DIFFERENT_GRAPHS 15 /* Have both policies the same states, letters and targets? */
+
+/* ---- the calls */
+
+/*
+ * The colour set at a position of the fixed order of the 256 colour sets: falling number of members, then ascending mask; from 255 at
+ * position 0 to 0 at position 255. Never refuses.
+ */
+uint8_t wulfrenda_colour_set(uint8_t position);
+
+/*
+ * Reads a policy from command bytes: 0x01 shape (states, letters, colours, initial), 0x02 edge (state, letter, target, colour), 0x03 accept
+ * (colour set), 0x00 end. Shape comes first, the others in any order, and reading stops after the end command.
+ *
+ *   bytes, bytes_length   the command bytes, and whatever follows them
+ *   record                388 bytes: the policy
+ *   offset                where what follows the end command begins
+ *
+ * For each command: 1, 2, 1 (operands), 3, 4, 5, 6. After a refusal all of record is 0, and *offset is where the refused command begins
+ * (bytes_length, if there is none).
+ */
+uint8_t wulfrenda_read(const uint8_t *bytes, size_t bytes_length, uint8_t record[WULFRENDA_RECORD_BYTES], size_t *offset);
+
+/*
+ * Translates a policy: the forest of its cycles, and the parity automaton. Row = built state times letters plus letter. Only the first
+ * 65,535 places of node and state tables count.
+ *
+ *   record           the policy
+ *   node_masks       of each node: its edges, bit e for edge e
+ *   node_parents     its parent; WULFRENDA_NONE for a root
+ *   node_priorities  its priority; the node accepts exactly if it is even
+ *   state_sources    of each built state: the policy state under it
+ *   state_leaves     its leaf; WULFRENDA_NONE if the policy state is in no cycle
+ *   row_targets      of each row: the built state that it leads to
+ *   row_priorities   its priority
+ *   counts           three numbers: how many nodes, how many built states, and the built state begun in
+ *
+ * 7. 8: the node tables are of one length, the state tables of one length, and each row table letters times the latter. 9. 10.
+ *
+ * After a success places past the result hold 0. After 7 and 8 the seven tables are unchanged; after 9 and 10 every place of all seven is 0.
+ * After any refusal the three counts are 0.
+ */
+uint8_t wulfrenda_translate(const uint8_t record[WULFRENDA_RECORD_BYTES],
+                            uint64_t *node_masks, size_t node_masks_length,
+                            uint16_t *node_parents, size_t node_parents_length,
+                            uint8_t *node_priorities, size_t node_priorities_length,
+                            uint8_t *state_sources, size_t state_sources_length,
+                            uint16_t *state_leaves, size_t state_leaves_length,
+                            uint16_t *row_targets, size_t row_targets_length,
+                            uint8_t *row_priorities, size_t row_priorities_length,
+                            uint16_t counts[3]);
+
+/*
+ * Reads one letter on a built automaton.
+ *
+ *   letters                      the policy's number of letters
+ *   row_targets, row_priorities  the row tables, or a beginning of them that holds every row
+ *   state                        the run: its present state before, the state it moves to after
+ *   letter                       the letter
+ *   priority                     the priority that the letter meets
+ *
+ * 8: letters are 1 to 8, the row tables of one length, that a multiple of letters, with at most 65,535 states (length over letters). 11. 12.
+ * 13. After a refusal *state is unchanged and *priority is 0.
+ */
+uint8_t wulfrenda_run(uint8_t letters,
+                      const uint16_t *row_targets, size_t row_targets_length,
+                      const uint8_t *row_priorities, size_t row_priorities_length,
+                      uint16_t *state, uint8_t letter, uint8_t *priority);
+
+/*
+ * Judges a policy from a state, over a stem and then a loop repeated without end. A colour recurs if, after every number of rounds, some
+ * later round meets it.
+ *
+ *   record                the policy
+ *   state                 the policy state begun in
+ *   stem, stem_length     the letters before the loop
+ *   cycle, cycle_length   the letters of the loop
+ *   colours               the set of the colours that recur
+ *   accepted              1 if that set is in the family, else 0
+ *
+ * 7, 11, 14, 12. After a refusal *colours and *accepted are 0.
+ */
+uint8_t wulfrenda_judge_policy(const uint8_t record[WULFRENDA_RECORD_BYTES], uint8_t state,
+                               const uint8_t *stem, size_t stem_length,
+                               const uint8_t *cycle, size_t cycle_length,
+                               uint8_t *colours, uint8_t *accepted);
+
+/*
+ * Judges the rows of a built automaton from a state, over a stem and then a loop repeated without end: *least is the least priority that
+ * recurs. The other arguments are those of wulfrenda_run and wulfrenda_judge_policy.
+ *
+ * 8 and 11 as in wulfrenda_run, 14, 12, then 13 if the run ever reads such a row. After a refusal *least is 0.
+ */
+uint8_t wulfrenda_judge_rows(uint8_t letters,
+                             const uint16_t *row_targets, size_t row_targets_length,
+                             const uint8_t *row_priorities, size_t row_priorities_length,
+                             uint16_t state,
+                             const uint8_t *stem, size_t stem_length,
+                             const uint8_t *cycle, size_t cycle_length,
+                             uint8_t *least);
+
+/*
+ * Compares two policies over one graph: *same is 1 if every cycle, reached or not, has the same verdict in both, else 0. Colours and initial
+ * state may differ. 7 of either, 15. After a refusal *same is 0.
+ */
+uint8_t wulfrenda_compare(const uint8_t first[WULFRENDA_RECORD_BYTES], const uint8_t second[WULFRENDA_RECORD_BYTES], uint8_t *same);
+
+#ifdef __cplusplus
+}
+#endif
+
+#endif
