@@ -1,4 +1,5 @@
 pub mod Graphs
 pub mod Meaning
 pub mod Pairs
+pub mod Suspects
 pub mod Tests

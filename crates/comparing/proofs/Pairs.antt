@@ -28,7 +28,7 @@ use Rattle.comparing.proofs.Graphs.{same-edges}
 
 module _ (p q : Policy) where
   -- ---- the edges with colours in c and d
-  pair-some : (c d e : ℕ) → has (pairEdges p q c d) e ≡ true
+  pub pair-some : (c d e : ℕ) → has (pairEdges p q c d) e ≡ true
       → (e < edges p) × ((x : ℕ) → List·Memᴰ x (edgeColours p e) → has c x ≡ true) × ((x : ℕ) → List·Memᴰ x (edgeColours q e) → has d x ≡ true)
   unfolding pairEdges inPair
   pair-some c d e h =
@@ -56,11 +56,11 @@ module _ (p q : Policy) where
       all-inside (coloursOf q m) d (λ x t. let r = colours-some q m x t in pair-some c d (r .0) (r .2) .2 x (r .3))
 
   -- ---- exactly these colours
-  exactly-p : (c d m : ℕ) → exactly p q c d m ≡ true → coloursOf p m ≡ c
+  pub exactly-p : (c d m : ℕ) → exactly p q c d m ≡ true → coloursOf p m ≡ c
   unfolding exactly
   exactly-p c d m t = eqb≡ (coloursOf p m) c (and-l (eqb (coloursOf p m) c) (eqb (coloursOf q m) d) t)
 
-  exactly-q : (c d m : ℕ) → exactly p q c d m ≡ true → coloursOf q m ≡ d
+  pub exactly-q : (c d m : ℕ) → exactly p q c d m ≡ true → coloursOf q m ≡ d
   unfolding exactly
   exactly-q c d m t = eqb≡ (coloursOf q m) d (and-r (eqb (coloursOf p m) c) (eqb (coloursOf q m) d) t)
 

@@ -2,12 +2,16 @@
 -- one in q; where the two differ, there must be no such cycle, and the largest ones among the edges with these colours tell whether there is one.
 use Prim.Native.Nat.{ℕ, _^_}
 use mathlib.Core.Path.{_≡_}
-use mathlib.Core.Bool.{Bool, true, not, _&&_, _||_}
+use mathlib.Core.Bool.{Bool, true, false, not, _&&_, _||_}
+use mathlib.Core.List.{List}
+use lib.Bits.{bitAnd}
 use lib.Dec.{eqb}
+use lib.ListN.{getD}
 use Rattle.lists.specs.Lists.{all, below}
-use Rattle.masks.specs.Masks.{has, gather}
+use Rattle.masks.specs.Masks.{has, inside, gather}
 use Rattle.policy.specs.declared.Policy.{Policy}
 use Rattle.policy.specs.Policies.{edges, targetOf, edgeColours, coloursOf, inFamily, legal}
+use Rattle.policy.specs.ByColour.{byColour, tableEdges, tableColours}
 use Rattle.graph.specs.Through.{cycleThrough}
 use Rattle.decomposition.specs.Forest.{differs}
 use Rattle.comparing.specs.Comparing.{sameGraph}
@@ -18,6 +22,12 @@ module _ (p q : Policy) where
     pub legal-p : legal p ≡ true
     pub legal-q : legal q ≡ true
     pub same-graph : sameGraph p q ≡ true
+
+  -- and t and u are the edges of the two by colour
+  pub record Tables (t u : List ℕ) : Type 0 where
+    pub comparable : Comparable
+    pub of-p : t ≡ byColour p
+    pub of-q : u ≡ byColour q
 
   -- e leads to one state in both
   unfoldable pub sameTarget : ℕ → Bool
@@ -50,9 +60,21 @@ module _ (p q : Policy) where
   unfoldable pub pairAgrees : ℕ → ℕ → Bool
   pairAgrees c d = not (differs (inFamily p c) (inFamily q d)) || isFree c d
 
+  -- the verdicts differ, and the edges with these colours have all of them
+  unfoldable pub suspect : ℕ → ℕ → Bool
+  suspect c d = differs (inFamily p c) (inFamily q d) && exactly c d (pairEdges c d)
+
   -- ---- all pairs
   unfoldable pub setAgrees : ℕ → Bool
   setAgrees c = all (pairAgrees c) (below (2 ^ q .colours))
 
   unfoldable pub pairsAgree : Bool
   pairsAgree = all setAgrees (below (2 ^ p .colours))
+
+-- ---- by tables of the edges by colour, t for p and u for q
+unfoldable pub exactlyBy : List ℕ → List ℕ → ℕ → ℕ → ℕ → Bool
+exactlyBy t u c d m = eqb (tableColours t m) c && eqb (tableColours u m) d
+
+-- b is the verdict of c in p, f the family of q; m is the edges of p in the colours c, and s their colours in q
+unfoldable pub suspectBy : List ℕ → List ℕ → List Bool → Bool → ℕ → ℕ → ℕ → ℕ → Bool
+suspectBy t u f b m s c d = differs b (getD f d false) && inside d s && exactlyBy t u c d (bitAnd m (tableEdges u d))

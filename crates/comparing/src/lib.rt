@@ -1,12 +1,12 @@
 // Comparing two policies over one graph, by pairs of colour sets: c of p's colours and d of q's. All cycles with exactly these colours have one verdict in p and one in q;
-// where the two differ, the largest cycles of the edges with these colours tell whether there is such a cycle.
+// where the two differ, the largest cycles of the edges with these colours tell whether there is such a cycle. The edges of each policy are taken by colour once.
 ghost use mathlib.Core.Path.{_≡_};
 ghost use mathlib.Core.Bool.{true};
 ghost use Prim.Native.Nat.{_<_, _≤_, _^_};
 ghost use Rattle.policy.specs.Policies.{edges, legal};
 ghost use Rattle.graph.specs.Through.{Rows};
 ghost use Rattle.comparing.specs.Comparing.{sameGraph, comparison};
-ghost use Rattle.comparing.specs.Pairs.{Comparable, sameTargets, inPair, pairEdges, exactly, freeAt, isFree, pairAgrees, setAgrees, pairsAgree};
+ghost use Rattle.comparing.specs.Pairs.{Comparable, Tables, sameTargets, pairEdges, exactlyBy, suspectBy, freeAt, isFree, setAgrees, pairsAgree};
 use policy::Policy;
 
 // Whether every cycle has the same verdict in both; or document 01's number.
@@ -25,7 +25,7 @@ fn has_same_targets(p: Policy, q: Policy) -> bool
 {
     let n = policy::edges(p);
     for e in 0..n {
-        if policy::target_of(p, e) != policy::target_of(q, e) {
+        if p.target[e] != q.target[e] {
             return false;
         }
     }
@@ -46,79 +46,75 @@ fn has_same_graph(p: Policy, q: Policy) -> bool
     has_same_targets(p, q)
 }
 
-// ---- one pair of colour sets
-
-// Whether edge e has its colour in p among c, and that in q among d.
-fn in_pair(p: Policy, q: Policy, c: u8, d: u8, e: usize) -> bool
-    requires { ⌜ Comparable p q × (e < edges p) ⌝ }
-    ensures { λ r. ⌜ r ≡ inPair p q c d e ⌝ }
-{
-    masks::set_has(c, policy::colour_of(p, e)) & masks::set_has(d, policy::colour_of(q, e))
-}
-
-// The edges with these colours.
-fn pair_edges(p: Policy, q: Policy, c: u8, d: u8) -> u64
-    requires { ⌜ Comparable p q ⌝ }
-    ensures { λ r. ⌜ r ≡ pairEdges p q c d ⌝ }
-{
-    let n = policy::edges(p);
-    let mut m: u64 = 0;
-    for e in 0..n {
-        if in_pair(p, q, c, d, e) {
-            m = masks::with(m, e);
-        }
-    }
-    m
-}
+// ---- one pair of colour sets: t and u are the edges of p and of q by colour
 
 // Whether m has exactly the colours c in p and exactly d in q.
-fn has_exactly(p: Policy, q: Policy, c: u8, d: u8, m: u64) -> bool
-    requires { ⌜ Comparable p q ⌝ }
-    ensures { λ r. ⌜ r ≡ exactly p q c d m ⌝ }
+fn has_exactly(t: &[u64; 8], u: &[u64; 8], c: u8, d: u8, m: u64) -> bool
+    ensures { λ r. ⌜ r ≡ exactlyBy (now (t .entry)) (now (u .entry)) c d m ⌝ }
 {
-    (policy::colours_of(p, m) == c) & (policy::colours_of(q, m) == d)
+    (policy::colours_in(t, m) == c) & (policy::colours_in(u, m) == d)
 }
 
 // Whether no cycle through v has exactly these colours. m is the edges with these colours, and the rows are those of m.
-fn is_free_at(p: Policy, q: Policy, c: u8, d: u8, m: u64, rows: [u64; 16], v: usize) -> bool
-    requires { ⌜ Comparable p q × (m ≡ pairEdges p q c d) × Rows p m rows × (v < p .states) ⌝ }
+fn is_free_at(
+    p: Policy,
+    q: Policy,
+    t: &[u64; 8],
+    u: &[u64; 8],
+    c: u8,
+    d: u8,
+    m: u64,
+    rows: [u64; 16],
+    v: usize,
+) -> bool
+    requires { ⌜ Tables p q (now t) (now u) × (m ≡ pairEdges p q c d) × Rows p m rows × (v < p .states) ⌝ }
     ensures { λ r. ⌜ r ≡ freeAt p q c d v ⌝ }
 {
     let x = graph::cycle_through(p, rows, m, v);
     if x == 0 {
         return true;
     }
-    !has_exactly(p, q, c, d, x)
+    !has_exactly(t, u, c, d, x)
 }
 
 // Whether no cycle has exactly these colours.
-fn is_free(p: Policy, q: Policy, c: u8, d: u8, m: u64) -> bool
-    requires { ⌜ Comparable p q × (m ≡ pairEdges p q c d) ⌝ }
+fn is_free(p: Policy, q: Policy, t: &[u64; 8], u: &[u64; 8], c: u8, d: u8) -> bool
+    requires { ⌜ Tables p q (now t) (now u) ⌝ }
     ensures { λ r. ⌜ r ≡ isFree p q c d ⌝ }
 {
     let n = p.states as usize;
+    let m = masks::both(policy::edges_in(t, c), policy::edges_in(u, d));
     let rows = graph::reach_all(p, m);
     for v in 0..n {
-        if !is_free_at(p, q, c, d, m, rows, v) {
+        if !is_free_at(p, q, t, u, c, d, m, rows, v) {
             return false;
         }
     }
     true
 }
 
-// Whether the cycles with exactly these colours have the same verdict in both. Where some of the colours are missing among the edges there is no such cycle.
-fn pair_agrees(p: Policy, q: Policy, c: u8, d: u8) -> bool
-    requires { ⌜ Comparable p q ⌝ }
-    ensures { λ r. ⌜ r ≡ pairAgrees p q c d ⌝ }
+// Whether the verdicts differ, and the edges with these colours have all of them; where they have not, there is no cycle with exactly these. m is the edges of p in the
+// colours c, used their colours in q, and verdict that of c; family is q's.
+fn is_suspect(
+    t: &[u64; 8],
+    u: &[u64; 8],
+    family: &[bool; 256],
+    verdict: bool,
+    m: u64,
+    used: u8,
+    c: u8,
+    d: u8,
+) -> bool
+    ensures { λ r. ⌜ r ≡ suspectBy (now (t .entry)) (now (u .entry)) (now (family .entry)) verdict m used c d ⌝ }
 {
-    if policy::in_family(p, c) == policy::in_family(q, d) {
-        return true;
+    if family[d as usize] == verdict {
+        return false;
     }
-    let m = pair_edges(p, q, c, d);
-    if !has_exactly(p, q, c, d, m) {
-        return true;
+    if masks::set_inside(d, used) {
+        let x = masks::both(m, policy::edges_in(u, d));
+        return has_exactly(t, u, c, d, x);
     }
-    is_free(p, q, c, d, m)
+    false
 }
 
 // ---- all pairs
@@ -131,15 +127,23 @@ fn sets(n: u8) -> usize
     1 << n
 }
 
-// Whether c agrees with every set of q's colours.
-fn set_agrees(p: Policy, q: Policy, c: u8) -> bool
-    requires { ⌜ Comparable p q ⌝ }
+// Whether c agrees with every set of q's colours: the cycles with exactly these colours, if there are any, have the same verdict in both.
+fn set_agrees(p: Policy, q: Policy, t: &[u64; 8], u: &[u64; 8], c: u8) -> bool
+    requires { ⌜ Tables p q (now t) (now u) ⌝ }
     ensures { λ r. ⌜ r ≡ setAgrees p q c ⌝ }
 {
+    let m = policy::edges_in(t, c);
+    if policy::colours_in(t, m) != c {
+        return true;
+    }
+    let used = policy::colours_in(u, m);
+    let verdict = policy::in_family(p, c);
     let n = sets(q.colours);
     for d in 0..n {
-        if !pair_agrees(p, q, c, d as u8) {
-            return false;
+        if is_suspect(t, u, &q.family, verdict, m, used, c, d as u8) {
+            if !is_free(p, q, t, u, c, d as u8) {
+                return false;
+            }
         }
     }
     true
@@ -150,9 +154,11 @@ fn pairs_agree(p: Policy, q: Policy) -> bool
     requires { ⌜ Comparable p q ⌝ }
     ensures { λ r. ⌜ r ≡ pairsAgree p q ⌝ }
 {
+    let t = policy::by_colour(p);
+    let u = policy::by_colour(q);
     let n = sets(p.colours);
     for c in 0..n {
-        if !set_agrees(p, q, c as u8) {
+        if !set_agrees(p, q, &t, &u, c as u8) {
             return false;
         }
     }

@@ -1,18 +1,19 @@
 -- `has_exactly` meets its contract. Assumes nothing.
 use mathlib.Core.Path.{refl}
-use Rattle.comparing.specs.Pairs.{exactly}
+use borrow.Author.Needs.{needs}
+use Rattle.comparing.specs.Pairs.{exactlyBy}
 use Rattle.comparing.proofs.has_exactly.Statement.{statement}
 use Rattle.comparing.proofs.has_exactly.Tie as tie
 
-colours-of-requires : tie.Need-colours-of-requires
-colours-of-requires c κs = c .pre .legal-p
+colours-in-requires : tie.Need-colours-in-requires
+colours-in-requires c κs = search needs
 
-colours-of-requires-2 : tie.Need-colours-of-requires-2
-colours-of-requires-2 c κs = c .before .pre .legal-q
+colours-in-requires-2 : tie.Need-colours-in-requires-2
+colours-in-requires-2 c κs = search needs
 
 returns : tie.Need-returns
-unfolding exactly
-returns c = rw (c .before .colours-of .ensures) (rw (c .colours-of2 .ensures) refl)
+unfolding exactlyBy
+returns c = rw (c .before .colours-in .ensures) (rw (c .colours-in2 .ensures) refl)
 
 pub has-exactly-spec : {M : Type 1} → statement M
-has-exactly-spec = tie.close (tie.spec colours-of-requires colours-of-requires-2 returns)
+has-exactly-spec = tie.close (tie.spec colours-in-requires colours-in-requires-2 returns)

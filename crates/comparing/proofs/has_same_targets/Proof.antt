@@ -6,7 +6,7 @@ use mathlib.Core.Path.{_≡_, refl, sym, ap, _∙_}
 use mathlib.Core.Bool.{true}
 use borrow.Author.Needs.{needs}
 use Rattle.lists.specs.Lists.{all, below}
-use Rattle.policy.specs.Policies.{edges}
+use Rattle.policy.specs.Policies.{edges, targetOf}
 use Rattle.policy.proofs.Laws.{edges-le}
 use Rattle.comparing.specs.Pairs.{sameTarget, sameTargets}
 use Rattle.comparing.proofs.Tests.{all-more, all-not, target-same, target-other}
@@ -26,23 +26,22 @@ loop-holds : tie.Need-loop-holds Inv-loop μ-loop
 loop-holds c = (omega arith, refl)
 
 -- in the loop e is an edge
-within : (c : tie.In-loop Inv-loop μ-loop) → c .before .loop .e < edges (c .before .before .before .args .p)
+within : (c : tie.In-loop Inv-loop μ-loop) → c .before .loop .e < edges (c .before .before .before .args .t1)
 within c = omega (arith, c .before .before .edges .ensures, c .loop-test .taken)
 
-target-of-requires : tie.Need-target-of-requires Inv-loop μ-loop
-target-of-requires c κs = let s = c .before .before .before in omega (arith, within c, edges-le (s .args .p) (s .pre))
+element-copy-out-if1 : tie.Need-element-copy-out-if1 Inv-loop μ-loop
+element-copy-out-if1 c = let s = c .before .before .before in omega (arith, within c, edges-le (s .args .t1) (s .pre))
 
-target-of-requires-2 : tie.Need-target-of-requires-2 Inv-loop μ-loop
-target-of-requires-2 c κs = let s = c .before .before .before .before in omega (arith, within (c .before), edges-le (s .args .p) (s .pre))
+element-copy-out-if1-2 : tie.Need-element-copy-out-if1-2 Inv-loop μ-loop
+element-copy-out-if1-2 c = let s = c .before .before .before .before in omega (arith, within (c .before), edges-le (s .args .t1) (s .pre))
 
 returns : tie.Need-returns Inv-loop μ-loop
-unfolding sameTargets
+unfolding sameTargets targetOf
 returns c =
     let d = c .before .before .before in
     let a = d .before .before .before .args in
     let e = d .before .loop .e in
-    sym (all-not (sameTarget (a .p) (a .q)) (edges (a .p)) e (within d)
-    (target-other (a .p) (a .q) e (λ h. c .if1 .taken (c .before .before .target-of .ensures ∙ h ∙ sym (c .before .target-of2 .ensures)))))
+    sym (all-not (sameTarget (a .t1) (a .t2)) (edges (a .t1)) e (within d) (target-other (a .t1) (a .t2) e (c .if1 .taken)))
 
 add-e : tie.Need-add-e Inv-loop μ-loop
 add-e c = omega arith
@@ -51,17 +50,18 @@ loop-less : tie.Need-loop-less Inv-loop μ-loop
 loop-less c = omega arith
 
 loop-again : tie.Need-loop-again Inv-loop μ-loop
+unfolding targetOf
 loop-again c =
     let d = c .before .before .before in
     let a = d .before .before .before .args in
     let e = d .before .loop .e in
-    (omega arith, all-more (sameTarget (a .p) (a .q)) e (d .before .loop .inv .1) (target-same (a .p) (a .q) e (sym (c .before .before .target-of .ensures) ∙ c .if1 .left ∙ c .before .target-of2 .ensures)))
+    (omega arith, all-more (sameTarget (a .t1) (a .t2)) e (d .before .loop .inv .1) (target-same (a .t1) (a .t2) e (c .if1 .left)))
 
 returns-2 : tie.Need-returns-2 Inv-loop μ-loop
 unfolding sameTargets
 returns-2 c =
     let a = c .before .before .before .args in
-    sym (ap (λ k. all (sameTarget (a .p) (a .q)) (below k)) (sym (c .before .before .edges .ensures) ∙ le-antisymm (c .loop-test .left) (c .before .loop .inv .0)) ∙ c .before .loop .inv .1)
+    sym (ap (λ k. all (sameTarget (a .t1) (a .t2)) (below k)) (sym (c .before .before .edges .ensures) ∙ le-antisymm (c .loop-test .left) (c .before .loop .inv .0)) ∙ c .before .loop .inv .1)
 
 pub has-same-targets-spec : {M : Type 1} → statement M
 has-same-targets-spec =
@@ -71,8 +71,8 @@ has-same-targets-spec =
     μ-loop
     edges-requires
     loop-holds
-    target-of-requires
-    target-of-requires-2
+    element-copy-out-if1
+    element-copy-out-if1-2
     returns
     add-e
     loop-less

@@ -2,41 +2,59 @@
 use Prim.Native.Nat.{_-_, _≤_}
 use native.Mathlib.Nat.{le-antisymm}
 use native.Mathlib.Omega.{arith}
-use mathlib.Core.Path.{_≡_, refl, sym, ap, _∙_}
+use lib.Bits.{bitAnd}
+use mathlib.Core.Path.{_≡_, refl, sym, ap, ap₂, _∙_}
 use mathlib.Core.Bool.{true}
 use borrow.Author.Needs.{needs}
 use borrow.Author.Tests.{not-true, not-false}
 use Rattle.lists.specs.Lists.{all, below}
-use Rattle.comparing.specs.Pairs.{freeAt, isFree}
+use Rattle.comparing.specs.Pairs.{pairEdges, freeAt, isFree}
 use Rattle.comparing.proofs.Tests.{all-more, all-not}
+use Rattle.comparing.proofs.Suspects.{pair-edges-by}
 use Rattle.comparing.proofs.is_free.Statement.{statement}
 use Rattle.comparing.proofs.is_free.Tie as tie
 
 abbrev Inv-loop : tie.InvT-loop
-Inv-loop p q c d m n rows v₀ v = (v ≤ n) × (all (freeAt p q c d) (below v) ≡ true)
+Inv-loop p q t u c d n m rows v₀ v = (v ≤ n) × (all (freeAt p q c d) (below v) ≡ true)
 
 abbrev μ-loop : tie.MeasureT-loop
-μ-loop p q c d m n rows v₀ v = n - v
+μ-loop p q t u c d n m rows v₀ v = n - v
 
 cast-n : tie.Need-cast-n Inv-loop μ-loop
 cast-n c = search needs
 
+edges-in-requires : tie.Need-edges-in-requires Inv-loop μ-loop
+edges-in-requires c κs = search needs
+
+edges-in-requires-2 : tie.Need-edges-in-requires-2 Inv-loop μ-loop
+edges-in-requires-2 c κs = search needs
+
+both-requires : tie.Need-both-requires Inv-loop μ-loop
+both-requires c κs = search needs
+
+-- the edges taken are those of the pair
+whole : (c : tie.After-both Inv-loop μ-loop) → let a = c .before .before .before .before .args in c .both .result ≡ pairEdges (a .p) (a .q) (a .c) (a .d)
+whole c =
+    let s = c .before .before .before .before in
+    let a = s .args in
+    c .both .ensures ∙ ap₂ bitAnd (c .before .before .edges-in .ensures) (c .before .edges-in2 .ensures) ∙ pair-edges-by (a .p) (a .q) (a .t .now) (a .u .now) (s .pre) (a .c) (a .d)
+
 reach-all-requires : tie.Need-reach-all-requires Inv-loop μ-loop
-reach-all-requires c κs = c .before .pre .0 .legal-p
+reach-all-requires c κs = c .before .before .before .before .pre .comparable .legal-p
 
 loop-holds : tie.Need-loop-holds Inv-loop μ-loop
 loop-holds c = (omega arith, refl)
 
 is-free-at-requires : tie.Need-is-free-at-requires Inv-loop μ-loop
 is-free-at-requires c κs =
-    let s = c .before .before .before .before in
-    (s .pre .0, s .pre .1, c .before .before .reach-all .ensures, c .loop-test .taken)
+    let d = c .before .before .before in
+    (d .before .before .before .before .pre, whole d, c .before .before .reach-all .ensures, c .loop-test .taken)
 
 returns : tie.Need-returns Inv-loop μ-loop
 unfolding isFree
 returns c =
     let d = c .before .before in
-    let a = d .before .before .before .before .args in
+    let a = d .before .before .before .before .before .before .before .args in
     sym (all-not (freeAt (a .p) (a .q) (a .c) (a .d)) (a .p .states) (d .before .loop .v) (d .loop-test .taken) (sym (c .before .is-free-at .ensures) ∙ not-true _ (c .if1 .taken)))
 
 add-v : tie.Need-add-v Inv-loop μ-loop
@@ -48,13 +66,13 @@ loop-less c = omega arith
 loop-again : tie.Need-loop-again Inv-loop μ-loop
 loop-again c =
     let d = c .before .before in
-    let a = d .before .before .before .before .args in
+    let a = d .before .before .before .before .before .before .before .args in
     (omega arith, all-more (freeAt (a .p) (a .q) (a .c) (a .d)) (d .before .loop .v) (d .before .loop .inv .1) (sym (c .before .is-free-at .ensures) ∙ not-false _ (c .if1 .left)))
 
 returns-2 : tie.Need-returns-2 Inv-loop μ-loop
 unfolding isFree
 returns-2 c =
-    let a = c .before .before .before .before .args in
+    let a = c .before .before .before .before .before .before .before .args in
     sym (ap (λ k. all (freeAt (a .p) (a .q) (a .c) (a .d)) (below k)) (le-antisymm (c .loop-test .left) (c .before .loop .inv .0)) ∙ c .before .loop .inv .1)
 
 pub is-free-spec : {M : Type 1} → statement M
@@ -64,6 +82,9 @@ is-free-spec =
     Inv-loop
     μ-loop
     cast-n
+    edges-in-requires
+    edges-in-requires-2
+    both-requires
     reach-all-requires
     loop-holds
     is-free-at-requires
