@@ -1,25 +1,18 @@
--- What the stages of translating rest on: lengths compared without multiplying, tables filled from the front, the rows by number, what each stage answers and
--- leaves in its tables. Assumes nothing.
-use Prim.Native.Nat.{ℕ, _+_, _*_, _/_, _%_, _≤_, _<_, min}
+-- What the stages of translating rest on: lengths compared without multiplying, what each stage answers and leaves in its tables. Assumes nothing.
+use Prim.Native.Nat.{ℕ, _+_, _*_, _/_, _%_, _≤_, min}
 use native.Mathlib.Omega.{arith}
-use native.Mathlib.Numerals.{add-one}
-use native.Mathlib.Nat.{mod-lt, div-add-mod', div-lt-iff-lt-mul, mul-comm, mul-le-mul-right}
-use mathlib.Core.Path.{_≡_, refl, sym, ap, ap₂, _∙_, subst}
+use native.Mathlib.Nat.{div-add-mod', mul-comm, mul-le-mul-right}
+use mathlib.Core.Path.{_≡_, refl, sym, ap, ap₂, _∙_}
 use mathlib.Core.Logic.{_⊎_, inl, inr}
 use mathlib.Core.Bool.{Bool, true, false, not, _&&_, true≢false}
-use mathlib.Core.List.{List, [], _∷_, _++_, map}
+use mathlib.Core.List.{List}
 use lib.Arith.{digits-div, digits-mod}
 use lib.Dec.{eqb}
-use lib.ListN.{length, getD, set, take, length-set, length-map, List·getD-map}
-use lib.Seq.{take-suc, take-all, length-take-le}
-use Rattle.lists.specs.Lists.{flat, below}
+use lib.ListN.{length, getD, length-map, List·getD-map}
 use Rattle.lists.proofs.Bools.{test, eqb≡, ≡eqb, and-l, and-r, both, bool-ext, le-true}
-use Rattle.lists.proofs.Lists.{length-below, getD-map-below, length-pieces, getD-pieces}
 use Rattle.tables.specs.Tables.{padded, zeros}
-use Rattle.tables.proofs.Tables.{zeros-padded, zeros-same, length-zeros, getD-padded, padded-more}
+use Rattle.tables.proofs.Tables.{zeros-same, length-zeros, getD-padded}
 use Rattle.policy.specs.declared.Policy.{Policy}
-use Rattle.policy.specs.Policies.{legal}
-use Rattle.policy.proofs.Laws.{legal-counts}
 use Rattle.decomposition.specs.declared.nodes.Filled as node-filled
 use Rattle.decomposition.specs.declared.nodes.Filled.the-variants as node-variants
 use Rattle.decomposition.specs.Forest.{Node, forest, priority}
@@ -27,12 +20,11 @@ use Rattle.decomposition.specs.NodeTables.{NodeTables, nodeTables, nodeMasks, n
 use Rattle.decomposition.proofs.NodeColumns.{masks-at, parents-at, ranks-at}
 use Rattle.builder.specs.declared.translating.Building.{Building}
 use Rattle.builder.specs.declared.translating.Building.the-variants.{Whole, TooMany}
-use Rattle.builder.specs.Automaton.{Built, built, stateAt, start, rowTarget, rowPriority, rowTargets, rowPriorities}
+use Rattle.builder.specs.Automaton.{Built, built, stateAt, start, rowTargets, rowPriorities}
 use Rattle.builder.specs.Stages.{Nodes, States}
-use Rattle.builder.specs.Rows.{ParentColumn}
 use Rattle.builder.specs.Placing.{MaskColumn, Filled}
 use Rattle.builder.specs.Tables.{places, stateSources, stateLeaves}
-use Rattle.builder.specs.Filling.{Sized, Clear, Column, Rowed, builtFit, buildingOf, BuiltTables}
+use Rattle.builder.specs.Filling.{Sized, Clear, builtFit, buildingOf, BuiltTables}
 
 -- what an answer holds
 abbrev isWhole : Building → Bool
@@ -73,97 +65,6 @@ times-is n k m h = bool-ext (eqb (n % k) 0 && eqb (n / k) m) (eqb n (k * m)) the
     back t =
         let e : n ≡ m * k + 0 = omega (arith, eqb≡ n (k * m) t, mul-comm m k) in
         both (eqb (n % k) 0) (eqb (n / k) m) (≡eqb (n % k) 0 (ap (λ (x : ℕ). x % k) e ∙ digits-mod m {m = k} {r = 0} h)) (≡eqb (n / k) m (ap (λ (x : ℕ). x / k) e ∙ digits-div m {m = k} {r = 0} h))
-
--- ---- tables that are filled from the front
-pub column-none : (l t : List ℕ) → t ≡ zeros t → length l ≤ length t → Column l 0 t
-column-none l t e h = record { long = h; are = e ∙ zeros-padded t }
-
-pub column-more : {l t : List ℕ} {n : ℕ} → Column l n t → n < length l → (x : ℕ) → x ≡ getD l n 0 → Column l (n + 1) (set t n x)
-column-more {l} {t} {n} c h x d = record { long = omega (arith, length-set t n x, c .long); are = ap (λ (u : List ℕ). set u n x) (c .are) ∙ step ∙ ap₂ padded (sym (length-set t n x)) longer }
-  where
-    q : length (take n l) ≡ n
-    q = length-take-le n l (omega arith)
-
-    step : set (padded (length t) (take n l)) n x ≡ padded (length t) (take n l ++ (x ∷ []))
-    step = subst (λ (i : ℕ). set (padded (length t) (take n l)) i x ≡ padded (length t) (take n l ++ (x ∷ []))) q (padded-more (length t) (take n l) x (omega (arith, q, c .long)))
-
-    longer : take n l ++ (x ∷ []) ≡ take (n + 1) l
-    longer = ap (λ (y : ℕ). take n l ++ (y ∷ [])) d ∙ sym (take-suc l n 0 h) ∙ ap (λ (i : ℕ). take i l) (sym (add-one n))
-
-pub column-whole : {l t : List ℕ} {n m : ℕ} → Column l n t → length l ≤ n → length t ≡ m → t ≡ padded m l
-column-whole {l} {t} {n} {m} c h e = c .are ∙ ap₂ padded e (take-all n l h)
-
--- ---- the rows by number
-row-long : (f : ℕ → ℕ) (k : ℕ) → length (map f (below k)) ≡ k
-row-long f k = length-map (below k) f ∙ length-below k
-
-rows-at : (f : ℕ → ℕ → ℕ) (n k i : ℕ) → 1 ≤ k → i < n * k → getD (flat (map (λ s. map (f s) (below k)) (below n))) i 0 ≡ f (i / k) (i % k)
-rows-at f n k i h l =
-    let g : ℕ → List ℕ = λ (s : ℕ). map (f s) (below k) in
-    ap (λ (j : ℕ). getD (flat (map g (below n))) j 0) (sym (div-add-mod' i k))
-    ∙ getD-pieces g k (λ s. row-long (f s) k) n (i / k) (i % k) 0 (div-lt-iff-lt-mul {k = k} {x = i} {y = n} h .1 l) (mod-lt i h)
-    ∙ getD-map-below (f (i / k)) k (i % k) 0 (mod-lt i h)
-
-module _ (p : Policy) where
-  pub length-targets : length (rowTargets p) ≡ length (built p) * p .letters
-  unfolding rowTargets
-  length-targets = length-pieces (λ (s : ℕ). map (rowTarget p s) (below (p .letters))) (p .letters) (λ s. row-long (rowTarget p s) (p .letters)) (length (built p))
-
-  pub length-priorities : length (rowPriorities p) ≡ length (built p) * p .letters
-  unfolding rowPriorities
-  length-priorities = length-pieces (λ (s : ℕ). map (rowPriority p s) (below (p .letters))) (p .letters) (λ s. row-long (rowPriority p s) (p .letters)) (length (built p))
-
-  pub target-at : (i : ℕ) → 1 ≤ p .letters → i < length (built p) * p .letters → getD (rowTargets p) i 0 ≡ rowTarget p (i / p .letters) (i % p .letters)
-  unfolding rowTargets
-  target-at i h l = rows-at (rowTarget p) (length (built p)) (p .letters) i h l
-
-  pub priority-at : (i : ℕ) → 1 ≤ p .letters → i < length (built p) * p .letters → getD (rowPriorities p) i 0 ≡ rowPriority p (i / p .letters) (i % p .letters)
-  unfolding rowPriorities
-  priority-at i h l = rows-at (rowPriority p) (length (built p)) (p .letters) i h l
-
--- ---- rows written one after the other
-module _ (p : Policy) (lawful : legal p ≡ true) where
-  some : 1 ≤ p .letters
-  some = legal-counts p lawful .letters-some
-
-  pub rows-few : {count : ℕ} → count ≡ length (built p) → length (built p) ≤ 65535 → count * p .letters ≤ 524280
-  rows-few {count} e h = omega (arith, ap (λ (n : ℕ). n * p .letters) e, mul-le-mul-right (p .letters) h, legal-counts p lawful .letters-few)
-
-  pub rowed-none : {t k : List ℕ} {count : ℕ} → count ≡ length (built p) → length (built p) ≤ 65535 → t ≡ zeros t → k ≡ zeros k → p .letters * length (built p) ≤ length t
-      → p .letters * length (built p) ≤ length k → Rowed p t k t k (count * p .letters) 0
-  rowed-none {t} {k} {count} e h et ek lt lk = record {
-    rows-are = ap (λ (n : ℕ). n * p .letters) e;
-    few = rows-few e h;
-    at-most = omega arith;
-    targets-long = refl;
-    priorities-long = refl;
-    targets-are = column-none (rowTargets p) t et (omega (arith, length-targets p, mul-comm (length (built p)) (p .letters)));
-    priorities-are = column-none (rowPriorities p) k ek (omega (arith, length-priorities p, mul-comm (length (built p)) (p .letters)));
-  }
-
-  module _ {t₀ k₀ t k : List ℕ} {n i : ℕ} (w : Rowed p t₀ k₀ t k n i) (h : i < n) where
-    pub row-state : i / p .letters < length (built p)
-    row-state = div-lt-iff-lt-mul {k = p .letters} {x = i} {y = length (built p)} some .1 (omega (arith, w .rows-are))
-
-    pub row-letter : i % p .letters < p .letters
-    row-letter = mod-lt i some
-
-    pub row-in : (i < length t) × (i < length k)
-    row-in = (omega (arith, w .targets-are .long, length-targets p, w .rows-are), omega (arith, w .priorities-are .long, length-priorities p, w .rows-are))
-
-    pub rowed-more : {x y : ℕ} → x ≡ rowTarget p (i / p .letters) (i % p .letters) → y ≡ rowPriority p (i / p .letters) (i % p .letters) → Rowed p t₀ k₀ (set t i x) (set k i y) n (i + 1)
-    rowed-more {x} {y} ex ey = record {
-      rows-are = w .rows-are;
-      few = w .few;
-      at-most = omega arith;
-      targets-long = length-set t i x ∙ w .targets-long;
-      priorities-long = length-set k i y ∙ w .priorities-long;
-      targets-are = column-more (w .targets-are) (omega (arith, length-targets p, w .rows-are)) x (ex ∙ sym (target-at p i some (omega (arith, w .rows-are))));
-      priorities-are = column-more (w .priorities-are) (omega (arith, length-priorities p, w .rows-are)) y (ey ∙ sym (priority-at p i some (omega (arith, w .rows-are))));
-    }
-
-  pub rowed-all : {t₀ k₀ t k : List ℕ} {n i : ℕ} → Rowed p t₀ k₀ t k n i → n ≤ i → (t ≡ padded (length t₀) (rowTargets p)) × (k ≡ padded (length k₀) (rowPriorities p))
-  rowed-all w h = (column-whole (w .targets-are) (omega (arith, length-targets p, w .rows-are)) (w .targets-long), column-whole (w .priorities-are) (omega (arith, length-priorities p, w .rows-are)) (w .priorities-long))
 
 -- ---- columns of the node tables
 pub mask-column : {p : Policy} {masks parents ranks : List ℕ} → Nodes p masks parents ranks → MaskColumn p masks

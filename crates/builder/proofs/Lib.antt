@@ -5,7 +5,9 @@ pub mod Ends
 pub mod Leaves
 pub mod Next
 pub mod RowLaws
+pub mod RowTables
 pub mod Search
+pub mod Sharing
 pub mod Tables
 pub mod StateLaws
 pub mod FillingLaws

@@ -1,10 +1,10 @@
--- The laws that the functions of a row are proved by: the walk up from a leaf to the deepest node with an edge, the two searches, and the loop that
+-- The laws that the functions of a row are proved by: the walk up from a leaf to the deepest node with an edge, the searches, and the loop that
 -- raises ends. Over plain lists and numbers. Assumes nothing.
-use Prim.Native.Nat.{ℕ, _+_, _*_, _≤_, _<_}
+use Prim.Native.Nat.{ℕ, _+_, _≤_, _<_}
 use native.Mathlib.Omega.{arith}
 use native.Mathlib.Nat.{le-refl}
 use native.Mathlib.Decide.{ℕ-discrete, decLt}
-use mathlib.Core.Path.{_≡_, refl, sym, ap, ap₂, _∙_, subst}
+use mathlib.Core.Path.{_≡_, refl, sym, ap, _∙_, subst}
 use mathlib.Core.Logic.{_⊎_, inl, inr, _≢_}
 use mathlib.Core.Bool.{Bool, true, false, not, _||_, cond, true≢false, false≢true}
 use mathlib.Core.List.{List, [], List·Memᴰ}
@@ -17,28 +17,25 @@ use Rattle.lists.proofs.Bools.{test, eqb≡, ≡eqb, neqb, lt-true, lt-false, l
 use Rattle.masks.specs.Masks.{has}
 use Rattle.masks.proofs.Bits.{inside-all}
 use Rattle.policy.specs.declared.Policy.{Policy}
-use Rattle.policy.specs.Policies.{edges, edgeOf, source, targetOf, legal}
-use Rattle.policy.proofs.Laws.{legal-counts, legal-target, edges-le, source-edge, edge-lt}
+use Rattle.policy.specs.Policies.{edges, source, targetOf, legal}
+use Rattle.policy.proofs.Laws.{legal-target, edges-le}
 use Rattle.graph.proofs.Cycles.{some-contains}
 use Rattle.decomposition.specs.Forest.{Node, forest, priority, transientPriority, node, chain, childOf, inRoot}
 use Rattle.decomposition.specs.Laws.{ForestLaws, maskAt, parentAt, rootAt}
 use Rattle.decomposition.proofs.Chains.{chain-self, chain-le, chain-lt, chain-parent, chain-trans, chain-linear, chain-top}
 use Rattle.decomposition.proofs.Forest.{forest-laws}
-use Rattle.builder.specs.Automaton.{orElse, deepest, lead, leaves, leafAfter, priorityAfter, built, stateAt, number, rowTarget, rowPriority}
-use Rattle.builder.specs.Stages.{endOf, firstOver, Nodes, Ends, States, Starts}
+use Rattle.builder.specs.Automaton.{orElse, deepest, lead, leaves, leafAfter, priorityAfter, number}
+use Rattle.builder.specs.Stages.{endOf, firstOver, Nodes, Ends, States}
 use Rattle.builder.specs.Rows.{ParentColumn, LeafColumn, AscendsIn, LowerBound, Narrowed, Met, raisedTo}
 use Rattle.builder.proofs.EdgeRuns.{Good}
 use Rattle.builder.proofs.Next.{first-cases}
 use Rattle.builder.proofs.Branch.{of-child, chain-inside, child-lt, child-between, lead-is, deepest-mem, deepest-under, deepest-at}
-use Rattle.builder.proofs.Leaves.{Meets, of-leaf, leaf-under, leaves-good, good-leaves, leaf-after-good, meets, root-with, with-root, after-out}
-use Rattle.builder.proofs.Tables.{built-good, number-at}
+use Rattle.builder.proofs.Leaves.{Meets, of-leaf, leaf-under, leaves-good, leaf-after-good, meets, root-with, with-root, after-out}
+use Rattle.builder.proofs.Tables.{number-at}
 use Rattle.builder.proofs.Ends.{Raised, raised-none, raised-all, raised-root, raised-kept, raised-more, root-parent}
 use Rattle.builder.proofs.Search.{FirstFrom, leaf-after-self, leaf-after-next, leaf-after-first, bound-number, bound-none, over-leaf, first-number, over-le, over-mono, leaves-ascend-in}
 
 -- ---- columns of the tables
-pub nodes-parents : (p : Policy) (masks parents ranks : List ℕ) → Nodes p masks parents ranks → ParentColumn p parents
-nodes-parents p masks parents ranks t = record { few = t .few; long = t .parents-long; are = t .parents-are }
-
 pub states-leaves : (p : Policy) (sources entries : List ℕ) → States p sources entries → LeafColumn p entries
 states-leaves p sources entries t = record { few = t .few; long = t .leaves-long; are = t .leaves-are }
 
@@ -46,7 +43,7 @@ states-leaves p sources entries t = record { few = t .few; long = t .leaves-long
 module _ (p : Policy) (ns : List Node) (laws : ForestLaws p ns) where
   open ForestLaws laws using (parent-lt, level-up)
 
-  lead-self : (l : ℕ) → l < length ns → lead ns l l ≡ l
+  pub lead-self : (l : ℕ) → l < length ns → lead ns l l ≡ l
   unfolding lead
   lead-self l h = go (first-cases l (filter (childOf ns l) (chain ns l)))
     where
@@ -312,6 +309,18 @@ module _ (p : Policy) (ends entries : List ℕ) (e l : ℕ) (met : Bool) (at chi
   stands : Good (forest p) p (source p e) l
   stands = leaves-good p (forest p) (forest-laws p (a .0)) (source p e) l (a .2)
 
+  pub place-small : l < 65536
+  place-small = go stands
+    where
+      go : Good (forest p) p (source p e) l → l < 65536
+      go (inl g) = omega (arith, g .0, b .0)
+      go (inr g) = omega (arith, g .0)
+
+  -- the number of the state that e leads to fits
+  pub find-fits : number p (targetOf p e) (leafAfter (forest p) p e l) < 65536
+  find-fits =
+      omega (arith, number-at p (forest-laws p (a .0)) (targetOf p e) (leafAfter (forest p) p e l) (legal-target p (a .0) e (a .1)) (leaf-after-good p (forest p) (forest-laws p (a .0)) e (a .1) l stands) .0, b .2 .few)
+
   bound : (x r : ℕ) → LowerBound entries from to x r → LowerBound entries (firstOver p (targetOf p e)) (firstOver p (targetOf p e + 1)) x r
   bound x r w = subst (λ (z : ℕ). LowerBound entries (firstOver p (targetOf p e)) z x r) (b .4) (subst (λ (z : ℕ). LowerBound entries z to x r) (b .3) w)
 
@@ -334,14 +343,20 @@ module _ (p : Policy) (ends entries : List ℕ) (e l : ℕ) (met : Bool) (at chi
         go true q = refl
         go false q = absurd (true≢false q)
 
-    meeting : Meets (forest p) p e l
-    meeting = meets p (forest p) (forest-laws p (a .0)) e l (a .1) (sym (a .3 .in-root) ∙ t) stands
+    pub find-rooted : inRoot (forest p) e ≡ true
+    find-rooted = sym (a .3 .in-root) ∙ t
+
+    pub find-meets : Meets (forest p) p e l
+    find-meets = meets p (forest p) (forest-laws p (a .0)) e l (a .1) find-rooted stands
 
     at-lt : at < length (forest p)
-    at-lt = omega (arith, a .3 .node-is t, meeting .node-range)
+    at-lt = omega (arith, a .3 .node-is t, find-meets .node-range)
 
     child-in : child < length (forest p)
-    child-in = omega (arith, a .3 .child-is t, lead-lt p (forest p) (forest-laws p (a .0)) (deepest (forest p) e l) l (meeting .leaf-range) (meeting .node-above))
+    child-in = omega (arith, a .3 .child-is t, lead-lt p (forest p) (forest-laws p (a .0)) (deepest (forest p) e l) l (find-meets .leaf-range) (find-meets .node-above))
+
+    pub find-child : (child ≡ lead (forest p) (deepest (forest p) e l) l) × (at ≡ deepest (forest p) e l) × (getD ends child 0 ≡ endOf (forest p) (lead (forest p) (deepest (forest p) e l) l))
+    find-child = (a .3 .child-is t, a .3 .node-is t, b .1 .ends-are child child-in ∙ ap (endOf (forest p)) (a .3 .child-is t))
 
     -- the places of the node and of the child in the table of ends
     pub find-in : (at < length ends) × (child < length ends) × (at < 65535) × (child < 65535)
@@ -500,71 +515,3 @@ module _ (p : Policy) (parents : List ℕ) (count : ℕ) (a : Filling p parents 
     pub fill-child : (ends : List ℕ) (m : ℕ) → m ≡ n + 1 → Raised (forest p) ends m → up ≢ 65535 → Raised (forest p) (raisedTo ends up n) n
     fill-child ends m e r q =
         subst (λ (x : ℕ). Raised (forest p) (raisedTo ends x n) n) (sym parent) (raise-turn p (a .0) ends n (subst (Raised (forest p) ends) e r) place (child q))
-
--- ---- the row of a built state and a letter
-pub edge-fits : (p : Policy) (v a : ℕ) → legal p ≡ true → v < p .states → a < p .letters → v * p .letters + a < 64
-unfolding edges edgeOf
-edge-fits p v a ok h q = omega (arith, edge-lt p v a h q, edges-le p ok)
-
--- the tables of the nodes and of the built states
-abbrev pub NodeTables : Policy → List ℕ → List ℕ → List ℕ → List ℕ → Type 0
-NodeTables p masks parents ranks ends = (legal p ≡ true) × Nodes p masks parents ranks × Ends p ends
-
-abbrev pub StateTables : Policy → List ℕ → List ℕ → List ℕ → ℕ → ℕ → Type 0
-StateTables p sources entries starts s letter = States p sources entries × Starts p starts × (s < length (built p)) × (letter < p .letters)
-
-module _ (p : Policy) (masks parents ranks ends sources entries starts : List ℕ) (s letter : ℕ) (a : NodeTables p masks parents ranks ends) (b : StateTables p sources entries starts s letter) where
-  ok : legal p ≡ true
-  ok = a .0
-
-  pub row-source : getD sources s 0 < p .states
-  row-source = omega (arith, b .0 .sources-are s (b .2), built-good p (forest-laws p ok) s (b .2) .0)
-
-  module _ (e leaf : ℕ) (is-e : e ≡ edgeOf p (getD sources s 0) letter) (is-l : leaf ≡ getD entries s 0) where
-    e≡ : e ≡ edgeOf p (stateAt p s .state) letter
-    e≡ = is-e ∙ ap (λ (v : ℕ). edgeOf p v letter) (b .0 .sources-are s (b .2))
-
-    l≡ : leaf ≡ stateAt p s .leaf
-    l≡ = is-l ∙ b .0 .leaves-are s (b .2)
-
-    he : e < edges p
-    he = subst (λ (x : ℕ). x < edges p) (sym e≡) (edge-lt p (stateAt p s .state) letter (built-good p (forest-laws p ok) s (b .2) .0) (b .3))
-
-    stood : Good (forest p) p (source p e) leaf
-    stood =
-        subst (λ (x : ℕ). Good (forest p) p (source p x) leaf) (sym e≡)
-        (subst (λ (v : ℕ). Good (forest p) p v leaf) (sym (source-edge p ok (stateAt p s .state) letter (b .3)))
-        (subst (λ (x : ℕ). Good (forest p) p (stateAt p s .state) x) (sym l≡) (built-good p (forest-laws p ok) s (b .2) .1)))
-
-    on-leaf : List·Memᴰ leaf (orElse 65535 (leaves (forest p) p (source p e)))
-    on-leaf = good-leaves p (forest p) (forest-laws p ok) (source p e) leaf stood
-
-    pub row-called : Called p masks parents ranks e leaf
-    row-called = (ok, a .1, he, on-leaf)
-
-    pub row-small : targetOf p e < 16
-    row-small = omega (arith, legal-target p ok e he, legal-counts p ok .states-few)
-
-    pub row-place : (met : Bool) (at child priority : ℕ) → Met p e leaf met at child priority → Place p e leaf met at child priority
-    row-place met at child priority m = (ok, he, on-leaf, m)
-
-    pub row-search : (w : ℕ) → w ≡ targetOf p e → Search p ends entries e (getD starts w 0) (getD starts (w + 1) 0)
-    row-search w is = (
-      a .1 .few,
-      a .2,
-      states-leaves p sources entries (b .0),
-      b .1 w (omega (arith, legal-target p ok e he)) ∙ ap (firstOver p) is,
-      b .1 (w + 1) (omega (arith, legal-target p ok e he)) ∙ ap (λ (x : ℕ). firstOver p (x + 1)) is,
-    )
-
-    pub row-fits : number p (targetOf p e) (leafAfter (forest p) p e leaf) < 65536
-    row-fits =
-        omega (arith, number-at p (forest-laws p ok) (targetOf p e) (leafAfter (forest p) p e leaf) (legal-target p ok e he) (leaf-after-good p (forest p) (forest-laws p ok) e he leaf stood) .0, b .0 .few)
-
-    pub row-target : number p (targetOf p e) (leafAfter (forest p) p e leaf) ≡ rowTarget p s letter
-    unfolding rowTarget
-    row-target = ap₂ (λ (x y : ℕ). number p (targetOf p x) (leafAfter (forest p) p x y)) e≡ l≡
-
-    pub row-priority : priorityAfter (forest p) p e leaf ≡ rowPriority p s letter
-    unfolding rowPriority
-    row-priority = ap₂ (λ (x y : ℕ). priorityAfter (forest p) p x y) e≡ l≡

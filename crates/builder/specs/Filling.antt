@@ -1,11 +1,10 @@
--- What the stages that fill in the automaton's tables hand to one another: the lengths of the tables, the first rows, and the four tables of states and rows at
--- the end.
-use Prim.Native.Nat.{ℕ, _*_, _≤_}
+-- What the stages that fill in the automaton's tables hand to one another: the lengths of the tables, and the four tables of states and rows at the end.
+use Prim.Native.Nat.{ℕ, _*_}
 use mathlib.Core.Path.{_≡_}
 use mathlib.Core.Bool.{Bool, cond}
 use mathlib.Core.List.{List}
 use lib.Dec.{leb}
-use lib.ListN.{length, take}
+use lib.ListN.{length}
 use Rattle.tables.specs.Tables.{padded, zeros}
 use Rattle.policy.specs.declared.Policy.{Policy}
 use Rattle.builder.specs.declared.translating.Building.{Building}
@@ -25,21 +24,6 @@ pub record Clear (sources leaves targets priorities : List ℕ) : Type 0 where
   pub leaves-are : leaves ≡ zeros leaves
   pub targets-are : targets ≡ zeros targets
   pub priorities-are : priorities ≡ zeros priorities
-
--- a table that is long enough for the column l holds its first n entries, and 0 in every place past them
-pub record Column (l : List ℕ) (n : ℕ) (t : List ℕ) : Type 0 where
-  pub long : length l ≤ length t
-  pub are : t ≡ padded (length t) (take n l)
-
--- row tables, once targets₀ and priorities₀, hold the first i of all rows, and 0 in every place past them
-pub record Rowed (p : Policy) (targets₀ priorities₀ targets priorities : List ℕ) (rows i : ℕ) : Type 0 where
-  pub rows-are : rows ≡ length (built p) * p .letters
-  pub few : rows ≤ 524280
-  pub at-most : i ≤ rows
-  pub targets-long : length targets ≡ length targets₀
-  pub priorities-long : length priorities ≡ length priorities₀
-  pub targets-are : Column (rowTargets p) i targets
-  pub priorities-are : Column (rowPriorities p) i priorities
 
 module _ (p : Policy) where
   -- question 10, from a state table

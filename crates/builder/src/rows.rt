@@ -1,16 +1,16 @@
-// One row of the automaton at a time: where each node's descendants end, the walk up from a leaf to the deepest node with an edge, and a binary
-// search among the states over the edge's target.
+// The rows of the automaton, edge by edge: where each node's descendants end, the walk up from a leaf to the deepest node with an edge, a search among
+// the states over the edge's target, and the leaves that share what was found.
 use policy::Policy;
 ghost use mathlib.Core.Path.{_≡_};
 ghost use mathlib.Core.List.{List·Memᴰ};
 ghost use mathlib.Core.Bool.{true};
-ghost use Prim.Native.Nat.{ℕ, _+_, _≤_, _<_};
+ghost use Prim.Native.Nat.{ℕ, _+_, _*_, _≤_, _<_};
 ghost use lib.ListN.{length, getD};
-ghost use Rattle.policy.specs.Policies.{legal, edges, edgeOf, source, targetOf};
+ghost use Rattle.policy.specs.Policies.{legal, edges, source, targetOf};
 ghost use Rattle.decomposition.specs.Forest.{forest};
-ghost use Rattle.builder.specs.Automaton.{orElse, leaves, leafAfter, built, number, rowTarget, rowPriority};
-ghost use Rattle.builder.specs.Stages.{firstOver, Nodes, Ends, States, Starts};
-ghost use Rattle.builder.specs.Rows.{ParentColumn, LeafColumn, AscendsIn, LowerBound, Narrowed, raisedTo, Met};
+ghost use Rattle.builder.specs.Automaton.{orElse, leaves, built};
+ghost use Rattle.builder.specs.Stages.{firstOver, Nodes, Ends, Starts};
+ghost use Rattle.builder.specs.Rows.{ParentColumn, LeafColumn, AscendsIn, LowerBound, Narrowed, raisedTo, Met, Shares, SharedBy, Rowed};
 
 // A table's entry as a place.
 fn wide(x: u16) -> usize
@@ -187,7 +187,17 @@ fn climb(p: Policy, masks: &[u64], parents: &[u16], ranks: &[u8], e: usize, leaf
     }
 }
 
-// The state that e leads to from a leaf, among those over its target, which stand from `from` up to `to`.
+// The row of an edge from every leaf from `from` up to `to`; and the place where the last search ended.
+pub struct Shared {
+    pub from: usize,
+    pub to: usize,
+    pub target: u16,
+    pub priority: u8,
+    pub hint: usize,
+}
+
+// The row of e from a leaf. The states over its target stand from `from` up to `to`. What stands below the child that leads to the leaf has the same
+// row; and where no root has e, all leaves have.
 fn find(
     p: Policy,
     ends: &[u16],
@@ -197,65 +207,134 @@ fn find(
     m: Meeting,
     from: usize,
     to: usize,
-) -> usize
+    hint: usize,
+) -> Shared
     requires place { ⌜ (legal p ≡ true) × (e < edges p) × List·Memᴰ leaf (orElse 65535 (leaves (forest p) p (source p e))) × Met p e leaf (m .met) (m .node) (m .child) (m .priority) ⌝ }
     requires tables { ⌜ (length (forest p) ≤ 65535) × Ends p (now ends) × LeafColumn p (now entries) × (from ≡ firstOver p (targetOf p e)) × (to ≡ firstOver p (targetOf p e + 1)) ⌝ }
-    ensures { λ r. ⌜ r ≡ number p (targetOf p e) (leafAfter (forest p) p e leaf) ⌝ }
+    ensures { λ r. ⌜ SharedBy p e leaf (r .from) (r .to) (r .target) (r .priority) ⌝ }
 {
     let node = m.node;
     let child = m.child;
     if !m.met {
-        return from;
+        return Shared {
+            from: 0,
+            to: 65536,
+            target: from as u16,
+            priority: m.priority,
+            hint: hint,
+        };
     }
-    if child != node {
-        let after = lower_bound(entries, from, to, wide(ends[child]), from);
-        if after < to {
-            if entries[after] < ends[node] {
-                return after;
-            }
+    if child == node {
+        let own = lower_bound(entries, from, to, node, hint);
+        return Shared {
+            from: leaf,
+            to: leaf + 1,
+            target: own as u16,
+            priority: m.priority,
+            hint: own,
+        };
+    }
+    let end = wide(ends[child]);
+    let after = lower_bound(entries, from, to, end, hint);
+    if after < to {
+        if entries[after] < ends[node] {
+            return Shared {
+                from: child,
+                to: end,
+                target: after as u16,
+                priority: m.priority,
+                hint: after,
+            };
         }
     }
-    lower_bound(entries, from, to, node, from)
+    let first = lower_bound(entries, from, to, node, after);
+    Shared {
+        from: child,
+        to: end,
+        target: first as u16,
+        priority: m.priority,
+        hint: after,
+    }
 }
 
-// The edge of a state and a letter.
-fn edge(p: Policy, source: u8, letter: u8) -> usize
-    requires { ⌜ (legal p ≡ true) × (source < p .states) × (letter < p .letters) ⌝ }
-    ensures { λ r. ⌜ (r ≡ edgeOf p source letter) × (r < 64) ⌝ }
-{
-    byte(source) * byte(p.letters) + byte(letter)
-}
-
-// A row of the automaton.
-pub struct Row {
-    pub target: u16,
-    pub priority: u8,
-}
-
-// The row of the built state s and a letter.
-pub fn row_of(
+// The row of e from a leaf: the last one, where the leaf shares it.
+fn share(
     p: Policy,
     masks: &[u64],
     parents: &[u16],
     ranks: &[u8],
     ends: &[u16],
-    sources: &[u8],
+    entries: &[u16],
+    e: usize,
+    leaf: usize,
+    from: usize,
+    to: usize,
+    last: Shared,
+) -> Shared
+    requires nodes { ⌜ (legal p ≡ true) × Nodes p (now masks) (now parents) (now ranks) × Ends p (now ends) × LeafColumn p (now entries) ⌝ }
+    requires place { ⌜ (e < edges p) × List·Memᴰ leaf (orElse 65535 (leaves (forest p) p (source p e))) × (from ≡ firstOver p (targetOf p e)) × (to ≡ firstOver p (targetOf p e + 1)) ⌝ }
+    requires shared { ⌜ Shares p e (last .from) (last .to) (last .target) (last .priority) ⌝ }
+    ensures { λ r. ⌜ SharedBy p e leaf (r .from) (r .to) (r .target) (r .priority) ⌝ }
+{
+    if (last.from <= leaf) & (leaf < last.to) {
+        return last;
+    }
+    let m = climb(p, masks, parents, ranks, e, leaf);
+    find(p, ends, entries, e, leaf, m, from, to, last.hint)
+}
+
+// The rows of edge e, by ascending leaf: one for each state over its source.
+pub fn fill_edge(
+    p: Policy,
+    heads: &[u8; 64],
+    masks: &[u64],
+    parents: &[u16],
+    ranks: &[u8],
+    ends: &[u16],
     entries: &[u16],
     starts: &[usize; 17],
-    s: usize,
-    letter: u8,
-) -> Row
+    e: usize,
+    targets: &mut [u16],
+    priorities: &mut [u8],
+)
     requires nodes { ⌜ (legal p ≡ true) × Nodes p (now masks) (now parents) (now ranks) × Ends p (now ends) ⌝ }
-    requires states { ⌜ States p (now sources) (now entries) × Starts p (now starts) × (s < length (built p)) × (letter < p .letters) ⌝ }
-    ensures { λ r. ⌜ (r .target ≡ rowTarget p s letter) × (r .priority ≡ rowPriority p s letter) ⌝ }
+    requires states { ⌜ LeafColumn p (now entries) × Starts p (now starts) ⌝ }
+    requires edge { ⌜ (e < edges p) × (now heads ≡ p .target) ⌝ }
+    requires room { ⌜ (p .letters * length (built p) ≤ length (now targets)) × (p .letters * length (built p) ≤ length (now priorities)) ⌝ }
+    ensures { λ _. ⌜ Rowed p (now (targets .entry)) (now (priorities .entry)) (now (targets .exit)) (now (priorities .exit)) e (e + 1) ⌝ }
 {
-    let e = edge(p, sources[s], letter);
-    let leaf = wide(entries[s]);
-    let w = byte(policy::target_of(p, e));
-    let m = climb(p, masks, parents, ranks, e, leaf);
-    let t = find(p, ends, entries, e, leaf, m, starts[w], starts[w + 1]);
-    Row {
-        target: t as u16,
-        priority: m.priority,
+    let letters = p.letters as usize;
+    let v = e / letters;
+    let letter = e % letters;
+    let w = byte(heads[e]);
+    let from = starts[w];
+    let to = starts[w + 1];
+    let first = starts[v];
+    let end = starts[v + 1];
+    let mut row = Shared {
+        from: 0,
+        to: 0,
+        target: 0,
+        priority: 0,
+        hint: from,
+    };
+    for s in first..end {
+        let leaf = wide(entries[s]);
+        row = share(
+            p,
+            masks,
+            parents,
+            ranks,
+            ends,
+            entries,
+            e,
+            leaf,
+            from,
+            to,
+            row,
+        );
+        let i = s * letters + letter;
+        targets[i] = row.target;
+        priorities[i] = row.priority;
     }
 }

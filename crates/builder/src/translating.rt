@@ -15,7 +15,7 @@ ghost use Rattle.builder.specs.Stages.{Nodes, Ends, States, Starts};
 ghost use Rattle.builder.specs.Filling.{Sized, Clear, buildingOf, BuiltTables};
 ghost use Rattle.builder.specs.Tables.{lengthsFit, translationOf, tablesAfter, Hold, tables};
 
-// The rows of the built states, in tables that are cleared.
+// The rows of the built states, in tables that are cleared, edge by edge.
 pub fn fill_rows(
     p: Policy,
     masks: &[u64],
@@ -34,24 +34,21 @@ pub fn fill_rows(
     requires cleared { ⌜ (now targets ≡ zeros (now targets)) × (now priorities ≡ zeros (now priorities)) × (p .letters * length (built p) ≤ length (now targets)) × (p .letters * length (built p) ≤ length (now priorities)) ⌝ }
     ensures { λ _. ⌜ (now (targets .exit) ≡ padded (length (now (targets .entry))) (rowTargets p)) × (now (priorities .exit) ≡ padded (length (now (priorities .entry))) (rowPriorities p)) ⌝ }
 {
-    let letters = p.letters as usize;
-    let rows = count * letters;
-    for i in 0..rows {
-        let letter = (i % letters) as u8;
-        let row = crate::rows::row_of(
+    let edges = policy::edges(p);
+    for e in 0..edges {
+        crate::rows::fill_edge(
             p,
+            &p.target,
             masks,
             parents,
             ranks,
             ends,
-            sources,
             leaves,
             starts,
-            i / letters,
-            letter,
+            e,
+            targets,
+            priorities,
         );
-        targets[i] = row.target;
-        priorities[i] = row.priority;
     }
 }
 

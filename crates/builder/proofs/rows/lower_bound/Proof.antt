@@ -1,6 +1,5 @@
 -- `lower_bound` meets its contract: what a search narrows down is narrowed down in the whole run. Assumes nothing.
 use native.Mathlib.Omega.{arith}
-use Rattle.builder.specs.Rows.{Narrowed}
 use Rattle.builder.proofs.RowLaws.{hint-in, narrowed-none, narrowed-up, narrowed-down, narrowed-both, narrowed-bound}
 use borrow.Author.Needs.{needs}
 use Rattle.builder.proofs.rows.lower_bound.Statement.{statement}

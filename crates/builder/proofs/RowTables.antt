@@ -1,0 +1,287 @@
+-- The row tables, filled in edge by edge: a table on the way to a column, the rows by state and letter, the rows of one edge, and the tables once the rows of
+-- all edges are written. Assumes nothing.
+use Prim.Native.Nat.{ℕ, zero, suc, _+_, _*_, _-_, _/_, _%_, _≤_, _<_}
+use native.Mathlib.Omega.{arith}
+use native.Mathlib.Nat.{mod-lt, div-add-mod', div-lt-iff-lt-mul, mul-comm, mul-le-mul-right}
+use native.Mathlib.Decide.{ℕ-discrete, decLt}
+use mathlib.Core.Path.{_≡_, refl, sym, ap, ap₂, _∙_, subst}
+use mathlib.Core.Logic.{_⊎_, inl, inr}
+use mathlib.Core.Bool.{true}
+use mathlib.Core.List.{List, List·Memᴰ, map}
+use lib.Arith.{digits-div, digits-mod, digits-lt}
+use lib.ListN.{length, getD, set, replicate, length-set, length-map}
+use lib.Seq.{getD-set-same, getD-set-other, getD-append-add, ext-getD}
+use Rattle.lists.specs.Lists.{below}
+use Rattle.lists.proofs.Lists.{length-below, getD-map-below, length-pieces, getD-pieces}
+use Rattle.tables.specs.Tables.{padded, zeros}
+use Rattle.tables.proofs.Tables.{length-padded, getD-padded}
+use Rattle.policy.specs.declared.Policy.{Policy}
+use Rattle.policy.specs.Policies.{legal, edges, edgeOf, source, targetOf}
+use Rattle.policy.proofs.Laws.{legal-counts, legal-target, edges-le, edge-lt, source-lt}
+use Rattle.decomposition.specs.Forest.{forest}
+use Rattle.decomposition.proofs.Forest.{forest-laws}
+use Rattle.builder.specs.Automaton.{orElse, leaves, leafAfter, priorityAfter, built, stateAt, number, rowTarget, rowPriority, rowTargets, rowPriorities}
+use Rattle.builder.specs.Stages.{firstOver, Starts}
+use Rattle.builder.specs.Rows.{LeafColumn, RowFrom, Towards, HasRow, Rowed}
+use Rattle.builder.proofs.EdgeRuns.{Good}
+use Rattle.builder.proofs.Leaves.{good-leaves}
+use Rattle.builder.proofs.Tables.{built-good}
+use Rattle.builder.proofs.Search.{over-mono, in-run, run-has}
+
+-- ---- a table on the way to a column
+zero-at : (n i : ℕ) → _≡_ {A = ℕ} (getD (replicate n 0) i 0) 0
+zero-at zero i = refl
+zero-at (suc n) zero = refl
+zero-at (suc n) (suc i) = zero-at n i
+
+padded-past : (n : ℕ) (l : List ℕ) (i : ℕ) → length l ≤ i → getD (padded n l) i 0 ≡ 0
+unfolding padded
+padded-past n l i h =
+    let e : i ≡ length l + (i - length l) = omega arith in
+    ap (λ (j : ℕ). getD (padded n l) j 0) e ∙ getD-append-add l (replicate (n - length l) 0) (i - length l) 0 ∙ zero-at (n - length l) (i - length l)
+
+module _ (l : List ℕ) where
+  pub towards-none : (t : List ℕ) → Towards l t t
+  towards-none t = record { long = refl; each = λ i. inl refl }
+
+  -- what the column has in a place is written there
+  pub towards-set : (t : List ℕ) (i x : ℕ) → i < length t → i < length l → x ≡ getD l i 0 → Towards l t (set t i x)
+  towards-set t i x h k e = record { long = length-set t i x; each = λ j. go j (ℕ-discrete j i) }
+    where
+      go : (j : ℕ) → Dec (j ≡ i) → (getD (set t i x) j 0 ≡ getD t j 0) ⊎ ((j < length l) × (getD (set t i x) j 0 ≡ getD l j 0))
+      go j (yes q) = inr (omega arith, ap (λ (z : ℕ). getD (set t i x) z 0) q ∙ getD-set-same t i x 0 h ∙ e ∙ ap (λ (z : ℕ). getD l z 0) (sym q))
+      go j (no q) = inl (getD-set-other t i j x 0 q)
+
+  pub towards-both : {t₀ t₁ t : List ℕ} → Towards l t₀ t₁ → Towards l t₁ t → Towards l t₀ t
+  towards-both {t₀} {t₁} {t} a b = record { long = b .long ∙ a .long; each = λ i. go i (a .each i) (b .each i) }
+    where
+      go : (i : ℕ) → (getD t₁ i 0 ≡ getD t₀ i 0) ⊎ ((i < length l) × (getD t₁ i 0 ≡ getD l i 0)) → (getD t i 0 ≡ getD t₁ i 0) ⊎ ((i < length l) × (getD t i 0 ≡ getD l i 0)) → (getD t i 0 ≡ getD t₀ i 0) ⊎ ((i < length l) × (getD t i 0 ≡ getD l i 0))
+      go i u (inr v) = inr v
+      go i (inl u) (inl v) = inl (v ∙ u)
+      go i (inr u) (inl v) = inr (u .0, v ∙ u .1)
+
+  -- what is right stays right
+  pub towards-keeps : {t₀ t : List ℕ} → Towards l t₀ t → (i : ℕ) → getD t₀ i 0 ≡ getD l i 0 → getD t i 0 ≡ getD l i 0
+  towards-keeps {t₀} {t} a i e = go (a .each i)
+    where
+      go : (getD t i 0 ≡ getD t₀ i 0) ⊎ ((i < length l) × (getD t i 0 ≡ getD l i 0)) → getD t i 0 ≡ getD l i 0
+      go (inl u) = u ∙ e
+      go (inr u) = u .1
+
+  -- from a cleared table, once every place of the column is right
+  pub towards-whole : {t₀ t : List ℕ} → Towards l t₀ t → t₀ ≡ zeros t₀ → length l ≤ length t₀ → ((i : ℕ) → i < length l → getD t i 0 ≡ getD l i 0) → t ≡ padded (length t₀) l
+  unfolding zeros
+  towards-whole {t₀} {t} a z h right = ext-getD 0 t (padded (length t₀) l) (a .long ∙ sym (length-padded (length t₀) l h)) (λ i q. go i (decLt i (length l)) (a .each i))
+    where
+      go : (i : ℕ) → Dec (i < length l) → (getD t i 0 ≡ getD t₀ i 0) ⊎ ((i < length l) × (getD t i 0 ≡ getD l i 0)) → getD t i 0 ≡ getD (padded (length t₀) l) i 0
+      go i (yes q) u = right i q ∙ sym (getD-padded (length t₀) l i q)
+      go i (no q) (inr u) = absurd (q (u .0))
+      go i (no q) (inl u) = u ∙ ap (λ (x : List ℕ). getD x i 0) z ∙ zero-at (length t₀) i ∙ sym (padded-past (length t₀) l i (omega arith))
+
+-- ---- the rows by state and letter
+row-long : (f : ℕ → ℕ) (k : ℕ) → length (map f (below k)) ≡ k
+row-long f k = length-map (below k) f ∙ length-below k
+
+module _ (p : Policy) where
+  pub length-targets : length (rowTargets p) ≡ length (built p) * p .letters
+  unfolding rowTargets
+  length-targets = length-pieces (λ (s : ℕ). map (rowTarget p s) (below (p .letters))) (p .letters) (λ s. row-long (rowTarget p s) (p .letters)) (length (built p))
+
+  pub length-priorities : length (rowPriorities p) ≡ length (built p) * p .letters
+  unfolding rowPriorities
+  length-priorities = length-pieces (λ (s : ℕ). map (rowPriority p s) (below (p .letters))) (p .letters) (λ s. row-long (rowPriority p s) (p .letters)) (length (built p))
+
+  module _ (s a : ℕ) (h : s < length (built p)) (k : a < p .letters) where
+    pub target-in : getD (rowTargets p) (s * p .letters + a) 0 ≡ rowTarget p s a
+    unfolding rowTargets
+    target-in =
+        getD-pieces (λ (s : ℕ). map (rowTarget p s) (below (p .letters))) (p .letters) (λ s. row-long (rowTarget p s) (p .letters)) (length (built p)) s a 0 h k
+        ∙ getD-map-below (rowTarget p s) (p .letters) a 0 k
+
+    pub priority-in : getD (rowPriorities p) (s * p .letters + a) 0 ≡ rowPriority p s a
+    unfolding rowPriorities
+    priority-in =
+        getD-pieces (λ (s : ℕ). map (rowPriority p s) (below (p .letters))) (p .letters) (λ s. row-long (rowPriority p s) (p .letters)) (length (built p)) s a 0 h k
+        ∙ getD-map-below (rowPriority p s) (p .letters) a 0 k
+
+    pub row-lt : s * p .letters + a < length (built p) * p .letters
+    row-lt = digits-lt h k
+
+    -- a row that is there stays there
+    pub has-kept : {t₀ k₀ t k : List ℕ} → Towards (rowTargets p) t₀ t → Towards (rowPriorities p) k₀ k → HasRow p t₀ k₀ s a → HasRow p t k s a
+    has-kept u v r = record {
+      target-is = towards-keeps (rowTargets p) u (s * p .letters + a) (r .target-is ∙ sym target-in) ∙ target-in;
+      priority-is = towards-keeps (rowPriorities p) v (s * p .letters + a) (r .priority-is ∙ sym priority-in) ∙ priority-in;
+    }
+
+-- ---- the rows of several edges
+module _ (p : Policy) where
+  pub rowed-none : (t k : List ℕ) → Rowed p t k t k 0 0
+  rowed-none t k = record { targets-are = towards-none (rowTargets p) t; priorities-are = towards-none (rowPriorities p) k; done = λ s a h i j q. absurd (omega arith) }
+
+  pub rowed-both : {t₀ k₀ t₁ k₁ t k : List ℕ} {a b c : ℕ} → Rowed p t₀ k₀ t₁ k₁ a b → Rowed p t₁ k₁ t k b c → Rowed p t₀ k₀ t k a c
+  rowed-both {t₀} {k₀} {t₁} {k₁} {t} {k} {a} {b} {c} u v = record {
+    targets-are = towards-both (rowTargets p) (u .targets-are) (v .targets-are);
+    priorities-are = towards-both (rowPriorities p) (u .priorities-are) (v .priorities-are);
+    done = λ s x h i j q. go s x h i j q (decLt (edgeOf p (stateAt p s .state) x) b);
+  }
+    where
+      go : (s x : ℕ) → s < length (built p) → x < p .letters → a ≤ edgeOf p (stateAt p s .state) x → edgeOf p (stateAt p s .state) x < c → Dec (edgeOf p (stateAt p s .state) x < b) → HasRow p t k s x
+      go s x h i j q (yes d) = has-kept p s x h i (v .targets-are) (v .priorities-are) (u .done s x h i j d)
+      go s x h i j q (no d) = v .done s x h i (omega arith) q
+
+  module _ (ok : legal p ≡ true) where
+    some : 1 ≤ p .letters
+    some = legal-counts p ok .letters-some
+
+    pub rows-room : (t : List ℕ) → p .letters * length (built p) ≤ length t → length (built p) * p .letters ≤ length t
+    rows-room t h = omega (arith, mul-comm (length (built p)) (p .letters))
+
+    pub rowed-all : {t₀ k₀ t k : List ℕ} {n : ℕ} → Rowed p t₀ k₀ t k 0 n → edges p ≤ n → t₀ ≡ zeros t₀ → k₀ ≡ zeros k₀ → p .letters * length (built p) ≤ length t₀
+        → p .letters * length (built p) ≤ length k₀ → (t ≡ padded (length t₀) (rowTargets p)) × (k ≡ padded (length k₀) (rowPriorities p))
+    rowed-all {t₀} {k₀} {t} {k} {n} w m zt zk lt lk = (
+      towards-whole (rowTargets p) (w .targets-are) zt (omega (arith, length-targets p, rows-room t₀ lt))
+          (λ i h. let r = right i (omega (arith, length-targets p)) in subst (λ (j : ℕ). getD t j 0 ≡ getD (rowTargets p) j 0) (div-add-mod' i (p .letters)) (r .2 .target-is ∙ sym (target-in p (i / p .letters) (i % p .letters) (r .0) (r .1)))),
+      towards-whole (rowPriorities p) (w .priorities-are) zk (omega (arith, length-priorities p, rows-room k₀ lk))
+          (λ i h. let r = right i (omega (arith, length-priorities p)) in subst (λ (j : ℕ). getD k j 0 ≡ getD (rowPriorities p) j 0) (div-add-mod' i (p .letters)) (r .2 .priority-is ∙ sym (priority-in p (i / p .letters) (i % p .letters) (r .0) (r .1)))),
+    )
+      where
+        right : (i : ℕ) → i < length (built p) * p .letters → (i / p .letters < length (built p)) × (i % p .letters < p .letters) × HasRow p t k (i / p .letters) (i % p .letters)
+        right i h =
+            let s : i / p .letters < length (built p) = div-lt-iff-lt-mul {k = p .letters} {x = i} {y = length (built p)} some .1 h in
+            let a : i % p .letters < p .letters = mod-lt i some in
+            (s, a, w .done (i / p .letters) (i % p .letters) s a (omega arith) (omega (arith, edge-lt p (stateAt p (i / p .letters) .state) (i % p .letters) (built-good p (forest-laws p ok) (i / p .letters) s .0) a)))
+
+-- ---- the rows of one edge
+-- those of the states over its source up to s are written
+pub record Edging (p : Policy) (e : ℕ) (t₀ k₀ t k : List ℕ) (s : ℕ) : Type 0 where
+  pub at-least : firstOver p (source p e) ≤ s
+  pub at-most : s ≤ firstOver p (source p e + 1)
+  pub targets-are : Towards (rowTargets p) t₀ t
+  pub priorities-are : Towards (rowPriorities p) k₀ k
+  pub done : (j : ℕ) → firstOver p (source p e) ≤ j → j < s → HasRow p t k j (e % p .letters)
+
+module _ (p : Policy) (ok : legal p ≡ true) (e : ℕ) (he : e < edges p) where
+  letter-lt : e % p .letters < p .letters
+  letter-lt = mod-lt e (some p ok)
+
+  pub letters-pos : 1 ≤ p .letters
+  letters-pos = some p ok
+
+  pub edge-place : e < 64
+  edge-place = omega (arith, edges-le p ok)
+
+  pub source-small : e / p .letters < 16
+  unfolding source
+  source-small = omega (arith, source-lt p ok e he, legal-counts p ok .states-few)
+
+  edge-is : edgeOf p (source p e) (e % p .letters) ≡ e
+  unfolding edgeOf source
+  edge-is = div-add-mod' e (p .letters)
+
+  -- only a state over the source has it, by this letter
+  edge-only : (v a : ℕ) → a < p .letters → edgeOf p v a ≡ e → (v ≡ source p e) × (a ≡ e % p .letters)
+  unfolding edgeOf source
+  edge-only v a h q = (
+    sym (digits-div v {m = p .letters} {r = a} h) ∙ ap (λ (x : ℕ). x / p .letters) q,
+    sym (digits-mod v {m = p .letters} {r = a} h) ∙ ap (λ (x : ℕ). x % p .letters) q,
+  )
+
+  module _ (starts : List ℕ) (st : Starts p starts) where
+    pub source-run : (getD starts (e / p .letters) 0 ≡ firstOver p (source p e)) × (getD starts (e / p .letters + 1) 0 ≡ firstOver p (source p e + 1))
+    unfolding source
+    source-run = (st (e / p .letters) (omega (arith, source-lt p ok e he)), st (e / p .letters + 1) (omega (arith, source-lt p ok e he)))
+
+    pub target-run : (heads : List ℕ) (w : ℕ) → heads ≡ p .target → w ≡ getD heads e 0 → (w < 16) × (getD starts w 0 ≡ firstOver p (targetOf p e)) × (getD starts (w + 1) 0 ≡ firstOver p (targetOf p e + 1))
+    unfolding targetOf
+    target-run heads w h q = (
+      omega (arith, is, legal-target p ok e he, legal-counts p ok .states-few),
+      st w (omega (arith, is, legal-target p ok e he)) ∙ ap (firstOver p) is,
+      st (w + 1) (omega (arith, is, legal-target p ok e he)) ∙ ap (λ (x : ℕ). firstOver p (x + 1)) is,
+    )
+      where
+        is : w ≡ targetOf p e
+        is = q ∙ ap (λ (l : List ℕ). getD l e 0) h
+
+  pub edging-none : (t k : List ℕ) (s : ℕ) → s ≡ firstOver p (source p e) → Edging p e t k t k s
+  edging-none t k s q = record {
+    at-least = omega arith;
+    at-most = omega (arith, over-mono p (source p e));
+    targets-are = towards-none (rowTargets p) t;
+    priorities-are = towards-none (rowPriorities p) k;
+    done = λ j a b. absurd (omega arith);
+  }
+
+  module _ {t₀ k₀ t k : List ℕ} {s : ℕ} (w : Edging p e t₀ k₀ t k s) where
+    module _ (h : s < firstOver p (source p e + 1)) where
+      in-built : (s < length (built p)) × (stateAt p s .state ≡ source p e)
+      in-built = in-run p (source p e) s (w .at-least) h
+
+      edge-at : edgeOf p (stateAt p s .state) (e % p .letters) ≡ e
+      edge-at = ap (λ (v : ℕ). edgeOf p v (e % p .letters)) (in-built .1) ∙ edge-is
+
+      module _ (entries : List ℕ) (col : LeafColumn p entries) where
+        pub edging-small : (s < length entries) × (s < 65535)
+        edging-small = (omega (arith, in-built .0, col .long), omega (arith, in-built .0, col .few))
+
+        leaf-is : getD entries s 0 ≡ stateAt p s .leaf
+        leaf-is = col .are s (in-built .0)
+
+        pub edging-leaf : (l : ℕ) → l ≡ getD entries s 0 → List·Memᴰ l (orElse 65535 (leaves (forest p) p (source p e)))
+        edging-leaf l q =
+            good-leaves p (forest p) (forest-laws p ok) (source p e) l
+            (subst (λ (x : ℕ). Good (forest p) p (source p e) x) (sym (q ∙ leaf-is)) (subst (λ (v : ℕ). Good (forest p) p v (stateAt p s .leaf)) (in-built .1) (built-good p (forest-laws p ok) s (in-built .0) .1)))
+
+        edging-row : (l x y : ℕ) → l ≡ getD entries s 0 → RowFrom p e l x y → (x ≡ rowTarget p s (e % p .letters)) × (y ≡ rowPriority p s (e % p .letters))
+        unfolding rowTarget rowPriority
+        edging-row l x y q r = (
+          r .target-is ∙ ap₂ (λ (d i : ℕ). number p (targetOf p d) (leafAfter (forest p) p d i)) (sym edge-at) (q ∙ leaf-is),
+          r .priority-is ∙ ap₂ (λ (d i : ℕ). priorityAfter (forest p) p d i) (sym edge-at) (q ∙ leaf-is),
+        )
+
+        module _ (lt : p .letters * length (built p) ≤ length t₀) (lk : p .letters * length (built p) ≤ length k₀) where
+          at-row : s * p .letters + e % p .letters < length (built p) * p .letters
+          at-row = row-lt p s (e % p .letters) (in-built .0) letter-lt
+
+          pub edging-in : (s * p .letters + e % p .letters < length t) × (s * p .letters + e % p .letters < length k) × (s * p .letters + e % p .letters < 524280)
+          edging-in = (
+            omega (arith, at-row, w .targets-are .long, rows-room p ok t₀ lt),
+            omega (arith, at-row, w .priorities-are .long, rows-room p ok k₀ lk),
+            omega (arith, at-row, mul-le-mul-right (p .letters) (col .few), legal-counts p ok .letters-few),
+          )
+
+          pub edging-more : (l x y : ℕ) → l ≡ getD entries s 0 → RowFrom p e l x y → Edging p e t₀ k₀ (set t (s * p .letters + e % p .letters) x) (set k (s * p .letters + e % p .letters) y) (s + 1)
+          edging-more l x y q r = record {
+            at-least = omega (arith, w .at-least);
+            at-most = omega arith;
+            targets-are = towards-both (rowTargets p) (w .targets-are) ut;
+            priorities-are = towards-both (rowPriorities p) (w .priorities-are) uk;
+            done = λ j a b. go j a b (ℕ-discrete j s);
+          }
+            where
+              i : ℕ
+              i = s * p .letters + e % p .letters
+
+              is : (x ≡ rowTarget p s (e % p .letters)) × (y ≡ rowPriority p s (e % p .letters))
+              is = edging-row l x y q r
+
+              ut : Towards (rowTargets p) t (set t i x)
+              ut = towards-set (rowTargets p) t i x (edging-in .0) (omega (arith, at-row, length-targets p)) (is .0 ∙ sym (target-in p s (e % p .letters) (in-built .0) letter-lt))
+
+              uk : Towards (rowPriorities p) k (set k i y)
+              uk = towards-set (rowPriorities p) k i y (edging-in .1) (omega (arith, at-row, length-priorities p)) (is .1 ∙ sym (priority-in p s (e % p .letters) (in-built .0) letter-lt))
+
+              go : (j : ℕ) → firstOver p (source p e) ≤ j → j < s + 1 → Dec (j ≡ s) → HasRow p (set t i x) (set k i y) j (e % p .letters)
+              go j a b (yes z) =
+                  subst (λ (n : ℕ). HasRow p (set t i x) (set k i y) n (e % p .letters)) (sym z)
+                  (record { target-is = getD-set-same t i x 0 (edging-in .0) ∙ is .0; priority-is = getD-set-same k i y 0 (edging-in .1) ∙ is .1 })
+              go j a b (no z) = has-kept p j (e % p .letters) (omega (arith, in-built .0)) letter-lt ut uk (w .done j a (omega arith))
+
+    pub edging-all : firstOver p (source p e + 1) ≤ s → Rowed p t₀ k₀ t k e (e + 1)
+    edging-all h = record { targets-are = w .targets-are; priorities-are = w .priorities-are; done = λ j a i l m n. go j a i l (omega arith) }
+      where
+        go : (j a : ℕ) → j < length (built p) → a < p .letters → edgeOf p (stateAt p j .state) a ≡ e → HasRow p t k j a
+        go j a i l q =
+            let o = edge-only (stateAt p j .state) a l q in
+            let r = run-has p (source p e) j i (o .0) in
+            subst (HasRow p t k j) (sym (o .1)) (w .done j (r .0) (omega (arith, r .1)))
