@@ -58,7 +58,7 @@ module _ (p : Policy) (ok : legal p ≡ true) (targets priorities : List ℕ) (r
   unfolding policyState coloursMet
   colours-recur c = recurs-along (policyStep p) (policyMeets p) stem loop (policyState p v stem loop) (λ i. refl) c
 
-  decide : any (λ a. ltb a (p .letters)) loop ≡ true → Decided p stem loop answers v
+  decide : any (λ a. ltb a (p .letters)) loop ≡ true → Decided p stem loop (prioritiesMet answers) v
   decide some =
       let d = demand3 p ok targets priorities rows stem loop some (runs 0) v begins in
       record {
@@ -74,7 +74,8 @@ module _ (p : Policy) (ok : legal p ≡ true) (targets priorities : List ℕ) (r
 pub demand3-contracts : (p : Policy) (entry exit : Tables) (answer : Translation) (nodes states first : ℕ) → Succeeded p entry exit answer nodes states first
     → (targets priorities : List ℕ) → Beginning (p .letters) states exit targets priorities
     → (stem loop : List ℕ) (runs : ℕ → Run) (answers : ℕ → Reading) → Chain (p .letters) targets priorities stem loop runs answers
-    → runs 0 .state < states → (v : ℕ) → v ≡ getD (exit .sources) (runs 0 .state) 0 → Agreement p stem loop answers v states (exit .sources) runs
+    → runs 0 .state < states → (v : ℕ) → v ≡ getD (exit .sources) (runs 0 .state) 0
+    → Agreement p stem loop (prioritiesMet answers) v states (exit .sources) (λ i. runs i .state)
 demand3-contracts p entry exit answer nodes states first done targets priorities b stem loop runs answers chain h v e = record {
   stands = λ i. stand i .0;
   over = λ i. stand i .1;

@@ -8,3 +8,4 @@ pub mod Translated
 pub mod Chains
 pub mod Contracts
 pub mod Judgings
+pub mod Library

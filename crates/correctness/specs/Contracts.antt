@@ -69,21 +69,21 @@ pub record Chain (letters : ℕ) (targets priorities stem loop : List ℕ) (runs
 abbrev pub prioritiesMet : (ℕ → Reading) → ℕ → List ℕ
 prioritiesMet answers i = prioritiesOf (answers i)
 
--- ---- the claim
-module _ (p : Policy) (stem loop : List ℕ) (answers : ℕ → Reading) (v : ℕ) where
+-- ---- the claim, of the priorities met by each letter and the run's state before it
+module _ (p : Policy) (stem loop : List ℕ) (met : ℕ → List ℕ) (v : ℕ) where
   -- a least recurring priority and a set of recurring colours exist, and the one is even exactly if the other is in the family
   pub record Decided : Type 0 where
     pub least : ℕ
-    pub least-recurs : RecursAmong stem loop (prioritiesMet answers) least
-    pub least-lowest : (k : ℕ) → RecursAmong stem loop (prioritiesMet answers) k → least ≤ k
+    pub least-recurs : RecursAmong stem loop met least
+    pub least-lowest : (k : ℕ) → RecursAmong stem loop met k → least ≤ k
     pub colours : ℕ
     pub colours-recur : (c : ℕ) → (has colours c ≡ true) ↔ RecursAmong stem loop (coloursMet p v stem loop) c
     pub verdict : even least ≡ inFamily p colours
 
   -- the run is always in a built state that stands over the policy's state; and a loop with a letter of the policy is decided alike
-  pub record Agreement (states : ℕ) (sources : List ℕ) (runs : ℕ → Run) : Type 0 where
-    pub stands : (i : ℕ) → runs i .state < states
-    pub over : (i : ℕ) → getD sources (runs i .state) 0 ≡ policyState p v stem loop i
+  pub record Agreement (states : ℕ) (sources : List ℕ) (state : ℕ → ℕ) : Type 0 where
+    pub stands : (i : ℕ) → state i < states
+    pub over : (i : ℕ) → getD sources (state i) 0 ≡ policyState p v stem loop i
     pub decided : any (λ a. ltb a (p .letters)) loop ≡ true → Decided
 
 -- ---- judging both sides: the policy from v answers yes exactly if the least priority that the rows from r answer is even

@@ -1,0 +1,91 @@
+-- Demand 3 over what the functions of the static library promise, from demand 3 over the contracts: translating refuses with 7 to 10 and running with 8 and 11
+-- to 13, so 0 is returned exactly where the policy was translated or the letter read. Assumes nothing.
+use Prim.Native.Nat.{ℕ}
+use native.Mathlib.Omega.{arith}
+use mathlib.Core.Path.{_≡_, refl, sym, ap, _∙_, subst, fun-ext}
+use mathlib.Core.Bool.{Bool, true, false, cond}
+use mathlib.Core.List.{List, [], _∷_}
+use lib.Dec.{eqb, ltb}
+use lib.ListN.{length, getD}
+use Rattle.policy.specs.declared.Policy.{Policy}
+use Rattle.policy.specs.Policies.{legal}
+use Rattle.decomposition.specs.Forest.{forest}
+use Rattle.builder.specs.Automaton.{built, start}
+use Rattle.builder.specs.Tables.{Tables, countsOf, lengthsFit, nodesFit, statesFit, translationOf, numberOf as translateNumberOf}
+use Rattle.builder.specs.declared.Translation.{Translation}
+use Rattle.builder.specs.declared.Translation.the-variants.{Translated, Refused}
+use Rattle.running.specs.declared.Run.{Run}
+use Rattle.running.specs.declared.Reading.{Reading}
+use Rattle.running.specs.declared.Reading.the-variants.{Moved, Refused as NotRead}
+use Rattle.running.specs.Running.{rowOf, rowStates, shaped, readingOf, priorityOf, prioritiesOf, numberOf as runNumberOf}
+use Rattle.wulfrenda.specs.Records.{policyOf}
+use Rattle.correctness.specs.Contracts.{letterAt, prioritiesMet, Agreement}
+use Rattle.correctness.specs.Library.{statesIn, callsMeet, Demand3Library}
+use Rattle.correctness.proofs.Contracts.{demand3-contracts}
+
+-- ---- 0 is returned: the policy was translated, and the counts are those answered
+counted : List ℕ → Translation
+counted counts = Translated (getD counts 0 0) (getD counts 1 0) (getD counts 2 0)
+
+translated : (p : Policy) (t : Tables) → 0 ≡ translateNumberOf (translationOf p t) → translationOf p t ≡ counted (countsOf (translationOf p t))
+unfolding translationOf counted
+translated p t = go (legal p) (lengthsFit p t) (nodesFit p t) (statesFit p t)
+  where
+    answer : Bool → Bool → Bool → Bool → Translation
+    answer a b c d =
+        cond a (cond b (cond c (cond d (Translated (length (forest p)) (length (built p)) (start p)) (Refused 10)) (Refused 9)) (Refused 8)) (Refused 7)
+
+    go : (a b c d : Bool) → 0 ≡ translateNumberOf (answer a b c d) → answer a b c d ≡ counted (countsOf (answer a b c d))
+    go true true true true e = refl
+    go true true true false e = absurd (omega (arith, e))
+    go true true false d e = absurd (omega (arith, e))
+    go true false c d e = absurd (omega (arith, e))
+    go false b c d e = absurd (omega (arith, e))
+
+-- ---- 0 is returned exactly where the letter was read, so what the call meets is what the reading meets
+meets : (letters : ℕ) (targets priorities : List ℕ) (r : Run) (a : ℕ)
+    → cond (eqb (runNumberOf (readingOf letters targets priorities r a)) 0) (priorityOf (readingOf letters targets priorities r a) ∷ []) [] ≡ prioritiesOf (readingOf letters targets priorities r a)
+unfolding readingOf
+meets letters targets priorities r a =
+    go (shaped letters targets priorities) (ltb (r .state) (rowStates letters targets priorities)) (ltb a letters) (ltb t (rowStates letters targets priorities))
+  where
+    t : ℕ
+    t = getD targets (rowOf letters (r .state) a) 0
+
+    answer : Bool → Bool → Bool → Bool → Reading
+    answer x y z w =
+        cond x (cond y (cond z (cond w (Moved (record { state = t }) (getD priorities (rowOf letters (r .state) a) 0)) (NotRead 13 r)) (NotRead 12 r)) (NotRead 11 r)) (NotRead 8 r)
+
+    go : (x y z w : Bool) → cond (eqb (runNumberOf (answer x y z w)) 0) (priorityOf (answer x y z w) ∷ []) [] ≡ prioritiesOf (answer x y z w)
+    go true true true true = refl
+    go true true true false = refl
+    go true true false w = refl
+    go true false z w = refl
+    go false y z w = refl
+
+-- ---- the claim
+pub demand3-library : Demand3Library
+unfolding counted
+demand3-library packed entry exit number counts call returned targets priorities b stem loop state numbers given calls h v e =
+    subst (λ (met : ℕ → List ℕ). Agreement p stem loop met v (statesIn counts) (exit .sources) state) (sym met-is)
+    (demand3-contracts p entry exit (translationOf p entry) (getD counts 0 0) (statesIn counts) (getD counts 2 0)
+    (record { answer-is = refl; exit-is = call .tables-are; success = done }) targets priorities b stem loop runs answers
+    (record { answer-is = λ i. refl; goes-on = λ i. ap run (calls i .state-is) }) h v e)
+  where
+    p : Policy
+    p = policyOf packed
+
+    run : ℕ → Run
+    run s = record { state = s }
+
+    runs : ℕ → Run
+    runs i = run (state i)
+
+    answers : ℕ → Reading
+    answers i = readingOf (p .letters) targets priorities (runs i) (letterAt stem loop i)
+
+    done : translationOf p entry ≡ counted counts
+    done = translated p entry (sym returned ∙ call .number-is) ∙ ap counted (sym (call .counts-are))
+
+    met-is : callsMeet numbers given ≡ prioritiesMet answers
+    met-is = fun-ext (λ i. rw (calls i .number-is, calls i .priority-is) (meets (p .letters) targets priorities (runs i) (letterAt stem loop i)))
