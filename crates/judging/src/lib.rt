@@ -221,9 +221,16 @@ struct Coloured {
     pub colours: u8,
 }
 
-// After a letter more. A letter that the policy lacks is refused: nothing is met, and the state stays.
-fn coloured_with(p: Policy, m: Coloured, letter: u8) -> Coloured
-    requires { ⌜ (legal p ≡ true) × (m .state < p .states) ⌝ }
+// After a letter more. A letter that the policy lacks is refused: nothing is met, and the state stays. The heads and the colours are those of p's edges, lent, since p's
+// own would be copied at each letter.
+fn coloured_with<'a>(
+    p: Policy,
+    heads: &'a [u8; 64],
+    colours: &'a [u8; 64],
+    m: Coloured,
+    letter: u8,
+) -> Coloured
+    requires { ⌜ (legal p ≡ true) × (m .state < p .states) × (now heads ≡ p .target) × (now colours ≡ p .colour) ⌝ }
     ensures { λ r. ⌜ r ≡ colouredStep p m letter ⌝ }
 {
     if p.letters <= letter {
@@ -231,8 +238,8 @@ fn coloured_with(p: Policy, m: Coloured, letter: u8) -> Coloured
     }
     let e = m.state as usize * p.letters as usize + letter as usize;
     Coloured {
-        state: policy::target_of(p, e),
-        colours: masks::set_with(m.colours, policy::colour_of(p, e)),
+        state: heads[e],
+        colours: masks::set_with(m.colours, colours[e]),
     }
 }
 
@@ -244,7 +251,7 @@ fn coloured_word(p: Policy, m: Coloured, word: &[u8]) -> Coloured
     let mut t = m;
     let mut i = 0;
     while i < word.len() {
-        t = coloured_with(p, t, word[i]);
+        t = coloured_with(p, &p.target, &p.colour, t, word[i]);
         i += 1;
     }
     t

@@ -1,7 +1,11 @@
 -- A letter of the policy takes its edge, and any other leaves the run as it is. Assumes nothing.
+use Prim.Native.Nat.{ℕ, _+_, _*_, _<_}
 use native.Mathlib.Omega.{arith}
-use mathlib.Core.Path.{ap, _∙_}
+use mathlib.Core.Path.{ap, _∙_, subst, sym}
+use mathlib.Core.List.{List}
+use lib.ListN.{getD}
 use Rattle.masks.specs.Masks.{insert}
+use Rattle.policy.specs.Policies.{targetOf, colourOf}
 use Rattle.judging.proofs.Colours.{coloured-stays, coloured-moves, edge-small, colour-small}
 use borrow.Author.Needs.{needs}
 use Rattle.judging.proofs.coloured_with.Statement.{statement}
@@ -16,25 +20,37 @@ cast-e c = search needs
 cast-e-2 : tie.Need-cast-e-2
 cast-e-2 c = search needs
 
+-- past the test the letter has an edge
+edge : (c : tie.Else1) → let a = c .before .before .args in a .m .state * a .p .letters + a .letter < 64
+edge c = let s = c .before .before in edge-small (s .args .p) (s .pre .0) (s .args .m .state) (s .args .letter) (s .pre .1) (c .if1 .left)
+
 mul-e : tie.Need-mul-e
-mul-e c = let d = c .before .before .before .before in omega (arith, edge-small (d .args .p) (d .pre .0) (d .args .m .state) (d .args .letter) (d .pre .1) (c .before .before .if1 .left))
+mul-e c = omega (arith, edge (c .before .before))
 
 add-e : tie.Need-add-e
-add-e c = let d = c .before .before .before .before in omega (arith, edge-small (d .args .p) (d .pre .0) (d .args .m .state) (d .args .letter) (d .pre .1) (c .before .before .if1 .left))
+add-e c = omega (arith, edge (c .before .before))
 
-target-of-requires : tie.Need-target-of-requires
-target-of-requires c κs = let d = c .before .before .before .before in edge-small (d .args .p) (d .pre .0) (d .args .m .state) (d .args .letter) (d .pre .1) (c .before .before .if1 .left)
+element-copy-out-t14 : tie.Need-element-copy-out-t14
+element-copy-out-t14 c = edge (c .before .before)
 
-colour-of-requires : tie.Need-colour-of-requires
-colour-of-requires c κs = let d = c .before .before .before .before .before in edge-small (d .args .p) (d .pre .0) (d .args .m .state) (d .args .letter) (d .pre .1) (c .before .before .before .if1 .left)
+element-copy-out-set-with : tie.Need-element-copy-out-set-with
+element-copy-out-set-with c = edge (c .before .before .before)
 
 set-with-requires : tie.Need-set-with-requires
-set-with-requires c κs = let d = c .before .before .before .before .before .before in omega (arith, c .colour-of .ensures, colour-small (d .args .p) (d .pre .0) (d .args .m .state) (d .args .letter) (d .pre .1) (c .before .before .before .before .if1 .left))
+unfolding colourOf
+set-with-requires c κs =
+    let d = c .before .before .before .before in
+    let s = d .before .before in
+    subst (λ (l : List ℕ). getD l (s .args .m .state * s .args .p .letters + s .args .letter) 0 < 8) (sym (s .pre .3)) (colour-small (s .args .p) (s .pre .0) (s .args .m .state) (s .args .letter) (s .pre .1) (d .if1 .left))
 
 returns-2 : tie.Need-returns-2
+unfolding targetOf colourOf
 returns-2 c =
-    let a = c .before .before .before .before .before .before .before .args in
-    coloured-moves (a .p) (a .m) (a .letter) (c .before .before .before .before .before .if1 .left) _ _ (c .before .before .target-of .ensures) (c .set-with .ensures ∙ ap (insert (a .m .colours)) (c .before .colour-of .ensures))
+    let d = c .before .before .before .before .before in
+    let s = d .before .before in
+    let a = s .args in
+    let e = a .m .state * a .p .letters + a .letter in
+    coloured-moves (a .p) (a .m) (a .letter) (d .if1 .left) _ _ (ap (λ (l : List ℕ). getD l e 0) (s .pre .2)) (c .set-with .ensures ∙ ap (λ (l : List ℕ). insert (a .m .colours) (getD l e 0)) (s .pre .3))
 
 pub coloured-with-spec : {M : Type 1} → statement M
 coloured-with-spec =
@@ -45,7 +61,7 @@ coloured-with-spec =
     cast-e-2
     mul-e
     add-e
-    target-of-requires
-    colour-of-requires
+    element-copy-out-t14
+    element-copy-out-set-with
     set-with-requires
     returns-2)
