@@ -122,6 +122,31 @@ fn random_policy(
     }
 }
 
+/// How much stack a call uses, in bytes: what lies below is filled with a pattern before it, and read afterwards.
+fn stack(call: impl FnOnce() + Send) -> usize {
+    const DEPTH: usize = 1 << 20;
+    const GAP: usize = 4096;
+    const PATTERN: u64 = 0x5ca1_ab1e_0ddb_a11a;
+    let measure = move || {
+        let here = std::ptr::from_ref(&call) as usize & !7;
+        let places = (here - DEPTH..here - GAP).step_by(8);
+        for place in places.clone() {
+            // SAFETY: the thread's stack is larger than DEPTH, and nothing is in use this far below a live local
+            unsafe { (place as *mut u64).write_volatile(PATTERN) };
+        }
+        call();
+        let mut places = places;
+        // SAFETY: as above
+        let lowest =
+            places.find(|&place| unsafe { (place as *const u64).read_volatile() } != PATTERN);
+        lowest.map_or(GAP, |place| here - place)
+    };
+    std::thread::scope(|s| {
+        let thread = std::thread::Builder::new().stack_size(2 * DEPTH);
+        thread.spawn_scoped(s, measure).unwrap().join().unwrap()
+    })
+}
+
 fn file(text: &str) -> Policy {
     policy::read(&unhex(text)).unwrap().0
 }
@@ -166,10 +191,8 @@ fn main() {
         "10,000 nodes",
         &[file(include_str!("../../policies/nodes_10000.hex"))],
     );
-    translating(
-        "65,535 nodes",
-        &[file(include_str!("../../policies/nodes_65535.hex"))],
-    );
+    let most = file(include_str!("../../policies/nodes_65535.hex"));
+    translating("65,535 nodes", std::slice::from_ref(&most));
     translating(
         "109,601 nodes: does not fit",
         &[file(include_str!("../../policies/too_many.hex"))],
@@ -280,4 +303,34 @@ fn main() {
             ),
         );
     }
+
+    println!("\n| call | stack in bytes, 4,096 or more |");
+    println!("|---|---:|");
+    for (name, p) in [
+        ("a site", &sites[0]),
+        ("16 states and 8 colours", &alternating[0]),
+        ("65,535 nodes", &most),
+    ] {
+        let policy = wulfrenda::Policy::from_record(p.record());
+        let mut tables = Lent::new(65_535, 65_535, 65_535 * p.letters, 0);
+        let used = stack(|| black_box(ignore(tables.translate(&policy))));
+        println!("| translating {name} | {used} |");
+    }
+    let bytes = most.bytes();
+    println!(
+        "| reading | {} |",
+        stack(|| black_box(ignore(wulfrenda::Policy::read(&bytes))))
+    );
+    println!(
+        "| judging a policy | {} |",
+        stack(|| black_box(ignore(wulfrenda::judge_policy(&ours, 0, &[0], &[1]))))
+    );
+    println!(
+        "| judging rows | {} |",
+        stack(|| black_box(ignore(wulfrenda::judge_rows(&rows, 0, &[0], &[1]))))
+    );
+    println!(
+        "| comparing | {} |",
+        stack(|| black_box(ignore(wulfrenda::compare(&ours, &ours))))
+    );
 }
