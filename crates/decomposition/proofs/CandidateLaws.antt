@@ -1,37 +1,34 @@
--- The laws behind the listing of candidates: the edges in some colours edge by edge, the lowest state by one mask, appending to a list, and the
--- candidates state by state and colour set by colour set. Assumes nothing.
+-- The laws behind the listing of candidates: appending to a list, and the candidates state by state and colour set by colour set. Assumes nothing.
 use Prim.Native.Nat.{ℕ, _+_, _*_, _-_, _^_, _≤_, _<_}
 use native.Mathlib.Omega.{arith}
-use native.Mathlib.Nat.{mul-le-mul-right, suc-mul, div-lt-iff-lt-mul}
+use native.Mathlib.Nat.{mul-le-mul-right, mul-comm, suc-mul}
 use native.Mathlib.Numerals.{add-one}
-use native.Mathlib.Decide.{decLt}
 use mathlib.Core.Path.{_≡_, refl, sym, ap, _∙_, subst}
 use mathlib.Core.Logic.{_⊎_, inl, inr, _≢_}
-use mathlib.Core.Bool.{Bool, true, false, not, _&&_, cond, and-true, true≢false, false≢true}
+use mathlib.Core.Bool.{Bool, true, false, not, _&&_, cond, true≢false}
 use mathlib.Core.List.{List, [], _∷_, _++_, map, append-nil, append-assoc, List·Memᴰ, List·Memᴰ·head, List·Memᴰ·tail, List·Memᴰ·not-nil, List·Memᴰ·eq-of-singleton}
-use lib.Bits.{bitAnd}
 use lib.Dec.{eqb}
 use lib.ListN.{length, take, set, length-set, length-append}
 use lib.Pow.{pow-pos, pow-mono}
 use lib.Seq.{take-suc-set}
-use Rattle.lists.specs.Lists.{any, all, filter, flat, below}
-use Rattle.lists.proofs.Bools.{test, eqb≡, ≡eqb, neqb, and-l, and-r, both, bool-ext, not-true, not-false, same-or-not}
-use Rattle.lists.proofs.Lists.{any-some, none-any, mem-below, below-lt, flat-mem}
-use Rattle.masks.specs.Masks.{has, insert, inside, gather}
-use Rattle.masks.proofs.Bits.{has-and, has-none, has-full, has-high, mask-ext, inside-antisym}
-use Rattle.masks.proofs.Gather.{gather-none, gather-in, gather-out}
+use Rattle.lists.specs.Lists.{any, filter, flat, below}
+use Rattle.lists.proofs.Bools.{eqb≡, ≡eqb, neqb, and-l, and-r, not-true, same-or-not}
+use Rattle.lists.proofs.Lists.{flat-mem}
+use Rattle.masks.specs.Masks.{has, inside}
+use Rattle.masks.proofs.Bits.{inside-trans}
 use Rattle.policy.specs.declared.Policy.{Policy}
-use Rattle.policy.specs.Policies.{edges, source, colourOf, edgeColours, coloursOf, inFamily, accepting, legal}
+use Rattle.policy.specs.Policies.{edges, coloursOf, inFamily, accepting, legal}
 use Rattle.policy.proofs.Laws.{legal-counts, colours-up, accepting-is}
 use Rattle.graph.specs.Cycles.{contains}
-use Rattle.graph.specs.Coloured.{coloured}
+use Rattle.graph.specs.Coloured.{coloured, ByColour, partIn, coloursIn}
 use Rattle.graph.specs.Through.{cycleThrough}
-use Rattle.graph.proofs.Cycles.{contains-some, some-contains}
-use Rattle.graph.proofs.Coloured.{coloured-colours}
+use Rattle.graph.proofs.Cycles.{bit-lt}
+use Rattle.graph.proofs.Coloured.{coloured-inside}
+use Rattle.graph.proofs.ByColour.{part-coloured}
 use Rattle.graph.proofs.Through.{through-inside}
 use Rattle.decomposition.specs.Forest.{differs, full}
 use Rattle.decomposition.specs.Candidates.{lowestIs, candidateAt, candidatesOf, coloursAt, candidates, judged, rootAt, rootCandidates}
-use Rattle.decomposition.specs.Listed.{single, Appended, isColoured, colouredBelow, candidatesTo, judgedOf, judgedTo, rootsTo}
+use Rattle.decomposition.specs.Listed.{single, Appended, lowestCycle, keptIn, candidatesTo, judgedOf, judgedTo, rootsTo}
 use Rattle.decomposition.proofs.Distinct.{length-below, flat-few}
 
 -- ---- appending
@@ -91,9 +88,9 @@ filter-empty : (t : ℕ → Bool) (l : List ℕ) → ((x : ℕ) → List·Memᴰ
 filter-empty t [] h = refl
 filter-empty t (x ∷ l) h = rw (h x (List·Memᴰ·head refl)) (filter-empty t l (λ y m. h y (List·Memᴰ·tail m)))
 
-flat-empty : (f : ℕ → List ℕ) (l : List ℕ) → ((x : ℕ) → f x ≡ []) → flat (map f l) ≡ []
-flat-empty f [] h = refl
-flat-empty f (x ∷ l) h = ap (λ (r : List ℕ). r ++ flat (map f l)) (h x) ∙ flat-empty f l h
+none-mem : (l : List ℕ) → ((x : ℕ) → List·Memᴰ x l → ⊥) → l ≡ []
+none-mem [] h = refl
+none-mem (x ∷ l) h = absurd (h x (List·Memᴰ·head refl))
 
 pub single-few : (x : ℕ) → length (single x) ≤ 1
 unfolding single
@@ -111,14 +108,36 @@ one-mem : (b : Bool) (x y : ℕ) → List·Memᴰ y (cond b (x ∷ []) []) → (
 one-mem true x y k = (refl, List·Memᴰ·eq-of-singleton k)
 one-mem false x y k = absurd (List·Memᴰ·not-nil k)
 
+one-single : (b : Bool) (y : ℕ) → (b ≡ true → y ≢ 0) → cond b (y ∷ []) [] ≡ single (cond b y 0)
+one-single true y h = sym (single-one y (h refl))
+one-single false y h = sym (single-none 0 refl)
+
+kept-single : (b : Bool) (f : ℕ → Bool) (y : ℕ) → (b ≡ true → y ≢ 0) → cond (b && f y) (y ∷ []) [] ≡ single (cond (f (cond b y 0)) (cond b y 0) 0)
+kept-single true f y h = one-single (f y) y (λ t. h refl)
+kept-single false f y h = go (f 0)
+  where
+    go : (d : Bool) → [] ≡ single (cond d 0 0)
+    go true = sym (single-none 0 refl)
+    go false = sym (single-none 0 refl)
+
+-- ---- a cycle kept by its colours
+pub kept-none : (by : List ℕ) (c x : ℕ) → x ≡ 0 → 0 ≡ keptIn by c x
+unfolding keptIn
+kept-none by c x e = rw e (go (eqb (coloursIn by 0 8) c))
+  where
+    go : (b : Bool) → _≡_ {A = ℕ} 0 (cond b 0 0)
+    go true = refl
+    go false = refl
+
+pub kept-in : (by : List ℕ) (c x : ℕ) → coloursIn by x 8 ≡ c → x ≡ keptIn by c x
+unfolding keptIn
+kept-in by c x e = rw (≡eqb (coloursIn by x 8) c e) refl
+
+pub kept-out : (by : List ℕ) (c x : ℕ) → coloursIn by x 8 ≢ c → 0 ≡ keptIn by c x
+unfolding keptIn
+kept-out by c x e = rw (neqb (coloursIn by x 8) c e) refl
+
 -- ---- tests
-and-false-l : (a b : Bool) → a ≡ false → a && b ≡ false
-and-false-l a b e = rw e
-
-and-false-r : (a b : Bool) → b ≡ false → a && b ≡ false
-and-false-r true b e = e
-and-false-r false b e = refl
-
 differs-same : (b a : Bool) → a ≡ b → differs b a ≡ false
 differs-same true a e = rw e
 differs-same false a e = e
@@ -128,97 +147,30 @@ differs-other true a e = rw e
 differs-other false a e = e
 
 module _ (p : Policy) where
-  -- ---- the edges in some colours
-  pub coloured-one : (c e : ℕ) → isColoured p c e ≡ has c (colourOf p e)
-  unfolding isColoured edgeColours
-  coloured-one c e = and-true (has c (colourOf p e))
-
-  pub coloured-none : (c : ℕ) → colouredBelow p c 0 ≡ 0
-  unfolding colouredBelow
-  coloured-none c = gather-none (λ (f : ℕ). has (full p) f && all (has c) (edgeColours p f))
-
-  pub coloured-in : (c n : ℕ) → n < edges p → isColoured p c n ≡ true → colouredBelow p c (n + 1) ≡ insert (colouredBelow p c n) n
-  unfolding colouredBelow isColoured full
-  coloured-in c n l t =
-      gather-in (λ (f : ℕ). has (full p) f && all (has c) (edgeColours p f)) n (both (has (full p) n) (all (has c) (edgeColours p n)) (has-full (edges p) n l) t)
-
-  pub coloured-out : (c n : ℕ) → isColoured p c n ≡ false → colouredBelow p c (n + 1) ≡ colouredBelow p c n
-  unfolding colouredBelow isColoured
-  coloured-out c n f = gather-out (λ (f : ℕ). has (full p) f && all (has c) (edgeColours p f)) n (and-false-r (has (full p) n) (all (has c) (edgeColours p n)) f)
-
-  pub coloured-all : (c n : ℕ) → n ≡ edges p → colouredBelow p c n ≡ coloured p (full p) c
-  unfolding colouredBelow coloured
-  coloured-all c n e = ap (gather (λ (f : ℕ). has (full p) f && all (has c) (edgeColours p f))) e
-
-  -- ---- the lowest state
-  -- the first edge of a state is one of the policy, or the one past the last
-  pub first-edge : legal p ≡ true → (v : ℕ) → v < p .states → v * p .letters ≤ 64
-  first-edge h v l = omega (arith, legal-counts p h .edges-few, mul-le-mul-right (p .letters) l, suc-mul v (p .letters))
-
-  -- no state below v is contained: no edge is below the first one of v
-  none-below : legal p ≡ true → (v x : ℕ) → v < p .states → not (any (λ (u : ℕ). contains p u x) (below v)) ≡ eqb (bitAnd x (2 ^ (v * p .letters) - 1)) 0
-  unfolding source edges
-  none-below h v x l = bool-ext (not (any (λ (u : ℕ). contains p u x) (below v))) (eqb (bitAnd x low) 0) there back
-    where
-      low : ℕ
-      low = 2 ^ (v * p .letters) - 1
-
-      few : v * p .letters ≤ edges p
-      few = omega (arith, mul-le-mul-right (p .letters) l, suc-mul v (p .letters))
-
-      off : any (λ (u : ℕ). contains p u x) (below v) ≡ false → (e : ℕ) → Dec (e < v * p .letters) → (has x e ≡ true) ⊎ (has x e ≡ false) → has x e && has low e ≡ false
-      off none e (yes k) (inl t) =
-          absurd (true≢false (sym (some-contains p (source p e) x e (omega (arith, few)) t refl)
-          ∙ none-any (λ (u : ℕ). contains p u x) (below v) none (source p e) (mem-below v (source p e) (div-lt-iff-lt-mul (legal-counts p h .letters-some) .1 k))))
-      off none e (yes k) (inr f) = rw f
-      off none e (no k) (inl t) = rw t (has-high (v * p .letters) e low (omega (arith, pow-pos (v * p .letters))) (omega arith))
-      off none e (no k) (inr f) = rw f
-
-      there : not (any (λ (u : ℕ). contains p u x) (below v)) ≡ true → eqb (bitAnd x low) 0 ≡ true
-      there t = ≡eqb (bitAnd x low) 0 (mask-ext (bitAnd x low) 0 (λ e. has-and e x low ∙ off (not-true (any (λ (u : ℕ). contains p u x) (below v)) t) e (decLt e (v * p .letters)) (test (has x e)) ∙ sym (has-none e)))
-
-      clash : bitAnd x low ≡ 0 → any (λ (u : ℕ). contains p u x) (below v) ≡ true → ⊥
-      clash z t =
-          let r = any-some (λ (u : ℕ). contains p u x) (below v) t in
-          let s = contains-some p (r .0) x (r .2) in
-          let k : s .0 < v * p .letters = div-lt-iff-lt-mul (legal-counts p h .letters-some) .0 (subst (λ (u : ℕ). u < v) (sym (s .3)) (below-lt v (r .0) (r .1))) in
-          false≢true (sym (has-none (s .0)) ∙ ap (λ (m : ℕ). has m (s .0)) (sym z) ∙ has-and (s .0) x low ∙ both (has x (s .0)) (has low (s .0)) (s .2) (has-full (v * p .letters) (s .0) k))
-
-      back : eqb (bitAnd x low) 0 ≡ true → not (any (λ (u : ℕ). contains p u x) (below v)) ≡ true
-      back t = not-false (any (λ (u : ℕ). contains p u x) (below v)) (clash (eqb≡ (bitAnd x low) 0 t))
-
-  pub lowest-by-mask : legal p ≡ true → (v x m r : ℕ) → v < p .states → m ≡ 2 ^ (v * p .letters) - 1 → r ≡ bitAnd x m → not (eqb x 0) && eqb r 0 ≡ lowestIs p v x
-  unfolding lowestIs
-  lowest-by-mask h v x m r l q e =
-      ap (λ (b : Bool). not (eqb x 0) && b) (ap (λ (k : ℕ). eqb k 0) (e ∙ ap (bitAnd x) q) ∙ sym (none-below h v x l))
-
   lowest-some : (v x : ℕ) → lowestIs p v x ≡ true → x ≢ 0
   unfolding lowestIs
   lowest-some v x t e = true≢false (sym (≡eqb x 0 e) ∙ not-true (eqb x 0) (and-l (not (eqb x 0)) (not (any (λ (u : ℕ). contains p u x) (below v))) t))
 
-  at-cycle : (c v m x : ℕ) → m ≡ coloured p (full p) c → x ≡ cycleThrough p m v → candidateAt p c v ≡ cond (lowestIs p v x && eqb (coloursOf p x) c) (x ∷ []) []
-  unfolding candidateAt
-  at-cycle c v m x e q = ap (λ (y : ℕ). cond (lowestIs p v y && eqb (coloursOf p y) c) (y ∷ []) []) (sym (q ∙ ap (λ (k : ℕ). cycleThrough p k v) e))
+  -- ---- the candidate of a colour set at a state, and the candidate for a root, from the cycle x found there
+  pub candidate-is : (by : List ℕ) (c v m x r : ℕ) → coloursIn by x 8 ≡ coloursOf p x → m ≡ coloured p (full p) c → x ≡ lowestCycle p m v → r ≡ keptIn by c x → candidateAt p c v ≡ single r
+  unfolding candidateAt keptIn lowestCycle
+  candidate-is by c v m x r same e q k =
+      ap (λ (n : ℕ). cond (lowestIs p v (cycleThrough p n v) && fits (cycleThrough p n v)) (cycleThrough p n v ∷ []) []) (sym e)
+      ∙ kept-single (lowestIs p v y) fits y (lowest-some v y)
+      ∙ ap (λ (z : ℕ). single (cond (fits z) z 0)) (sym q)
+      ∙ ap single (ap (λ (d : ℕ). cond (eqb d c) x 0) (sym same) ∙ sym k)
+    where
+      y : ℕ
+      y = cycleThrough p m v
 
-  root-cycle : (v m x : ℕ) → m ≡ full p → x ≡ cycleThrough p m v → rootAt p v ≡ cond (lowestIs p v x) (x ∷ []) []
-  unfolding rootAt
-  root-cycle v m x e q = ap (λ (y : ℕ). cond (lowestIs p v y) (y ∷ []) []) (sym (q ∙ ap (λ (k : ℕ). cycleThrough p k v) e))
+      fits : ℕ → Bool
+      fits z = eqb (coloursOf p z) c
 
-  -- ---- the candidate of a colour set at a state, and the candidate for a root, from the largest cycle x
-  pub candidate-kept : (c v m x : ℕ) → m ≡ coloured p (full p) c → x ≡ cycleThrough p m v → lowestIs p v x ≡ true → coloursOf p x ≡ c → candidateAt p c v ≡ single x
-  candidate-kept c v m x e q t k = at-cycle c v m x e q ∙ ap (λ (b : Bool). cond b (x ∷ []) []) (both (lowestIs p v x) (eqb (coloursOf p x) c) t (≡eqb (coloursOf p x) c k)) ∙ sym (single-one x (lowest-some v x t))
-
-  pub candidate-high : (c v m x : ℕ) → m ≡ coloured p (full p) c → x ≡ cycleThrough p m v → lowestIs p v x ≡ false → candidateAt p c v ≡ single 0
-  candidate-high c v m x e q f = at-cycle c v m x e q ∙ ap (λ (b : Bool). cond b (x ∷ []) []) (and-false-l (lowestIs p v x) (eqb (coloursOf p x) c) f) ∙ sym (single-none 0 refl)
-
-  pub candidate-other : (c v m x : ℕ) → m ≡ coloured p (full p) c → x ≡ cycleThrough p m v → coloursOf p x ≢ c → candidateAt p c v ≡ single 0
-  candidate-other c v m x e q k = at-cycle c v m x e q ∙ ap (λ (b : Bool). cond b (x ∷ []) []) (and-false-r (lowestIs p v x) (eqb (coloursOf p x) c) (neqb (coloursOf p x) c k)) ∙ sym (single-none 0 refl)
-
-  pub root-kept : (v m x : ℕ) → m ≡ full p → x ≡ cycleThrough p m v → lowestIs p v x ≡ true → rootAt p v ≡ single x
-  root-kept v m x e q t = root-cycle v m x e q ∙ ap (λ (b : Bool). cond b (x ∷ []) []) t ∙ sym (single-one x (lowest-some v x t))
-
-  pub root-high : (v m x : ℕ) → m ≡ full p → x ≡ cycleThrough p m v → lowestIs p v x ≡ false → rootAt p v ≡ single 0
-  root-high v m x e q f = root-cycle v m x e q ∙ ap (λ (b : Bool). cond b (x ∷ []) []) f ∙ sym (single-none 0 refl)
+  pub root-is : (v m x : ℕ) → m ≡ full p → x ≡ lowestCycle p m v → rootAt p v ≡ single x
+  unfolding rootAt lowestCycle
+  root-is v m x e q =
+      ap (λ (n : ℕ). cond (lowestIs p v (cycleThrough p n v)) (cycleThrough p n v ∷ []) []) (sym e)
+      ∙ one-single (lowestIs p v (cycleThrough p m v)) (cycleThrough p m v) (lowest-some v (cycleThrough p m v)) ∙ ap single (sym q)
 
   -- ---- the candidates of a colour set, state by state
   pub to-none : (c : ℕ) → candidatesTo p c 0 ≡ []
@@ -233,33 +185,48 @@ module _ (p : Policy) where
   unfolding candidatesTo candidatesOf
   to-all c n e = ap (λ (k : ℕ). flat (map (candidateAt p c) (below k))) e
 
-  -- a candidate's colours are all those of its colour set, so none is there where the edges in these colours lack one
-  pub candidates-none : (c : ℕ) → coloursOf p (coloured p (full p) c) ≢ c → candidatesOf p c ≡ []
-  unfolding candidatesOf
-  candidates-none c k = flat-empty (candidateAt p c) (below (p .states)) (λ v. candidate-other c v m (cycleThrough p m v) refl refl (λ e. k (whole v e)) ∙ single-none 0 refl)
+  of-cycle : (c x : ℕ) → List·Memᴰ x (candidatesOf p c) → (v : ℕ) × (x ≡ cycleThrough p (coloured p (full p) c) v) × (coloursOf p x ≡ c)
+  unfolding candidatesOf candidateAt
+  of-cycle c x k =
+      let r = flat-mem (candidateAt p c) (below (p .states)) x k in
+      let y = cycleThrough p (coloured p (full p) c) (r .0) in
+      let s = one-mem (lowestIs p (r .0) y && eqb (coloursOf p y) c) y x (r .2) in
+      (r .0, s .1, ap (coloursOf p) (s .1) ∙ eqb≡ (coloursOf p y) c (and-r (lowestIs p (r .0) y) (eqb (coloursOf p y) c) (s .0)))
+
+  of-colours : (c x : ℕ) → List·Memᴰ x (candidatesOf p c) → coloursOf p x ≡ c
+  of-colours c x k = of-cycle c x k .2
+
+  of-inside : (c x : ℕ) → List·Memᴰ x (candidatesOf p c) → inside x (full p) ≡ true
+  of-inside c x k =
+      let r = of-cycle c x k in
+      subst (λ (y : ℕ). inside y (full p) ≡ true) (sym (r .1)) (inside-trans (cycleThrough p m (r .0)) m (full p) (through-inside p m (r .0)) (coloured-inside p (full p) c))
     where
       m : ℕ
       m = coloured p (full p) c
 
-      whole : (v : ℕ) → coloursOf p (cycleThrough p m v) ≡ c → coloursOf p m ≡ c
-      whole v e = inside-antisym (coloursOf p m) c (coloured-colours p (full p) c) (subst (λ (d : ℕ). inside d (coloursOf p m) ≡ true) e (colours-up p (cycleThrough p m v) m (through-inside p m v)))
+  -- a candidate's colours are exactly its colour set, so there is none where some colour of the set is on no edge
+  pub candidates-none : (c d : ℕ) → d ≡ coloursOf p (full p) → inside c d ≡ false → candidatesOf p c ≡ []
+  candidates-none c d e f = none-mem (candidatesOf p c) (λ x k. true≢false (sym (subst (λ (r : ℕ). inside c r ≡ true) (sym e) (within x k)) ∙ f))
+    where
+      within : (x : ℕ) → List·Memᴰ x (candidatesOf p c) → inside c (coloursOf p (full p)) ≡ true
+      within x k = subst (λ (r : ℕ). inside r (coloursOf p (full p)) ≡ true) (of-colours c x k) (colours-up p x (full p) (of-inside c x k))
 
   -- ---- the candidates by verdict, colour set by colour set
   pub judged-same : (b : Bool) (c : ℕ) → inFamily p c ≡ b → judgedOf p b c ≡ candidatesOf p c
   unfolding judgedOf
   judged-same b c e = ap (λ (d : Bool). cond d [] (candidatesOf p c)) (differs-same b (inFamily p c) e)
 
+  pub judged-empty : (b : Bool) (c : ℕ) → candidatesOf p c ≡ [] → judgedOf p b c ≡ []
+  unfolding judgedOf
+  judged-empty b c e = go (differs b (inFamily p c))
+    where
+      go : (d : Bool) → cond d [] (candidatesOf p c) ≡ []
+      go true = refl
+      go false = e
+
   pub judged-other : (b : Bool) (c : ℕ) → inFamily p c ≡ not b → judgedOf p b c ≡ []
   unfolding judgedOf
   judged-other b c e = ap (λ (d : Bool). cond d [] (candidatesOf p c)) (differs-other b (inFamily p c) e)
-
-  of-colours : (c x : ℕ) → List·Memᴰ x (candidatesOf p c) → coloursOf p x ≡ c
-  unfolding candidatesOf candidateAt
-  of-colours c x k =
-      let r = flat-mem (candidateAt p c) (below (p .states)) x k in
-      let y = cycleThrough p (coloured p (full p) c) (r .0) in
-      let s = one-mem (lowestIs p (r .0) y && eqb (coloursOf p y) c) y x (r .2) in
-      ap (coloursOf p) (s .1) ∙ eqb≡ (coloursOf p y) c (and-r (lowestIs p (r .0) y) (eqb (coloursOf p y) c) (s .0))
 
   judged-of : (b : Bool) (c : ℕ) → filter (λ (m : ℕ). not (differs b (accepting p m))) (candidatesOf p c) ≡ judgedOf p b c
   judged-of b c = go (same-or-not (inFamily p c) b)
@@ -278,6 +245,20 @@ module _ (p : Policy) where
   pub sets-few : legal p ≡ true → (n : ℕ) → n ≡ 2 ^ p .colours → n ≤ 256
   sets-few h n e = omega (arith, pow-mono (legal-counts p h .colours-few))
 
+  -- room for the candidates: at most one for each set of colours and each state
+  pub room-left : (i n k l : ℕ) → k ≡ 2 ^ p .colours → i < k → n ≤ i * p .states → p .states * 2 ^ p .colours ≤ l → n + p .states ≤ l
+  room-left i n k l e lt h r =
+      omega (arith, mul-le-mul-right (p .states) lt, suc-mul i (p .states), mul-comm (p .states) k, subst (λ (x : ℕ). p .states * x ≤ l) (sym e) r)
+
+  pub room-next : (i n m b : ℕ) → n ≤ i * p .states → m ≡ n + b → b ≤ p .states → m ≤ (i + 1) * p .states
+  room-next i n m b h e l = rw (add-one i) (omega (arith, suc-mul i (p .states)))
+
+  pub room-all : (i n : ℕ) → i ≡ 2 ^ p .colours → n ≤ i * p .states → n ≤ p .states * 2 ^ p .colours
+  room-all i n e h = subst (λ (x : ℕ). n ≤ x) (mul-comm i (p .states) ∙ ap (λ (x : ℕ). p .states * x) e) h
+
+  pub room-few : legal p ≡ true → p .states * 2 ^ p .colours ≤ 4096
+  room-few h = omega (arith, mul-le-mul-right (2 ^ p .colours) (legal-counts p h .states-few), pow-mono (legal-counts p h .colours-few))
+
   pub judged-none : (b : Bool) → judgedTo p b 0 ≡ []
   unfolding judgedTo
   judged-none b = refl
@@ -294,20 +275,20 @@ module _ (p : Policy) where
   judged-all b n e = ap (λ (k : ℕ). filter (λ (m : ℕ). not (differs b (accepting p m))) (flat (map (λ (j : ℕ). candidatesOf p (coloursAt p j)) (below k)))) e
 
   -- at most one candidate for each state
-  of-few : legal p ≡ true → (c : ℕ) → length (candidatesOf p c) ≤ 16
+  of-few : (c : ℕ) → length (candidatesOf p c) ≤ p .states
   unfolding candidatesOf candidateAt
-  of-few h c = omega (arith, flat-few (candidateAt p c) 1 at-few (below (p .states)), length-below (p .states), legal-counts p h .states-few)
+  of-few c = omega (arith, flat-few (candidateAt p c) 1 at-few (below (p .states)), length-below (p .states))
     where
       at-few : (v : ℕ) → length (candidateAt p c v) ≤ 1
       at-few v = let y = cycleThrough p (coloured p (full p) c) v in one-few (lowestIs p v y && eqb (coloursOf p y) c) y
 
-  pub judged-few : legal p ≡ true → (b : Bool) (c : ℕ) → length (judgedOf p b c) ≤ 16
+  pub judged-fit : (b : Bool) (c : ℕ) → length (judgedOf p b c) ≤ p .states
   unfolding judgedOf
-  judged-few h b c = go (differs b (inFamily p c))
+  judged-fit b c = go (differs b (inFamily p c))
     where
-      go : (d : Bool) → length (cond d [] (candidatesOf p c)) ≤ 16
+      go : (d : Bool) → length (cond d [] (candidatesOf p c)) ≤ p .states
       go true = omega arith
-      go false = of-few h c
+      go false = of-few c
 
   -- ---- the candidates for a root, state by state
   pub roots-none : rootsTo p 0 ≡ []
@@ -325,3 +306,11 @@ module _ (p : Policy) where
   pub full-is : (n m : ℕ) → n ≡ edges p → m ≡ 2 ^ n - 1 → m ≡ full p
   unfolding full
   full-is n m e q = q ∙ ap (λ (k : ℕ). 2 ^ k - 1) e
+
+  -- each member of all edges is one
+  full-edges : (e : ℕ) → has (full p) e ≡ true → e < edges p
+  unfolding full
+  full-edges e t = bit-lt (edges p) (2 ^ edges p - 1) e (omega (arith, pow-pos (edges p))) t
+
+  pub part-is : legal p ≡ true → (by : List ℕ) → ByColour p (edges p) by → (n a c m : ℕ) → n ≡ edges p → a ≡ 2 ^ n - 1 → m ≡ partIn by a c 8 → m ≡ coloured p (full p) c
+  part-is h by b n a c m e q k = k ∙ ap (λ (x : ℕ). partIn by x c 8) (full-is n a e q) ∙ part-coloured p h by b (full p) c full-edges

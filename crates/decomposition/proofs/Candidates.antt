@@ -1,4 +1,4 @@
--- The candidates are the full cycles, each once, and at most 4,096: every node of the forest is one, the children of a candidate are the
+-- The candidates are the full cycles, each once: every node of the forest is one, the children of a candidate are the
 -- largest candidates of the other verdict properly inside it, and the roots are the largest cycles through the states. Assumes nothing.
 use Prim.Native.Nat.{ℕ, zero, suc, _-_, _^_, _≤_, _<_}
 use native.Mathlib.Omega.{arith}
@@ -9,7 +9,6 @@ use mathlib.Core.Bool.{Bool, true, false, not, _&&_, cond, true≢false, false�
 use mathlib.Core.List.{List, [], _∷_, List·Memᴰ, List·Memᴰ·head, List·Memᴰ·not-nil, List·Memᴰ·eq-of-singleton, Memᴰ·cast}
 use lib.Dec.{eqb}
 use lib.ListN.{length}
-use lib.Pow.{pow-mono}
 use Rattle.lists.specs.Lists.{any, filter, below, Distinct}
 use Rattle.lists.proofs.Bools.{test, eqb≡, ≡eqb, neqb, and-l, and-r, both, not-true}
 use Rattle.lists.proofs.Lists.{any-some, none-any, filter-mem, mem-filter, mem-below, below-lt, flat-mem, mem-flat}
@@ -81,7 +80,7 @@ properly-inside x y t = and-l (inside x y) (not (eqb x y)) t
 
 module _ (p : Policy) where
   -- ---- the lowest state
-  lowest-some : (v x : ℕ) → lowestIs p v x ≡ true → (x ≢ 0) × ((u : ℕ) → contains p u x ≡ true → v ≤ u)
+  pub lowest-some : (v x : ℕ) → lowestIs p v x ≡ true → (x ≢ 0) × ((u : ℕ) → contains p u x ≡ true → v ≤ u)
   unfolding lowestIs
   lowest-some v x t = (λ z. true≢false (sym (≡eqb x 0 z) ∙ not-true (eqb x 0) (and-l (not (eqb x 0)) _ t)), λ u on. go u on (decLt u v))
     where
@@ -98,7 +97,7 @@ module _ (p : Policy) where
   lowest-same : (v u x : ℕ) → lowestIs p v x ≡ true → lowestIs p u x ≡ true → contains p v x ≡ true → contains p u x ≡ true → v ≡ u
   lowest-same v u x a b on onu = omega (arith, lowest-some v x a .1 u onu, lowest-some u x b .1 v on)
 
-  some-lowest : (v x : ℕ) → contains p v x ≡ true → (u : ℕ) × (contains p u x ≡ true) × (lowestIs p u x ≡ true)
+  pub some-lowest : (v x : ℕ) → contains p v x ≡ true → (u : ℕ) × (contains p u x ≡ true) × (lowestIs p u x ≡ true)
   unfolding lowestIs
   some-lowest v x on =
       let r = least (λ (u : ℕ). contains p u x) v on in
@@ -224,19 +223,6 @@ module _ (p : Policy) where
     pub judged-distinct : (b : Bool) → Distinct (judged p b)
     unfolding judged
     judged-distinct b = distinct-filter (λ (m : ℕ). not (differs b (accepting p m))) (candidates p) candidates-distinct
-
-    -- ---- at most 4,096
-    at-few : (c v : ℕ) → length (candidateAt p c v) ≤ 1
-    unfolding candidateAt
-    at-few c v = one-few (fits c v) (cycleThrough p (inColours p c) v)
-
-    of-few : (c : ℕ) → length (candidatesOf p c) ≤ 16
-    unfolding candidatesOf
-    of-few c = omega (arith, flat-few (candidateAt p c) 1 (at-few c) (below (p .states)), length-below (p .states), legal-counts p lawful .states-few)
-
-    pub candidates-few : length (candidates p) ≤ 4096
-    unfolding candidates
-    candidates-few = omega (arith, flat-few (λ (i : ℕ). candidatesOf p (coloursAt p i)) 16 (λ i. of-few (coloursAt p i)) (below (2 ^ p .colours)), length-below (2 ^ p .colours), pow-mono (legal-counts p lawful .colours-few))
 
     -- ---- children: of a candidate n
     abbrev within : ℕ → List ℕ

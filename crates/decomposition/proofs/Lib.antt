@@ -6,6 +6,7 @@ pub mod Children
 pub mod Full
 pub mod Candidates
 pub mod LargerFirst
+pub mod Covered
 pub mod Priorities
 pub mod Planted
 pub mod Numbered

@@ -1,17 +1,21 @@
 -- Candidates as they stand in the lists that a caller lends: what appending to a list does, what is appended, and what the lists hold in the end.
-use Prim.Native.Nat.{ℕ, _+_, _≤_}
+use Prim.Native.Nat.{ℕ, zero, suc, _+_, _-_, _*_, _^_, _≤_}
 use mathlib.Core.Path.{_≡_}
 use mathlib.Core.Bool.{Bool, true, false, not, _&&_, cond}
 use mathlib.Core.List.{List, [], _∷_, _++_, map}
+use lib.Bits.{bitOr}
 use lib.Dec.{eqb}
 use lib.ListN.{length, take}
-use Rattle.lists.specs.Lists.{all, filter, flat, below}
-use Rattle.masks.specs.Masks.{has, gather}
+use Rattle.lists.specs.Lists.{filter, flat, below}
+use Rattle.masks.specs.Masks.{minus}
 use Rattle.policy.specs.declared.Policy.{Policy}
-use Rattle.policy.specs.Policies.{edgeColours, inFamily, accepting}
+use Rattle.policy.specs.Policies.{inFamily, accepting}
+use Rattle.graph.specs.Cycles.{contains}
+use Rattle.graph.specs.Coloured.{coloursIn}
+use Rattle.graph.specs.Through.{cycleThrough}
 use Rattle.decomposition.specs.declared.listing.Counts.{Counts}
-use Rattle.decomposition.specs.Forest.{differs, full}
-use Rattle.decomposition.specs.Candidates.{candidateAt, candidatesOf, coloursAt, judged, rootAt, rootCandidates}
+use Rattle.decomposition.specs.Forest.{differs}
+use Rattle.decomposition.specs.Candidates.{lowestIs, candidateAt, candidatesOf, coloursAt, judged, rootAt, rootCandidates}
 
 -- x alone; nothing where x is 0
 unfoldable pub single : ℕ → List ℕ
@@ -23,15 +27,28 @@ pub record Appended (t₀ t : List ℕ) (n r : ℕ) (xs : List ℕ) : Type 0 whe
   pub next-is : r ≡ n + length xs
   pub long : length t ≡ length t₀
 
-module _ (p : Policy) where
-  -- ---- the edges in some colours
-  -- the colours of edge e lie in c
-  unfoldable pub isColoured : ℕ → ℕ → Bool
-  isColoured c e = all (has c) (edgeColours p e)
+-- of l letters: the edges that leave state v
+unfoldable pub ownEdges : ℕ → ℕ → ℕ
+ownEdges l v = minus (2 ^ (v * l + l) - 1) (2 ^ (v * l) - 1)
 
-  -- the edges below n whose colours lie in c
-  unfoldable pub colouredBelow : ℕ → ℕ → ℕ
-  colouredBelow c n = gather (λ f. has (full p) f && all (has c) (edgeColours p f)) n
+-- x, if its colours are exactly c; else 0. `by` has the edges of each colour
+unfoldable pub keptIn : List ℕ → ℕ → ℕ → ℕ
+keptIn by c x = cond (eqb (coloursIn by x 8) c) x 0
+
+module _ (p : Policy) where
+  -- ---- states in turn
+  -- an edge of m leaves v, and none of k
+  unfoldable pub isOpen : ℕ → ℕ → ℕ → Bool
+  isOpen m k v = contains p v m && not (contains p v k)
+
+  -- the largest cycle through v inside m, if v is its lowest state; else 0
+  unfoldable pub lowestCycle : ℕ → ℕ → ℕ
+  lowestCycle m v = let x = cycleThrough p m v in cond (lowestIs p v x) x 0
+
+  -- these cycles for the states below v, as one set
+  unfoldable pub covered : ℕ → ℕ → ℕ
+  covered m zero = 0
+  covered m (suc v) = bitOr (covered m v) (lowestCycle m v)
 
   -- ---- the candidates in part
   -- of the colour set c, at the states below n
@@ -60,8 +77,8 @@ pub record Judged (p : Policy) (c : ℕ) (a₀ a r₀ r : List ℕ) (n n′ : Co
 pub record Listed (p : Policy) (a₀ a r₀ r : List ℕ) (n : Counts) : Type 0 where
   pub accepting-are : take (n .accepting) a ≡ judged p true
   pub rejecting-are : take (n .rejecting) r ≡ judged p false
-  pub accepting-few : n .accepting ≤ 4096
-  pub rejecting-few : n .rejecting ≤ 4096
+  pub accepting-few : n .accepting ≤ p .states * 2 ^ p .colours
+  pub rejecting-few : n .rejecting ≤ p .states * 2 ^ p .colours
   pub accepting-long : length a ≡ length a₀
   pub rejecting-long : length r ≡ length r₀
 

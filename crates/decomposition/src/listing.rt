@@ -1,14 +1,14 @@
 // The candidates: the cycles among which the nodes of the forest are looked for, listed by verdict; and the candidates for a root.
 ghost use mathlib.Core.Path.{_≡_};
 ghost use mathlib.Core.Bool.{true};
-ghost use Prim.Native.Nat.{_+_, _^_, _<_, _≤_};
+ghost use Prim.Native.Nat.{_+_, _*_, _^_, _<_, _≤_};
 ghost use lib.ListN.{length};
-ghost use Rattle.policy.specs.Policies.{edges, legal};
-ghost use Rattle.graph.specs.Coloured.{coloured};
+ghost use Rattle.policy.specs.Policies.{edges, coloursOf, inFamily, legal};
+ghost use Rattle.graph.specs.Coloured.{ByColour};
 ghost use Rattle.graph.specs.Through.{Rows};
 ghost use Rattle.decomposition.specs.Forest.{full};
-ghost use Rattle.decomposition.specs.Candidates.{lowestIs, candidateAt, candidatesOf, rootAt};
-ghost use Rattle.decomposition.specs.Listed.{single, Appended, isColoured, Judged, Listed, RootsListed};
+ghost use Rattle.decomposition.specs.Candidates.{candidatesOf};
+ghost use Rattle.decomposition.specs.Listed.{single, Appended, ownEdges, isOpen, lowestCycle, covered, keptIn, Judged, Listed, RootsListed};
 use policy::Policy;
 
 // How many candidates each list holds.
@@ -17,60 +17,45 @@ pub struct Counts {
     pub rejecting: usize,
 }
 
-// Whether the colours of edge e lie in c.
-fn is_coloured(p: Policy, c: u8, e: usize) -> bool
-    requires { ⌜ (legal p ≡ true) × (e < edges p) ⌝ }
-    ensures { λ r. ⌜ r ≡ isColoured p c e ⌝ }
+// The edges that leave state v.
+fn own_edges(letters: usize, v: usize) -> u64
+    requires { ⌜ v * letters + letters ≤ 64 ⌝ }
+    ensures { λ r. ⌜ r ≡ ownEdges letters v ⌝ }
 {
-    masks::set_has(c, policy::colour_of(p, e))
+    let first = v * letters;
+    masks::without(masks::full(first + letters), masks::full(first))
 }
 
-// The edges whose colours lie in c.
-fn coloured(p: Policy, c: u8) -> u64
-    requires { ⌜ legal p ≡ true ⌝ }
-    ensures { λ r. ⌜ r ≡ coloured p (full p) c ⌝ }
-{
-    let n = policy::edges(p);
-    let mut m: u64 = 0;
-    for e in 0..n {
-        if is_coloured(p, c, e) {
-            m = masks::with(m, e);
-        }
-    }
-    m
-}
-
-// Whether x is not empty and contains no state below v. The edges below `first` are those that leave such a state.
-fn lowest_is(p: Policy, v: usize, x: u64) -> bool
+// Whether an edge of m leaves state v, and none of k.
+fn is_open(p: Policy, m: u64, k: u64, v: usize) -> bool
     requires { ⌜ (legal p ≡ true) × (v < p .states) ⌝ }
-    ensures { λ r. ⌜ r ≡ lowestIs p v x ⌝ }
+    ensures { λ r. ⌜ r ≡ isOpen p m k v ⌝ }
 {
-    let first = v * p.letters as usize;
-    (x != 0) & (masks::both(x, masks::full(first)) == 0)
+    let letters = p.letters as usize;
+    let own = own_edges(letters, v);
+    (masks::both(own, m) != 0) & (masks::both(own, k) == 0)
 }
 
-// The candidate of the colour set c at state v, or 0. m is the edges in these colours, and the rows are those of m.
-fn candidate(p: Policy, rows: [u64; 16], m: u64, c: u8, v: usize) -> u64
-    requires { ⌜ (legal p ≡ true) × (v < p .states) × (m ≡ coloured p (full p) c) × Rows p m rows ⌝ }
-    ensures { λ r. ⌜ candidateAt p c v ≡ single r ⌝ }
+// The largest cycle through v inside m, if v is its lowest state; else 0. `seen` has these cycles for the states below v, so v is the lowest state of its
+// own exactly if it is in none of them. The heads are the targets of p's edges, and the rows are those of m.
+fn lowest_cycle(p: Policy, heads: &[u8; 64], rows: &[u64; 16], m: u64, seen: u64, v: usize) -> u64
+    requires { ⌜ (legal p ≡ true) × (now heads ≡ p .target) × (v < p .states) × Rows p m (now rows) × (seen ≡ covered p m v) ⌝ }
+    ensures { λ r. ⌜ r ≡ lowestCycle p m v ⌝ }
 {
-    let x = graph::cycle_through(p, rows, m, v);
-    if lowest_is(p, v, x) {
-        let d = policy::colours_of(p, x);
-        if d == c {
-            return x;
-        }
+    if is_open(p, m, seen, v) {
+        return graph::cycle_through(p, heads, rows, m, v);
     }
     0
 }
 
-// The candidate for a root at state v, or 0. m is all edges, and the rows are those of m.
-fn root(p: Policy, rows: [u64; 16], m: u64, v: usize) -> u64
-    requires { ⌜ (legal p ≡ true) × (v < p .states) × (m ≡ full p) × Rows p m rows ⌝ }
-    ensures { λ r. ⌜ rootAt p v ≡ single r ⌝ }
+// x, if its colours are exactly c; else 0.
+fn kept(by: &[u64; 8], c: u8, x: u64) -> u64
+    ensures { λ r. ⌜ r ≡ keptIn (now (by .entry)) c x ⌝ }
 {
-    let x = graph::cycle_through(p, rows, m, v);
-    if lowest_is(p, v, x) {
+    if x == 0 {
+        return 0;
+    }
+    if graph::colours::colours_in(by, x) == c {
         return x;
     }
     0
@@ -88,46 +73,60 @@ fn append(list: &mut [u64], n: usize, x: u64) -> usize
     n + 1
 }
 
-// The candidates of the colour set c after the first n masks of a list. Where the edges in these colours lack one of them, there is none.
-fn append_candidates(p: Policy, c: u8, list: &mut [u64], n: usize) -> usize
-    requires { ⌜ (legal p ≡ true) × (n + 16 ≤ length (now list)) ⌝ }
+// The candidates of the colour set c after the first n masks of a list. `by` has the edges of each colour.
+fn append_candidates(
+    p: Policy,
+    heads: &[u8; 64],
+    by: &[u64; 8],
+    c: u8,
+    list: &mut [u64],
+    n: usize,
+) -> usize
+    requires { ⌜ (legal p ≡ true) × (now heads ≡ p .target) × ByColour p (edges p) (now by) × (n + p .states ≤ length (now list)) ⌝ }
     ensures { λ r. ⌜ Appended (now (list .entry)) (now (list .exit)) n r (candidatesOf p c) ⌝ }
 {
-    let m = coloured(p, c);
-    if policy::colours_of(p, m) != c {
-        return n;
-    }
-    let rows = graph::reach_all(p, m);
+    let all = masks::full(policy::edges(p));
+    let m = graph::colours::part_in(by, all, c);
+    let rows = graph::reach_all(p, heads, m);
     let states = p.states as usize;
+    let mut seen: u64 = 0;
     let mut next = n;
     for v in 0..states {
-        let x = candidate(p, rows, m, c, v);
-        next = append(list, next, x);
+        let x = lowest_cycle(p, heads, &rows, m, seen, v);
+        seen = masks::either(seen, x);
+        next = append(list, next, kept(by, c, x));
     }
     next
 }
 
-// The candidates of the colour set c after those listed: their verdict is that of c.
+// The candidates of the colour set c after those listed: their verdict is that of c. There are none where some colour of c is on no edge.
 fn append_judged(
     p: Policy,
+    heads: &[u8; 64],
+    by: &[u64; 8],
+    used: u8,
     c: u8,
+    verdict: bool,
     accepting: &mut [u64],
     rejecting: &mut [u64],
     n: Counts,
 ) -> Counts
-    requires { ⌜ (legal p ≡ true) × (n .accepting + 16 ≤ length (now accepting)) × (n .rejecting + 16 ≤ length (now rejecting)) ⌝ }
+    requires { ⌜ (legal p ≡ true) × (now heads ≡ p .target) × ByColour p (edges p) (now by) × (used ≡ coloursOf p (full p)) × (verdict ≡ inFamily p c) × (n .accepting + p .states ≤ length (now accepting)) × (n .rejecting + p .states ≤ length (now rejecting)) ⌝ }
     ensures { λ r. ⌜ Judged p c (now (accepting .entry)) (now (accepting .exit)) (now (rejecting .entry)) (now (rejecting .exit)) n r ⌝ }
 {
     let a = n.accepting;
     let b = n.rejecting;
-    if policy::in_family(p, c) {
-        let next = append_candidates(p, c, accepting, a);
+    if !masks::set_inside(c, used) {
+        return n;
+    }
+    if verdict {
+        let next = append_candidates(p, heads, by, c, accepting, a);
         return Counts {
             accepting: next,
             rejecting: b,
         };
     }
-    let next = append_candidates(p, c, rejecting, b);
+    let next = append_candidates(p, heads, by, c, rejecting, b);
     Counts {
         accepting: a,
         rejecting: next,
@@ -144,17 +143,21 @@ fn set_count(p: Policy) -> usize
 
 // The candidates of a policy, by verdict: by falling masks of their colours, and then by their lowest states.
 pub fn fill_candidates(p: Policy, accepting: &mut [u64], rejecting: &mut [u64]) -> Counts
-    requires { ⌜ (legal p ≡ true) × (4096 ≤ length (now accepting)) × (4096 ≤ length (now rejecting)) ⌝ }
+    requires { ⌜ (legal p ≡ true) × (p .states * 2 ^ p .colours ≤ length (now accepting)) × (p .states * 2 ^ p .colours ≤ length (now rejecting)) ⌝ }
     ensures { λ r. ⌜ Listed p (now (accepting .entry)) (now (accepting .exit)) (now (rejecting .entry)) (now (rejecting .exit)) r ⌝ }
 {
+    let all = masks::full(policy::edges(p));
+    let by = graph::colours::by_colour(p);
+    let used = graph::colours::colours_in(&by, all);
+    let sets = set_count(p);
     let mut n = Counts {
         accepting: 0,
         rejecting: 0,
     };
-    let sets = set_count(p);
     for i in 0..sets {
         let c = (sets - 1 - i) as u8;
-        n = append_judged(p, c, accepting, rejecting, n);
+        let verdict = p.family[c as usize];
+        n = append_judged(p, &p.target, &by, used, c, verdict, accepting, rejecting, n);
     }
     n
 }
@@ -165,11 +168,13 @@ pub fn fill_roots(p: Policy, roots: &mut [u64]) -> usize
     ensures { λ r. ⌜ RootsListed p (now (roots .entry)) (now (roots .exit)) r ⌝ }
 {
     let m = masks::full(policy::edges(p));
-    let rows = graph::reach_all(p, m);
+    let rows = graph::reach_all(p, &p.target, m);
     let states = p.states as usize;
+    let mut seen: u64 = 0;
     let mut next: usize = 0;
     for v in 0..states {
-        let x = root(p, rows, m, v);
+        let x = lowest_cycle(p, &p.target, &rows, m, seen, v);
+        seen = masks::either(seen, x);
         next = append(roots, next, x);
     }
     next

@@ -1,51 +1,67 @@
--- `decomposition::listing::append_candidates` meets its contract. The invariant: the candidates at the states below v are appended, at most one for each.
--- Assumes nothing.
+-- `decomposition::listing::append_candidates` meets its contract. The invariant: `seen` has the cycles found at the states below v, and those of them that are
+-- candidates are appended, at most one for each state. Assumes nothing.
 use Prim.Native.Nat.{_+_, _-_, _≤_}
-use mathlib.Core.Path.{_≡_, ap, _∙_, subst}
-use Rattle.policy.specs.Policies.{coloursOf}
-use Rattle.policy.proofs.Laws.{legal-counts}
+use mathlib.Core.Path.{_≡_, sym, subst}
+use Rattle.policy.proofs.Laws.{legal-counts, edges-le}
 use Rattle.graph.specs.Coloured.{coloured}
+use Rattle.graph.proofs.ByColour.{colours-are}
 use Rattle.decomposition.specs.Forest.{full}
-use Rattle.decomposition.specs.Candidates.{candidatesOf}
-use Rattle.decomposition.specs.Listed.{Appended, candidatesTo}
-use Rattle.decomposition.proofs.CandidateLaws.{single-few, appended-none, appended-join, to-none, to-next, to-all, candidates-none}
+use Rattle.decomposition.specs.Listed.{Appended, covered, candidatesTo}
+use Rattle.decomposition.proofs.Covered.{covered-none, covered-next}
+use Rattle.decomposition.proofs.CandidateLaws.{single-few, appended-none, appended-join, part-is, candidate-is, to-none, to-next, to-all}
 use native.Mathlib.Omega.{arith}
+use borrow.Author.Needs.{needs}
 use Rattle.decomposition.proofs.listing.append_candidates.Statement.{statement}
 use Rattle.decomposition.proofs.listing.append_candidates.Tie as tie
 
 abbrev Inv-loop : tie.InvT-loop
-Inv-loop p c list₀ n m rows states next₀ v₀ list next v = (v ≤ states) × (next ≤ n + v) × Appended list₀ list n next (candidatesTo p c v)
+Inv-loop p heads by c list₀ n all m rows states seen₀ next₀ v₀ list seen next v =
+    (v ≤ states) × (next ≤ n + v) × (seen ≡ covered p m v) × Appended list₀ list n next (candidatesTo p c v)
 
 abbrev μ-loop : tie.MeasureT-loop
-μ-loop p c list₀ n m rows states next₀ v₀ list next v = states - v
+μ-loop p heads by c list₀ n all m rows states seen₀ next₀ v₀ list seen next v = states - v
 
-coloured-requires : tie.Need-coloured-requires Inv-loop μ-loop
-coloured-requires c κs = c .before .pre .0
+edges-requires : tie.Need-edges-requires Inv-loop μ-loop
+edges-requires c κs = search needs
 
-colours-of-requires : tie.Need-colours-of-requires Inv-loop μ-loop
-colours-of-requires c κs = c .before .before .pre .0
+full-requires : tie.Need-full-requires Inv-loop μ-loop
+full-requires c κs = omega (arith, edges-le (c .before .before .args .p) (c .before .before .pre .0))
 
-returns : tie.Need-returns Inv-loop μ-loop
-returns c =
-    let s = c .before .before .before .before in
-    let m : c .before .before .coloured .result ≡ coloured (s .args .p) (full (s .args .p)) (s .args .c) = c .before .before .coloured .ensures in
-    appended-none (s .args .list .now) (s .args .n) (candidatesOf (s .args .p) (s .args .c))
-    (candidates-none (s .args .p) (s .args .c) (λ e. c .if1 .taken (c .before .colours-of .ensures ∙ ap (coloursOf (s .args .p)) m ∙ e)))
+part-in-requires : tie.Need-part-in-requires Inv-loop μ-loop
+part-in-requires c κs = search needs
 
 reach-all-requires : tie.Need-reach-all-requires Inv-loop μ-loop
-reach-all-requires c κs = c .before .before .before .before .pre .0
+reach-all-requires c κs = let s = c .before .before .before .before in (s .pre .0, s .pre .1)
 
 cast-states : tie.Need-cast-states Inv-loop μ-loop
-cast-states c = omega (arith, legal-counts (c .before .before .before .before .before .before .args .p) (c .before .before .before .before .before .before .pre .0) .states-few)
+cast-states c = search needs
 
 loop-holds : tie.Need-loop-holds Inv-loop μ-loop
-loop-holds c = let s = c .before .before .before .before .before .before in (omega arith, omega arith, appended-none (s .args .list .now) (s .args .n) (candidatesTo (s .args .p) (s .args .c) 0) (to-none (s .args .p) (s .args .c)))
+loop-holds c =
+    let s = c .before .before .before .before .before .before in
+    (omega arith, omega arith, sym (covered-none (s .args .p) (s .pre .0) (c .before .before .part-in .result)), appended-none (s .args .list .now) (s .args .n) (candidatesTo (s .args .p) (s .args .c) 0) (to-none (s .args .p) (s .args .c)))
 
-candidate-requires : tie.Need-candidate-requires Inv-loop μ-loop
-candidate-requires c κs = (c .before .before .before .before .before .before .before .before .pre .0, omega arith, c .before .before .before .before .before .before .coloured .ensures, c .before .before .before .reach-all .ensures)
+-- the edges are those in the colours c
+edges-are : (c : tie.After-part-in Inv-loop μ-loop) → c .part-in .result ≡ coloured (c .before .before .before .before .args .p) (full (c .before .before .before .before .args .p)) (c .before .before .before .before .args .c)
+edges-are c =
+    let s = c .before .before .before .before in
+    part-is (s .args .p) (s .pre .0) (s .args .by .now) (s .pre .2) (c .before .before .edges .result) (c .before .full .result) (s .args .c) (c .part-in .result) (c .before .before .edges .ensures) (c .before .full .ensures) (c .part-in .ensures)
+
+lowest-cycle-requires : tie.Need-lowest-cycle-requires Inv-loop μ-loop
+lowest-cycle-requires c κs =
+    let s = c .before .before .before .before .before .before .before .before .before in
+    (s .pre .0, s .pre .1, omega arith, c .before .before .before .before .reach-all .ensures, c .before .before .loop .inv .2)
+
+either-requires : tie.Need-either-requires Inv-loop μ-loop
+either-requires c κs = search needs
+
+kept-requires : tie.Need-kept-requires Inv-loop μ-loop
+kept-requires c κs = search needs
 
 append-requires : tie.Need-append-requires Inv-loop μ-loop
-append-requires c κs = let i = c .before .before .before .loop .inv in omega (arith, i .1, i .2 .long, legal-counts (c .before .before .before .before .before .before .before .before .before .before .args .p) (c .before .before .before .before .before .before .before .before .before .before .pre .0) .states-few, c .before .before .before .before .before .before .before .before .before .before .pre .1)
+append-requires c κs =
+    let i = c .before .before .before .before .before .before .loop .inv in
+    omega (arith, i .1, i .3 .long, c .before .before .before .before .before .before .before .before .before .before .before .before .before .pre .3, c .before .before .before .before .before .loop-test .taken)
 
 add-v : tie.Need-add-v Inv-loop μ-loop
 add-v c = omega arith
@@ -55,21 +71,32 @@ loop-less c = omega arith
 
 loop-again : tie.Need-loop-again Inv-loop μ-loop
 loop-again c =
-    let s = c .before .before .before .before .before .before .before .before .before .before .before .before .before in
-    let i = c .before .before .before .before .before .before .loop .inv in
-    let v = c .before .before .before .before .before .before .loop .v in
-    let x = c .before .before .before .before .candidate .result in
-    let a = c .before .before .append .ensures in
-    (omega arith, omega (arith, i .1, a .next-is, single-few x), appended-join (i .2) a (candidatesTo (s .args .p) (s .args .c) (v + 1)) (to-next (s .args .p) (s .args .c) v x (c .before .before .before .before .candidate .ensures)))
+    let s = c .before .before .before .before .before .before .before .before .before .before .before .before .before .before .before .before in
+    let p = s .args .p in
+    let ok = s .pre .0 in
+    let by = s .args .by .now in
+    let at = c .before .before .before .before .before .before .before .before .before .loop in
+    let i = at .inv in
+    let m = c .before .before .before .before .before .before .before .before .before .before .before .before .part-in .result in
+    let x = c .before .before .before .before .before .before .lowest-cycle in
+    let r = c .before .before .before .kept in
+    let a = c .before .before .append .ensures in (
+      omega arith,
+      omega (arith, i .1, a .next-is, single-few (r .result)),
+      covered-next p ok m (at .v) (at .seen) (x .result) (c .before .before .before .before .before .either .result) (i .2) (x .ensures) (c .before .before .before .before .before .either .ensures),
+      appended-join (i .3) a (candidatesTo p (s .args .c) (at .v + 1))
+          (to-next p (s .args .c) (at .v) (r .result)
+          (candidate-is p by (s .args .c) (at .v) m (x .result) (r .result) (colours-are p ok by (s .pre .2) (x .result)) (edges-are (c .before .before .before .before .before .before .before .before .before .before .before .before)) (x .ensures) (r .ensures))),
+    )
 
 same-length : tie.Need-same-length Inv-loop μ-loop
-same-length c = c .before .loop .inv .2 .long
+same-length c = c .before .loop .inv .3 .long
 
-returns-2 : tie.Need-returns-2 Inv-loop μ-loop
-returns-2 c =
+returns : tie.Need-returns Inv-loop μ-loop
+returns c =
     let s = c .before .before .before .before .before .before .before .before in
     let last : c .before .loop .v ≡ s .args .p .states = omega arith in
-    subst (Appended (s .args .list .now) (c .before .loop .list) (s .args .n) (c .before .loop .next)) (to-all (s .args .p) (s .args .c) (c .before .loop .v) last) (c .before .loop .inv .2)
+    subst (Appended (s .args .list .now) (c .before .loop .list) (s .args .n) (c .before .loop .next)) (to-all (s .args .p) (s .args .c) (c .before .loop .v) last) (c .before .loop .inv .3)
 
 pub append-candidates-spec : {M : Type 1} → statement M
 append-candidates-spec =
@@ -77,16 +104,18 @@ append-candidates-spec =
     (tie.spec
     Inv-loop
     μ-loop
-    coloured-requires
-    colours-of-requires
-    returns
+    edges-requires
+    full-requires
+    part-in-requires
     reach-all-requires
     cast-states
     loop-holds
-    candidate-requires
+    lowest-cycle-requires
+    either-requires
+    kept-requires
     append-requires
     add-v
     loop-less
     loop-again
     same-length
-    returns-2)
+    returns)

@@ -1,43 +1,51 @@
--- `decomposition::listing::fill_roots` meets its contract. The invariant: the candidates for a root at the states below v are listed, at most one for each.
--- Assumes nothing.
+-- `decomposition::listing::fill_roots` meets its contract. The invariant: `seen` has the cycles found at the states below v, and they are listed, at most one for
+-- each state. Assumes nothing.
 use Prim.Native.Nat.{_+_, _-_, _≤_}
-use mathlib.Core.Path.{_≡_, _∙_}
+use mathlib.Core.Path.{_≡_, refl, sym, _∙_}
 use Rattle.policy.proofs.Laws.{legal-counts, edges-le}
-use Rattle.decomposition.specs.Listed.{Appended, rootsTo}
-use Rattle.decomposition.proofs.CandidateLaws.{single-few, appended-none, appended-join, full-is, roots-none, roots-next, roots-all}
+use Rattle.decomposition.specs.Listed.{Appended, covered, rootsTo}
+use Rattle.decomposition.proofs.Covered.{covered-none, covered-next}
+use Rattle.decomposition.proofs.CandidateLaws.{single-few, appended-none, appended-join, full-is, root-is, roots-none, roots-next, roots-all}
 use native.Mathlib.Omega.{arith}
 use borrow.Author.Needs.{needs}
 use Rattle.decomposition.proofs.listing.fill_roots.Statement.{statement}
 use Rattle.decomposition.proofs.listing.fill_roots.Tie as tie
 
 abbrev Inv-loop : tie.InvT-loop
-Inv-loop p roots₀ m rows states next₀ v₀ roots next v = (v ≤ states) × (next ≤ v) × Appended roots₀ roots 0 next (rootsTo p v)
+Inv-loop roots₀ p m rows states seen₀ next₀ v₀ roots seen next v =
+    (v ≤ states) × (next ≤ v) × (seen ≡ covered p m v) × Appended roots₀ roots 0 next (rootsTo p v)
 
 abbrev μ-loop : tie.MeasureT-loop
-μ-loop p roots₀ m rows states next₀ v₀ roots next v = states - v
+μ-loop roots₀ p m rows states seen₀ next₀ v₀ roots seen next v = states - v
 
 edges-requires : tie.Need-edges-requires Inv-loop μ-loop
 edges-requires c κs = search needs
 
 full-requires : tie.Need-full-requires Inv-loop μ-loop
-full-requires c κs = omega (arith, edges-le (c .before .before .args .p) (c .before .before .pre .0))
+full-requires c κs = omega (arith, edges-le (c .before .before .args .t1) (c .before .before .pre .0))
 
 reach-all-requires : tie.Need-reach-all-requires Inv-loop μ-loop
-reach-all-requires c κs = c .before .before .before .pre .0
+reach-all-requires c κs = (c .before .before .before .before .before .pre .0, refl)
 
 cast-states : tie.Need-cast-states Inv-loop μ-loop
-cast-states c = omega (arith, legal-counts (c .before .before .before .before .before .args .p) (c .before .before .before .before .before .pre .0) .states-few)
+cast-states c = omega (arith, legal-counts (c .before .before .before .before .before .before .args .t1) (c .before .before .before .before .before .before .pre .0) .states-few)
 
 loop-holds : tie.Need-loop-holds Inv-loop μ-loop
-loop-holds c = let s = c .before .before .before .before .before in (omega arith, omega arith, appended-none (s .args .roots .now) 0 (rootsTo (s .args .p) 0) (roots-none (s .args .p)))
+loop-holds c =
+    let s = c .before .before .before .before .before .before in
+    (omega arith, omega arith, sym (covered-none (s .args .t1) (s .pre .0) (c .before .before .before .full .result)), appended-none (s .args .roots .now) 0 (rootsTo (s .args .t1) 0) (roots-none (s .args .t1)))
 
-root-requires : tie.Need-root-requires Inv-loop μ-loop
-root-requires c κs =
-    let s = c .before .before .before .before .before .before .before in
-    (s .pre .0, omega arith, full-is (s .args .p) (c .before .before .before .before .before .edges .result) (c .before .before .before .before .full .result) (c .before .before .before .before .before .edges .ensures) (c .before .before .before .before .full .ensures), c .before .before .before .reach-all .ensures)
+lowest-cycle-requires : tie.Need-lowest-cycle-requires Inv-loop μ-loop
+lowest-cycle-requires c κs = (c .before .before .before .before .before .before .before .before .before .before .before .pre .0, refl, omega arith, c .before .before .before .before .before .reach-all .ensures, c .before .before .before .before .loop .inv .2)
+
+either-requires : tie.Need-either-requires Inv-loop μ-loop
+either-requires c κs = search needs
 
 append-requires : tie.Need-append-requires Inv-loop μ-loop
-append-requires c κs = let i = c .before .before .before .loop .inv in omega (arith, i .1, i .2 .long, legal-counts (c .before .before .before .before .before .before .before .before .before .args .p) (c .before .before .before .before .before .before .before .before .before .pre .0) .states-few, c .before .before .before .before .before .before .before .before .before .pre .1)
+append-requires c κs =
+    let s = c .before .before .before .before .before .before .before .before .before .before .before .before .before .before in
+    let i = c .before .before .before .before .before .before .before .loop .inv in
+    omega (arith, i .1, i .3 .long, legal-counts (s .args .t1) (s .pre .0) .states-few, s .pre .1, c .before .before .before .before .before .before .loop-test .taken)
 
 add-v : tie.Need-add-v Inv-loop μ-loop
 add-v c = omega arith
@@ -47,25 +55,32 @@ loop-less c = omega arith
 
 loop-again : tie.Need-loop-again Inv-loop μ-loop
 loop-again c =
-    let s = c .before .before .before .before .before .before .before .before .before .before .before .before in
-    let i = c .before .before .before .before .before .before .loop .inv in
-    let v = c .before .before .before .before .before .before .loop .v in
-    let x = c .before .before .before .before .root .result in
-    let a = c .before .before .append .ensures in
-    (omega arith, omega (arith, i .1, a .next-is, single-few x), appended-join (i .2) a (rootsTo (s .args .p) (v + 1)) (roots-next (s .args .p) v x (c .before .before .before .before .root .ensures)))
+    let s = c .before .before .before .before .before .before .before .before .before .before .before .before .before .before .before .before .before in
+    let p = s .args .t1 in
+    let at = c .before .before .before .before .before .before .before .before .before .before .loop in
+    let i = at .inv in
+    let n = c .before .before .before .before .before .before .before .before .before .before .before .before .before .before .before .edges in
+    let m = c .before .before .before .before .before .before .before .before .before .before .before .before .before .before .full in
+    let x = c .before .before .before .before .before .lowest-cycle in
+    let a = c .before .before .append .ensures in (
+      omega arith,
+      omega (arith, i .1, a .next-is, single-few (x .result)),
+      covered-next p (s .pre .0) (m .result) (at .v) (at .seen) (x .result) (c .before .before .before .before .either .result) (i .2) (x .ensures) (c .before .before .before .before .either .ensures),
+      appended-join (i .3) a (rootsTo p (at .v + 1)) (roots-next p (at .v) (x .result) (root-is p (at .v) (m .result) (x .result) (full-is p (n .result) (m .result) (n .ensures) (m .ensures)) (x .ensures))),
+    )
 
 same-length : tie.Need-same-length Inv-loop μ-loop
-same-length c = c .before .loop .inv .2 .long
+same-length c = c .before .loop .inv .3 .long
 
 returns : tie.Need-returns Inv-loop μ-loop
 returns c =
-    let s = c .before .before .before .before .before .before .before in
+    let s = c .before .before .before .before .before .before .before .before in
     let i = c .before .loop .inv in
-    let last : c .before .loop .v ≡ s .args .p .states = omega arith in
+    let last : c .before .loop .v ≡ s .args .t1 .states = omega arith in
     record {
-      roots-are = i .2 .first-are ∙ roots-all (s .args .p) (c .before .loop .v) last;
-      few = omega (arith, i .1, legal-counts (s .args .p) (s .pre .0) .states-few);
-      long = i .2 .long;
+      roots-are = i .3 .first-are ∙ roots-all (s .args .t1) (c .before .loop .v) last;
+      few = omega (arith, i .1, legal-counts (s .args .t1) (s .pre .0) .states-few);
+      long = i .3 .long;
     }
 
 pub fill-roots-spec : {M : Type 1} → statement M
@@ -79,7 +94,8 @@ fill-roots-spec =
     reach-all-requires
     cast-states
     loop-holds
-    root-requires
+    lowest-cycle-requires
+    either-requires
     append-requires
     add-v
     loop-less

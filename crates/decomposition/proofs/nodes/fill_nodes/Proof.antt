@@ -3,6 +3,7 @@ use native.Mathlib.Omega.{arith}
 use mathlib.Core.Path.{_∙_}
 use lib.ListN.{length-take}
 use borrow.Author.Needs.{needs}
+use Rattle.decomposition.proofs.CandidateLaws.{room-few}
 use Rattle.decomposition.proofs.NodeColumns.{begun-none, filled-same}
 use Rattle.decomposition.proofs.nodes.fill_nodes.Statement.{statement}
 use Rattle.decomposition.proofs.nodes.fill_nodes.Tie as tie
@@ -17,7 +18,7 @@ slice-aggregate-fill-candidates-2 : tie.Need-slice-aggregate-fill-candidates-2
 slice-aggregate-fill-candidates-2 c = search needs
 
 fill-candidates-requires : tie.Need-fill-candidates-requires
-fill-candidates-requires c κs = search needs
+fill-candidates-requires c κs = let s = c .before .before .before .before .before .before .before .before .before .before .before .before .before .before .before in let few = room-few (s .args .p) (s .pre .0) in (s .pre .0, omega arith, omega arith)
 
 slice-aggregate-fill-roots : tie.Need-slice-aggregate-fill-roots
 slice-aggregate-fill-roots c = search needs
@@ -26,16 +27,16 @@ fill-roots-requires : tie.Need-fill-roots-requires
 fill-roots-requires c κs = search needs
 
 array-share-prefix-accepting : tie.Need-array-share-prefix-accepting
-array-share-prefix-accepting c = search needs
+array-share-prefix-accepting c = let s = c .before .before .before .before .before .before .before .before .before .before .before .before .before .before .before .before .before .before .before .before .before in omega (arith, room-few (s .args .p) (s .pre .0))
 
 slice-aggregate-write-nodes : tie.Need-slice-aggregate-write-nodes
-slice-aggregate-write-nodes c = simp length-take (omega arith)
+slice-aggregate-write-nodes c = let s = c .before .before .before .before .before .before .before .before .before .before .before .before .before .before .before .before .before .before .before .before .before .before in simp length-take (omega (arith, room-few (s .args .p) (s .pre .0)))
 
 array-share-prefix-rejecting : tie.Need-array-share-prefix-rejecting
-array-share-prefix-rejecting c = search needs
+array-share-prefix-rejecting c = let s = c .before .before .before .before .before .before .before .before .before .before .before .before .before .before .before .before .before .before .before .before .before .before in omega (arith, room-few (s .args .p) (s .pre .0))
 
 slice-aggregate-write-nodes-2 : tie.Need-slice-aggregate-write-nodes-2
-slice-aggregate-write-nodes-2 c = simp length-take (omega arith)
+slice-aggregate-write-nodes-2 c = let s = c .before .before .before .before .before .before .before .before .before .before .before .before .before .before .before .before .before .before .before .before .before .before .before in simp length-take (omega (arith, room-few (s .args .p) (s .pre .0)))
 
 array-share-prefix-roots : tie.Need-array-share-prefix-roots
 array-share-prefix-roots c = search needs
