@@ -9,22 +9,22 @@ use mathlib.Core.Bool.{Bool, true, false, not, _&&_, cond, true≢false}
 use mathlib.Core.List.{List, [], _∷_, _++_, map, append-nil, append-assoc, List·Memᴰ, List·Memᴰ·head, List·Memᴰ·tail, List·Memᴰ·not-nil, List·Memᴰ·eq-of-singleton}
 use lib.Dec.{eqb}
 use lib.ListN.{length, take, set, length-set, length-append}
-use lib.Pow.{pow-pos, pow-mono}
+use lib.Pow.{pow-mono}
 use lib.Seq.{take-suc-set}
 use Rattle.lists.specs.Lists.{any, filter, flat, below}
-use Rattle.lists.proofs.Bools.{eqb≡, ≡eqb, neqb, and-l, and-r, not-true, same-or-not}
-use Rattle.lists.proofs.Lists.{flat-mem}
+use Rattle.lists.proofs.Bools.{eqb≡, ≡eqb, neqb, and-l, and-r, not-true, bool-ext, same-or-not}
+use Rattle.lists.proofs.Lists.{all-each, each-all, flat-mem}
 use Rattle.masks.specs.Masks.{has, inside}
-use Rattle.masks.proofs.Bits.{inside-trans}
+use Rattle.masks.proofs.Bits.{has-full, mask-ext, inside-trans}
 use Rattle.policy.specs.declared.Policy.{Policy}
-use Rattle.policy.specs.Policies.{edges, coloursOf, inFamily, accepting, legal}
+use Rattle.policy.specs.Policies.{edges, edgeColours, coloursOf, inFamily, accepting, legal}
+use Rattle.policy.specs.ByColour.{byColour, edgesIn, tableEdges, tableColours}
 use Rattle.policy.proofs.Laws.{legal-counts, colours-up, accepting-is}
+use Rattle.policy.proofs.ByColour.{edges-in-some, some-edges-in, table-edges-are}
 use Rattle.graph.specs.Cycles.{contains}
-use Rattle.graph.specs.Coloured.{coloured, ByColour, partIn, coloursIn}
+use Rattle.graph.specs.Coloured.{coloured}
 use Rattle.graph.specs.Through.{cycleThrough}
-use Rattle.graph.proofs.Cycles.{bit-lt}
-use Rattle.graph.proofs.Coloured.{coloured-inside}
-use Rattle.graph.proofs.ByColour.{part-coloured}
+use Rattle.graph.proofs.Coloured.{coloured-some, some-coloured, coloured-inside}
 use Rattle.graph.proofs.Through.{through-inside}
 use Rattle.decomposition.specs.Forest.{differs, full}
 use Rattle.decomposition.specs.Candidates.{lowestIs, candidateAt, candidatesOf, coloursAt, candidates, judged, rootAt, rootCandidates}
@@ -123,19 +123,19 @@ kept-single false f y h = go (f 0)
 -- ---- a cycle kept by its colours
 pub kept-none : (by : List ℕ) (c x : ℕ) → x ≡ 0 → 0 ≡ keptIn by c x
 unfolding keptIn
-kept-none by c x e = rw e (go (eqb (coloursIn by 0 8) c))
+kept-none by c x e = rw e (go (eqb (tableColours by 0) c))
   where
     go : (b : Bool) → _≡_ {A = ℕ} 0 (cond b 0 0)
     go true = refl
     go false = refl
 
-pub kept-in : (by : List ℕ) (c x : ℕ) → coloursIn by x 8 ≡ c → x ≡ keptIn by c x
+pub kept-in : (by : List ℕ) (c x : ℕ) → tableColours by x ≡ c → x ≡ keptIn by c x
 unfolding keptIn
-kept-in by c x e = rw (≡eqb (coloursIn by x 8) c e) refl
+kept-in by c x e = rw (≡eqb (tableColours by x) c e) refl
 
-pub kept-out : (by : List ℕ) (c x : ℕ) → coloursIn by x 8 ≢ c → 0 ≡ keptIn by c x
+pub kept-out : (by : List ℕ) (c x : ℕ) → tableColours by x ≢ c → 0 ≡ keptIn by c x
 unfolding keptIn
-kept-out by c x e = rw (neqb (coloursIn by x 8) c e) refl
+kept-out by c x e = rw (neqb (tableColours by x) c e) refl
 
 -- ---- tests
 differs-same : (b a : Bool) → a ≡ b → differs b a ≡ false
@@ -152,7 +152,7 @@ module _ (p : Policy) where
   lowest-some v x t e = true≢false (sym (≡eqb x 0 e) ∙ not-true (eqb x 0) (and-l (not (eqb x 0)) (not (any (λ (u : ℕ). contains p u x) (below v))) t))
 
   -- ---- the candidate of a colour set at a state, and the candidate for a root, from the cycle x found there
-  pub candidate-is : (by : List ℕ) (c v m x r : ℕ) → coloursIn by x 8 ≡ coloursOf p x → m ≡ coloured p (full p) c → x ≡ lowestCycle p m v → r ≡ keptIn by c x → candidateAt p c v ≡ single r
+  pub candidate-is : (by : List ℕ) (c v m x r : ℕ) → tableColours by x ≡ coloursOf p x → m ≡ coloured p (full p) c → x ≡ lowestCycle p m v → r ≡ keptIn by c x → candidateAt p c v ≡ single r
   unfolding candidateAt keptIn lowestCycle
   candidate-is by c v m x r same e q k =
       ap (λ (n : ℕ). cond (lowestIs p v (cycleThrough p n v) && fits (cycleThrough p n v)) (cycleThrough p n v ∷ []) []) (sym e)
@@ -307,10 +307,16 @@ module _ (p : Policy) where
   unfolding full
   full-is n m e q = q ∙ ap (λ (k : ℕ). 2 ^ k - 1) e
 
-  -- each member of all edges is one
-  full-edges : (e : ℕ) → has (full p) e ≡ true → e < edges p
+  -- ---- the edges in some colours, by the table
+  coloured-is : (c : ℕ) → edgesIn p c ≡ coloured p (full p) c
   unfolding full
-  full-edges e t = bit-lt (edges p) (2 ^ edges p - 1) e (omega (arith, pow-pos (edges p))) t
+  coloured-is c = mask-ext (edgesIn p c) (coloured p (full p) c) (λ e. bool-ext (has (edgesIn p c) e) (has (coloured p (full p) c) e) (there e) (back e))
+    where
+      there : (e : ℕ) → has (edgesIn p c) e ≡ true → has (coloured p (full p) c) e ≡ true
+      there e h = let r = edges-in-some p c e h in some-coloured p (full p) c e (r .0) (has-full (edges p) e (r .0)) (all-each (has c) (edgeColours p e) (r .1))
 
-  pub part-is : legal p ≡ true → (by : List ℕ) → ByColour p (edges p) by → (n a c m : ℕ) → n ≡ edges p → a ≡ 2 ^ n - 1 → m ≡ partIn by a c 8 → m ≡ coloured p (full p) c
-  part-is h by b n a c m e q k = k ∙ ap (λ (x : ℕ). partIn by x c 8) (full-is n a e q) ∙ part-coloured p h by b (full p) c full-edges
+      back : (e : ℕ) → has (coloured p (full p) c) e ≡ true → has (edgesIn p c) e ≡ true
+      back e h = let r = coloured-some p (full p) c e h in some-edges-in p c e (r .0) (each-all (has c) (edgeColours p e) (r .2))
+
+  pub edges-are : legal p ≡ true → (t : List ℕ) (c m : ℕ) → t ≡ byColour p → m ≡ tableEdges t c → m ≡ coloured p (full p) c
+  edges-are h t c m e q = q ∙ ap (λ (l : List ℕ). tableEdges l c) e ∙ table-edges-are p h c ∙ coloured-is c

@@ -10,8 +10,8 @@ use Rattle.lists.specs.Lists.{filter, flat, below}
 use Rattle.masks.specs.Masks.{minus}
 use Rattle.policy.specs.declared.Policy.{Policy}
 use Rattle.policy.specs.Policies.{inFamily, accepting}
+use Rattle.policy.specs.ByColour.{tableColours}
 use Rattle.graph.specs.Cycles.{contains}
-use Rattle.graph.specs.Coloured.{coloursIn}
 use Rattle.graph.specs.Through.{cycleThrough}
 use Rattle.decomposition.specs.declared.listing.Counts.{Counts}
 use Rattle.decomposition.specs.Forest.{differs}
@@ -31,9 +31,9 @@ pub record Appended (t₀ t : List ℕ) (n r : ℕ) (xs : List ℕ) : Type 0 whe
 unfoldable pub ownEdges : ℕ → ℕ → ℕ
 ownEdges l v = minus (2 ^ (v * l + l) - 1) (2 ^ (v * l) - 1)
 
--- x, if its colours are exactly c; else 0. `by` has the edges of each colour
+-- x, if its colours by the table t are exactly c; else 0
 unfoldable pub keptIn : List ℕ → ℕ → ℕ → ℕ
-keptIn by c x = cond (eqb (coloursIn by x 8) c) x 0
+keptIn t c x = cond (eqb (tableColours t x) c) x 0
 
 module _ (p : Policy) where
   -- ---- states in turn

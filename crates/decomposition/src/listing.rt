@@ -3,8 +3,8 @@ ghost use mathlib.Core.Path.{_≡_};
 ghost use mathlib.Core.Bool.{true};
 ghost use Prim.Native.Nat.{_+_, _*_, _^_, _<_, _≤_};
 ghost use lib.ListN.{length};
-ghost use Rattle.policy.specs.Policies.{edges, coloursOf, inFamily, legal};
-ghost use Rattle.graph.specs.Coloured.{ByColour};
+ghost use Rattle.policy.specs.Policies.{coloursOf, inFamily, legal};
+ghost use Rattle.policy.specs.ByColour.{byColour};
 ghost use Rattle.graph.specs.Through.{Rows};
 ghost use Rattle.decomposition.specs.Forest.{full};
 ghost use Rattle.decomposition.specs.Candidates.{candidatesOf};
@@ -55,7 +55,7 @@ fn kept(by: &[u64; 8], c: u8, x: u64) -> u64
     if x == 0 {
         return 0;
     }
-    if graph::colours::colours_in(by, x) == c {
+    if policy::colours_in(by, x) == c {
         return x;
     }
     0
@@ -82,11 +82,10 @@ fn append_candidates(
     list: &mut [u64],
     n: usize,
 ) -> usize
-    requires { ⌜ (legal p ≡ true) × (now heads ≡ p .target) × ByColour p (edges p) (now by) × (n + p .states ≤ length (now list)) ⌝ }
+    requires { ⌜ (legal p ≡ true) × (now heads ≡ p .target) × (now by ≡ byColour p) × (n + p .states ≤ length (now list)) ⌝ }
     ensures { λ r. ⌜ Appended (now (list .entry)) (now (list .exit)) n r (candidatesOf p c) ⌝ }
 {
-    let all = masks::full(policy::edges(p));
-    let m = graph::colours::part_in(by, all, c);
+    let m = policy::edges_in(by, c);
     let rows = graph::reach_all(p, heads, m);
     let states = p.states as usize;
     let mut seen: u64 = 0;
@@ -111,7 +110,7 @@ fn append_judged(
     rejecting: &mut [u64],
     n: Counts,
 ) -> Counts
-    requires { ⌜ (legal p ≡ true) × (now heads ≡ p .target) × ByColour p (edges p) (now by) × (used ≡ coloursOf p (full p)) × (verdict ≡ inFamily p c) × (n .accepting + p .states ≤ length (now accepting)) × (n .rejecting + p .states ≤ length (now rejecting)) ⌝ }
+    requires { ⌜ (legal p ≡ true) × (now heads ≡ p .target) × (now by ≡ byColour p) × (used ≡ coloursOf p (full p)) × (verdict ≡ inFamily p c) × (n .accepting + p .states ≤ length (now accepting)) × (n .rejecting + p .states ≤ length (now rejecting)) ⌝ }
     ensures { λ r. ⌜ Judged p c (now (accepting .entry)) (now (accepting .exit)) (now (rejecting .entry)) (now (rejecting .exit)) n r ⌝ }
 {
     let a = n.accepting;
@@ -147,8 +146,8 @@ pub fn fill_candidates(p: Policy, accepting: &mut [u64], rejecting: &mut [u64]) 
     ensures { λ r. ⌜ Listed p (now (accepting .entry)) (now (accepting .exit)) (now (rejecting .entry)) (now (rejecting .exit)) r ⌝ }
 {
     let all = masks::full(policy::edges(p));
-    let by = graph::colours::by_colour(p);
-    let used = graph::colours::colours_in(&by, all);
+    let by = policy::by_colour(p);
+    let used = policy::colours_in(&by, all);
     let sets = set_count(p);
     let mut n = Counts {
         accepting: 0,

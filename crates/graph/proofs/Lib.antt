@@ -2,5 +2,4 @@ pub mod Paths
 pub mod Cycles
 pub mod Coloured
 pub mod Through
-pub mod ByColour
 pub mod CodeLaws

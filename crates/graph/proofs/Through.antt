@@ -21,7 +21,7 @@ use Rattle.graph.proofs.Coloured.{gather-some}
 use Rattle.graph.proofs.Cycles.{Targets, bit-lt, some-nonzero, cycle-some, cycle-edge, cycle-path, path-cycle, contains-some, some-contains, contains-inside}
 
 -- a set of numbers below n is empty, or has a member
-pub none-or-some : (n m : ℕ) → ((e : ℕ) → has m e ≡ true → e < n) → (m ≡ 0) ⊎ ((e : ℕ) × (has m e ≡ true))
+none-or-some : (n m : ℕ) → ((e : ℕ) → has m e ≡ true → e < n) → (m ≡ 0) ⊎ ((e : ℕ) × (has m e ≡ true))
 none-or-some n m lt = go (test (any (has m) (below n)))
   where
     go : (any (has m) (below n) ≡ true) ⊎ (any (has m) (below n) ≡ false) → (m ≡ 0) ⊎ ((e : ℕ) × (has m e ≡ true))

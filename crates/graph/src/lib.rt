@@ -9,8 +9,6 @@ ghost use Rattle.policy.specs.Policies.{legal};
 ghost use Rattle.graph.specs.Through.{cycleThrough, Rows, withEdge, edgeRow, edgeRows, States, joinRow, joinRows, returning};
 use policy::Policy;
 
-pub mod colours;
-
 // A row, with the target of edge e where e is in m. The targets are t.
 fn with_edge(t: &[u8; 64], m: u64, row: u64, e: usize) -> u64
     requires { ⌜ (e < 64) × (getD (now t) e 0 < 16) ⌝ }

@@ -3,10 +3,12 @@
 use Prim.Native.Nat.{ℕ, _+_, _-_, _*_, _≤_, _<_}
 use mathlib.Core.Path.{_≡_, refl, ap, _∙_}
 use mathlib.Core.Bool.{true, false}
+use mathlib.Core.List.{List}
 use lib.ListN.{length}
 use Rattle.policy.specs.Policies.{coloursOf, inFamily}
+use Rattle.policy.specs.ByColour.{tableColours}
 use Rattle.policy.proofs.Laws.{edges-le}
-use Rattle.graph.proofs.ByColour.{colours-are}
+use Rattle.policy.proofs.ByColour.{table-colours-are}
 use Rattle.decomposition.specs.Forest.{full}
 use Rattle.decomposition.specs.Listed.{Appended, judgedTo}
 use Rattle.decomposition.proofs.CandidateLaws.{appended-none, appended-join, full-is, sets-few, room-left, room-next, room-all, judged-fit, judged-none, judged-next, judged-all}
@@ -69,7 +71,8 @@ used-are : (c : tie.After-colours-in Inv-loop μ-loop) → c .colours-in .result
 used-are c =
     let s = c .before .before .before .before .before .before .before in
     let p = s .args .t1 in
-    c .colours-in .ensures ∙ colours-are p (s .pre .0) (c .before .before .by-colour .result) (c .before .before .by-colour .ensures) (c .before .before .before .full .result)
+    c .colours-in .ensures ∙ ap (λ (t : List ℕ). tableColours t (c .before .before .before .full .result)) (c .before .before .by-colour .ensures)
+    ∙ table-colours-are p (s .pre .0) (c .before .before .before .full .result)
     ∙ ap (coloursOf p) (full-is p (c .before .before .before .before .edges .result) (c .before .before .before .full .result) (c .before .before .before .before .edges .ensures) (c .before .before .before .full .ensures))
 
 append-judged-requires : tie.Need-append-judged-requires Inv-loop μ-loop
