@@ -55,7 +55,8 @@ fn kept(by: &[u64; 8], c: u8, x: u64) -> u64
     if x == 0 {
         return 0;
     }
-    if policy::colours_in(by, x) == c {
+    let d = policy::colours_in(by, x);
+    if d == c {
         return x;
     }
     0
