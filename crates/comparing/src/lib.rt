@@ -3,7 +3,7 @@
 ghost use mathlib.Core.Path.{_≡_};
 ghost use mathlib.Core.Bool.{true};
 ghost use Prim.Native.Nat.{_<_, _≤_, _^_};
-ghost use Rattle.policy.specs.Policies.{edges, legal};
+ghost use Rattle.policy.specs.Policies.{legal};
 ghost use Rattle.graph.specs.Through.{Rows};
 ghost use Rattle.comparing.specs.Comparing.{sameGraph, comparison};
 ghost use Rattle.comparing.specs.Pairs.{Comparable, Tables, sameTargets, pairEdges, exactlyBy, suspectBy, freeAt, isFree, setAgrees, pairsAgree};
@@ -55,22 +55,23 @@ fn has_exactly(t: &[u64; 8], u: &[u64; 8], c: u8, d: u8, m: u64) -> bool
     (policy::colours_in(t, m) == c) & (policy::colours_in(u, m) == d)
 }
 
-// Whether no cycle through v has exactly these colours. m is the edges with these colours, and the rows are those of m.
+// Whether no cycle through v has exactly these colours. m is the edges with these colours; the heads are the targets of p's edges, and the rows are those of m.
 fn is_free_at(
     p: Policy,
     q: Policy,
+    heads: &[u8; 64],
+    rows: &[u64; 16],
     t: &[u64; 8],
     u: &[u64; 8],
     c: u8,
     d: u8,
     m: u64,
-    rows: [u64; 16],
     v: usize,
 ) -> bool
-    requires { ⌜ Tables p q (now t) (now u) × (m ≡ pairEdges p q c d) × Rows p m rows × (v < p .states) ⌝ }
+    requires { ⌜ Tables p q (now t) (now u) × (m ≡ pairEdges p q c d) × (now heads ≡ p .target) × Rows p m (now rows) × (v < p .states) ⌝ }
     ensures { λ r. ⌜ r ≡ freeAt p q c d v ⌝ }
 {
-    let x = graph::cycle_through(p, rows, m, v);
+    let x = graph::cycle_through(p, heads, rows, m, v);
     if x == 0 {
         return true;
     }
@@ -84,9 +85,9 @@ fn is_free(p: Policy, q: Policy, t: &[u64; 8], u: &[u64; 8], c: u8, d: u8) -> bo
 {
     let n = p.states as usize;
     let m = masks::both(policy::edges_in(t, c), policy::edges_in(u, d));
-    let rows = graph::reach_all(p, m);
+    let rows = graph::reach_all(p, &p.target, m);
     for v in 0..n {
-        if !is_free_at(p, q, t, u, c, d, m, rows, v) {
+        if !is_free_at(p, q, &p.target, &rows, t, u, c, d, m, v) {
             return false;
         }
     }

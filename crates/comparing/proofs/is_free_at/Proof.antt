@@ -10,7 +10,7 @@ use Rattle.comparing.proofs.is_free_at.Statement.{statement}
 use Rattle.comparing.proofs.is_free_at.Tie as tie
 
 cycle-through-requires : tie.Need-cycle-through-requires
-cycle-through-requires c κs = (c .pre .0 .comparable .legal-p, c .pre .3, c .pre .2)
+cycle-through-requires c κs = (c .pre .0 .comparable .legal-p, c .pre .2, c .pre .4, c .pre .3)
 
 -- the set found, by its definition
 found : (c : tie.After-cycle-through) → c .cycle-through .result ≡ cycleThrough (c .before .args .p) (pairEdges (c .before .args .p) (c .before .args .q) (c .before .args .c) (c .before .args .d)) (c .before .args .v)
