@@ -5,7 +5,7 @@ use native.Mathlib.Nat.{mul-le-mul-right, mul-comm, suc-mul}
 use native.Mathlib.Numerals.{add-one}
 use mathlib.Core.Path.{_≡_, refl, sym, ap, _∙_, subst}
 use mathlib.Core.Logic.{_⊎_, inl, inr, _≢_}
-use mathlib.Core.Bool.{Bool, true, false, not, _&&_, cond, true≢false}
+use mathlib.Core.Bool.{Bool, Bool·beq, true, false, not, _&&_, cond, true≢false}
 use mathlib.Core.List.{List, [], _∷_, _++_, map, append-nil, append-assoc, List·Memᴰ, List·Memᴰ·head, List·Memᴰ·tail, List·Memᴰ·not-nil, List·Memᴰ·eq-of-singleton}
 use lib.Dec.{eqb}
 use lib.ListN.{length, take, set, length-set, length-append}
@@ -138,6 +138,18 @@ unfolding keptIn
 kept-out by c x e = rw (neqb (tableColours by x) c e) refl
 
 -- ---- tests
+alike : (a b : Bool) → Bool·beq a b ≡ true → a ≡ b
+alike true true h = refl
+alike true false h = absurd (true≢false (sym h))
+alike false true h = absurd (true≢false (sym h))
+alike false false h = refl
+
+unlike : (a b : Bool) → Bool·beq a b ≡ false → a ≡ not b
+unlike true true h = absurd (true≢false h)
+unlike true false h = refl
+unlike false true h = refl
+unlike false false h = absurd (true≢false h)
+
 differs-same : (b a : Bool) → a ≡ b → differs b a ≡ false
 differs-same true a e = rw e
 differs-same false a e = e
@@ -212,7 +224,7 @@ module _ (p : Policy) where
       within x k = subst (λ (r : ℕ). inside r (coloursOf p (full p)) ≡ true) (of-colours c x k) (colours-up p x (full p) (of-inside c x k))
 
   -- ---- the candidates by verdict, colour set by colour set
-  pub judged-same : (b : Bool) (c : ℕ) → inFamily p c ≡ b → judgedOf p b c ≡ candidatesOf p c
+  judged-same : (b : Bool) (c : ℕ) → inFamily p c ≡ b → judgedOf p b c ≡ candidatesOf p c
   unfolding judgedOf
   judged-same b c e = ap (λ (d : Bool). cond d [] (candidatesOf p c)) (differs-same b (inFamily p c) e)
 
@@ -224,9 +236,16 @@ module _ (p : Policy) where
       go true = refl
       go false = e
 
-  pub judged-other : (b : Bool) (c : ℕ) → inFamily p c ≡ not b → judgedOf p b c ≡ []
+  judged-other : (b : Bool) (c : ℕ) → inFamily p c ≡ not b → judgedOf p b c ≡ []
   unfolding judgedOf
   judged-other b c e = ap (λ (d : Bool). cond d [] (candidatesOf p c)) (differs-other b (inFamily p c) e)
+
+  -- by the code's comparison of the two verdicts
+  pub judged-alike : (b v : Bool) (c : ℕ) → v ≡ inFamily p c → Bool·beq v b ≡ true → judgedOf p b c ≡ candidatesOf p c
+  judged-alike b v c e h = judged-same b c (sym e ∙ alike v b h)
+
+  pub judged-differs : (b v : Bool) (c : ℕ) → v ≡ inFamily p c → Bool·beq v b ≡ false → judgedOf p b c ≡ []
+  judged-differs b v c e h = judged-other b c (sym e ∙ unlike v b h)
 
   judged-of : (b : Bool) (c : ℕ) → filter (λ (m : ℕ). not (differs b (accepting p m))) (candidatesOf p c) ≡ judgedOf p b c
   judged-of b c = go (same-or-not (inFamily p c) b)

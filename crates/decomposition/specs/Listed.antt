@@ -67,13 +67,8 @@ module _ (p : Policy) where
   unfoldable pub rootsTo : ℕ → List ℕ
   rootsTo n = flat (map (rootAt p) (below n))
 
--- ---- what is listed, in two lists, by the verdicts of the candidates
--- from a₀ and r₀ to a and r, the counts being n and n′: the candidates of the colour set c are appended to the list of their verdict
-pub record Judged (p : Policy) (c : ℕ) (a₀ a r₀ r : List ℕ) (n n′ : Counts) : Type 0 where
-  pub accepting-are : Appended a₀ a (n .accepting) (n′ .accepting) (judgedOf p true c)
-  pub rejecting-are : Appended r₀ r (n .rejecting) (n′ .rejecting) (judgedOf p false c)
-
--- the lists, a₀ and r₀ before, begin with all candidates; n says how many
+-- ---- what is listed
+-- two lists, a₀ and r₀ before, begin with all candidates, by their verdicts; n says how many
 pub record Listed (p : Policy) (a₀ a r₀ r : List ℕ) (n : Counts) : Type 0 where
   pub accepting-are : take (n .accepting) a ≡ judged p true
   pub rejecting-are : take (n .rejecting) r ≡ judged p false

@@ -7,8 +7,8 @@ ghost use Rattle.policy.specs.Policies.{coloursOf, inFamily, legal};
 ghost use Rattle.policy.specs.ByColour.{byColour};
 ghost use Rattle.graph.specs.Through.{Rows};
 ghost use Rattle.decomposition.specs.Forest.{full};
-ghost use Rattle.decomposition.specs.Candidates.{candidatesOf};
-ghost use Rattle.decomposition.specs.Listed.{single, Appended, ownEdges, isOpen, lowestCycle, covered, keptIn, Judged, Listed, RootsListed};
+ghost use Rattle.decomposition.specs.Candidates.{candidatesOf, judged};
+ghost use Rattle.decomposition.specs.Listed.{single, Appended, ownEdges, isOpen, lowestCycle, covered, keptIn, judgedOf, Listed, RootsListed};
 use policy::Policy;
 
 // How many candidates each list holds.
@@ -99,38 +99,27 @@ fn append_candidates(
     next
 }
 
-// The candidates of the colour set c after those listed: their verdict is that of c. There are none where some colour of c is on no edge.
+// The candidates of the colour set c after the first n masks of a list, if the verdict of c is b. There are none where some colour of c is on no edge.
 fn append_judged(
     p: Policy,
     heads: &[u8; 64],
     by: &[u64; 8],
     used: u8,
+    b: bool,
     c: u8,
     verdict: bool,
-    accepting: &mut [u64],
-    rejecting: &mut [u64],
-    n: Counts,
-) -> Counts
-    requires { ⌜ (legal p ≡ true) × (now heads ≡ p .target) × (now by ≡ byColour p) × (used ≡ coloursOf p (full p)) × (verdict ≡ inFamily p c) × (n .accepting + p .states ≤ length (now accepting)) × (n .rejecting + p .states ≤ length (now rejecting)) ⌝ }
-    ensures { λ r. ⌜ Judged p c (now (accepting .entry)) (now (accepting .exit)) (now (rejecting .entry)) (now (rejecting .exit)) n r ⌝ }
+    list: &mut [u64],
+    n: usize,
+) -> usize
+    requires { ⌜ (legal p ≡ true) × (now heads ≡ p .target) × (now by ≡ byColour p) × (used ≡ coloursOf p (full p)) × (verdict ≡ inFamily p c) × (n + p .states ≤ length (now list)) ⌝ }
+    ensures { λ r. ⌜ Appended (now (list .entry)) (now (list .exit)) n r (judgedOf p b c) ⌝ }
 {
-    let a = n.accepting;
-    let b = n.rejecting;
-    if !masks::set_inside(c, used) {
-        return n;
+    if masks::set_inside(c, used) {
+        if verdict == b {
+            return append_candidates(p, heads, by, c, list, n);
+        }
     }
-    if verdict {
-        let next = append_candidates(p, heads, by, c, accepting, a);
-        return Counts {
-            accepting: next,
-            rejecting: b,
-        };
-    }
-    let next = append_candidates(p, heads, by, c, rejecting, b);
-    Counts {
-        accepting: a,
-        rejecting: next,
-    }
+    n
 }
 
 // How many sets of the policy's colours there are.
@@ -141,25 +130,41 @@ fn set_count(p: Policy) -> usize
     1 << p.colours
 }
 
-// The candidates of a policy, by verdict: by falling masks of their colours, and then by their lowest states.
+// The candidates of verdict b: by falling masks of their colours, and then by their lowest states.
+fn fill_judged(
+    p: Policy,
+    heads: &[u8; 64],
+    by: &[u64; 8],
+    used: u8,
+    b: bool,
+    list: &mut [u64],
+) -> usize
+    requires { ⌜ (legal p ≡ true) × (now heads ≡ p .target) × (now by ≡ byColour p) × (used ≡ coloursOf p (full p)) × (p .states * 2 ^ p .colours ≤ length (now list)) ⌝ }
+    ensures { λ r. ⌜ Appended (now (list .entry)) (now (list .exit)) 0 r (judged p b) × (r ≤ p .states * 2 ^ p .colours) ⌝ }
+{
+    let sets = set_count(p);
+    let mut n: usize = 0;
+    for i in 0..sets {
+        let c = (sets - 1 - i) as u8;
+        let verdict = p.family[c as usize];
+        n = append_judged(p, heads, by, used, b, c, verdict, list, n);
+    }
+    n
+}
+
+// The candidates of a policy, by verdict.
 pub fn fill_candidates(p: Policy, accepting: &mut [u64], rejecting: &mut [u64]) -> Counts
     requires { ⌜ (legal p ≡ true) × (p .states * 2 ^ p .colours ≤ length (now accepting)) × (p .states * 2 ^ p .colours ≤ length (now rejecting)) ⌝ }
     ensures { λ r. ⌜ Listed p (now (accepting .entry)) (now (accepting .exit)) (now (rejecting .entry)) (now (rejecting .exit)) r ⌝ }
 {
-    let all = masks::full(policy::edges(p));
     let by = policy::by_colour(p);
-    let used = policy::colours_in(&by, all);
-    let sets = set_count(p);
-    let mut n = Counts {
-        accepting: 0,
-        rejecting: 0,
-    };
-    for i in 0..sets {
-        let c = (sets - 1 - i) as u8;
-        let verdict = p.family[c as usize];
-        n = append_judged(p, &p.target, &by, used, c, verdict, accepting, rejecting, n);
+    let used = policy::colours_in(&by, masks::full(policy::edges(p)));
+    let a = fill_judged(p, &p.target, &by, used, true, accepting);
+    let b = fill_judged(p, &p.target, &by, used, false, rejecting);
+    Counts {
+        accepting: a,
+        rejecting: b,
     }
-    n
 }
 
 // The candidates for a root, in the order of their lowest states.
