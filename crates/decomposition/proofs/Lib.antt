@@ -18,3 +18,5 @@ pub mod CandidateLaws
 pub mod NodeColumns
 pub mod Search
 pub mod Subtrees
+pub mod Stores
+pub mod Growing

@@ -7,3 +7,5 @@ pub mod NodeTables
 pub mod Listed
 pub mod Search
 pub mod Subtrees
+pub mod Stores
+pub mod Growing

@@ -10,6 +10,7 @@ ghost use Rattle.decomposition.specs.Siblings.{around, isLargest, stands
 pub mod listing;
 pub mod nodes;
 pub mod searching;
+pub mod trees;
 
 // ---- siblings, found in a list of masks; 0 stands for none
 

@@ -1,0 +1,937 @@
+-- `trees::grow` and `trees::plant` meet their contracts. The measure is twice the number of colours of the mask, and one more for `plant`. The loop's invariant: the trees of the first j children are written. Assumes nothing.
+use Prim.Native.Nat.{ℕ, _+_, _-_, _*_, _≤_, _<_}
+use native.Mathlib.Nat.{le-refl}
+use native.Mathlib.Omega.{arith}
+use mathlib.Core.Path.{_≡_, refl, ap, _∙_}
+use mathlib.Core.List.{_++_}
+use lib.Count.{ones}
+use lib.ListN.{length, take, getD, length-append, length-set}
+use borrow.Rule.Slice.PartMut.{mid-len, take-put}
+use borrow.Author.Needs.{needs}
+use borrow.Fn.Kinds.{In}
+use borrow.Fn.PlainCycle.{Measures, is, falls, and}
+use Rattle.policy.specs.Policies.{coloursOf}
+use Rattle.decomposition.specs.Forest.{children}
+use Rattle.decomposition.proofs.Growing.{Row, row-none, row-long, row-more, room-root, grown-none, grown-whole, grown-over, grown-copy, copy-fits, copy-masks, copy-parents, ground-searchable, seed-size, seed-room, seed-parents, found-count, found-at, found-seed, found-few, found-small, found-fewer, found-again, grown-is, seed-is, grown-seen, seen-at}
+use Rattle.decomposition.proofs.trees.grow.Reads as grow
+use Rattle.decomposition.proofs.trees.grow.Kinds as grow-kinds
+use Rattle.decomposition.proofs.trees.+grow+plant.Lts-grow as grow-lts
+use Rattle.decomposition.proofs.trees.plant.Reads as plant
+use Rattle.decomposition.proofs.trees.plant.Kinds as plant-kinds
+use Rattle.decomposition.proofs.trees.+grow+plant.Lts-plant as plant-lts
+use Rattle.decomposition.proofs.trees.copy_tree.Reads as copy-tree-reads
+use Rattle.decomposition.proofs.trees.find_children.Reads as find-children-reads
+use Rattle.decomposition.proofs.trees.first_other.Reads as first-other-reads
+use Rattle.decomposition.proofs.trees.mask_at.Reads as mask-at-reads
+use Rattle.decomposition.proofs.trees.remember.Reads as remember-reads
+use Rattle.decomposition.proofs.trees.size_of.Reads as size-of-reads
+use Rattle.decomposition.proofs.trees.start_of.Reads as start-of-reads
+use Rattle.decomposition.proofs.trees.+grow+plant.{statement}
+use Rattle.decomposition.proofs.trees.+grow+plant.Tie.{close}
+
+abbrev μ-grow : Measures 6 grow-kinds.ps ℕ
+μ-grow κs a = 2 * ones (coloursOf (a .0) (a .1 .1 .1 .0))
+
+abbrev μ-plant : Measures 6 plant-kinds.ps ℕ
+μ-plant κs a = 2 * ones (coloursOf (a .0) (getD (a .1 .0 .now ++ a .1 .1 .0 .now) (a .1 .1 .1 .0) 0)) + 1
+
+abbrev grow-at : ℕ → In 6 grow-kinds.ps
+grow-at t = and 6 grow-kinds.ps (is 6 grow-kinds.ps μ-grow t) grow.Pre
+
+abbrev grow-below : ℕ → In 6 grow-kinds.ps
+grow-below t = and 6 grow-kinds.ps (falls 6 grow-kinds.ps _<_ μ-grow t) grow.Pre
+
+abbrev plant-at : ℕ → In 6 plant-kinds.ps
+plant-at t = and 6 plant-kinds.ps (is 6 plant-kinds.ps μ-plant t) plant.Pre
+
+abbrev plant-below : ℕ → In 6 plant-kinds.ps
+plant-below t = and 6 plant-kinds.ps (falls 6 plant-kinds.ps _<_ μ-plant t) plant.Pre
+
+abbrev grow-Inv-loop : grow-lts.InvT-loop
+grow-Inv-loop p accepting rejecting m verdict parent at places masks₀ parents₀ seen₀ kids₀ count first next₀ j₀ masks parents seen kids next j = Row p (accepting ++ rejecting) places at next₀ (children p m) masks₀ parents₀ masks parents seen next j × (length seen ≡ length seen₀) × (length kids ≡ length kids₀) × (take count kids ≡ take count kids₀)
+
+abbrev grow-μ-loop : grow-lts.MeasureT-loop
+grow-μ-loop p accepting rejecting m verdict parent at places masks₀ parents₀ seen₀ kids₀ count first next₀ j₀ masks parents seen kids next j = count - j
+
+grow-add-result : (t : ℕ) → grow-lts.Need-add-result (
+  find-children-reads.Asked,
+  find-children-reads.Learnt,
+  first-other-reads.Asked,
+  first-other-reads.Learnt,
+  plant-below t,
+  plant.Post,
+) (grow-at t) grow.Post grow-Inv-loop grow-μ-loop
+grow-add-result t c = omega (arith, c .before .before .before .before .before .before .before .pre .1 .1 .few)
+
+grow-returns : (t : ℕ) → grow-lts.Need-returns (
+  find-children-reads.Asked,
+  find-children-reads.Learnt,
+  first-other-reads.Asked,
+  first-other-reads.Learnt,
+  plant-below t,
+  plant.Post,
+) (grow-at t) grow.Post grow-Inv-loop grow-μ-loop
+grow-returns t c = grown-none (c .before .before .before .before .before .before .before .pre .1 .1) (c .before .before .before .before .before .before .before .args .m) (c .before .before .before .before .before .before .before .args .parent) (omega (arith, c .if1 .taken, seed-size (c .before .before .before .before .before .before .before .pre .1 .0) (c .before .before .before .before .before .before .before .pre .1 .2)))
+
+grow-mul-masks : (t : ℕ) → grow-lts.Need-mul-masks (
+  find-children-reads.Asked,
+  find-children-reads.Learnt,
+  first-other-reads.Asked,
+  first-other-reads.Learnt,
+  plant-below t,
+  plant.Post,
+) (grow-at t) grow.Post grow-Inv-loop grow-μ-loop
+grow-mul-masks t c = omega (arith, c .if1 .left, c .before .before .before .before .before .before .before .pre .1 .1 .few)
+
+grow-slice-write-masks : (t : ℕ) → grow-lts.Need-slice-write-masks (
+  find-children-reads.Asked,
+  find-children-reads.Learnt,
+  first-other-reads.Asked,
+  first-other-reads.Learnt,
+  plant-below t,
+  plant.Post,
+) (grow-at t) grow.Post grow-Inv-loop grow-μ-loop
+grow-slice-write-masks t c = omega (arith, c .if1 .left, c .before .before .before .before .before .before .before .pre .1 .1 .masks-long)
+
+grow-mul-parents : (t : ℕ) → grow-lts.Need-mul-parents (
+  find-children-reads.Asked,
+  find-children-reads.Learnt,
+  first-other-reads.Asked,
+  first-other-reads.Learnt,
+  plant-below t,
+  plant.Post,
+) (grow-at t) grow.Post grow-Inv-loop grow-μ-loop
+grow-mul-parents t c = omega (arith, c .if1 .left, c .before .before .before .before .before .before .before .pre .1 .1 .few)
+
+grow-slice-write-parents : (t : ℕ) → grow-lts.Need-slice-write-parents (
+  find-children-reads.Asked,
+  find-children-reads.Learnt,
+  first-other-reads.Asked,
+  first-other-reads.Learnt,
+  plant-below t,
+  plant.Post,
+) (grow-at t) grow.Post grow-Inv-loop grow-μ-loop
+grow-slice-write-parents t c = omega (arith, c .if1 .left, c .before .before .before .before .before .before .before .pre .1 .1 .parents-long)
+
+grow-find-children-requires : (t : ℕ) → grow-lts.Need-find-children-requires (
+  find-children-reads.Asked,
+  find-children-reads.Learnt,
+  first-other-reads.Asked,
+  first-other-reads.Learnt,
+  plant-below t,
+  plant.Post,
+) (grow-at t) grow.Post grow-Inv-loop grow-μ-loop
+grow-find-children-requires t c κs =
+    let g = c .before .before .before .before .before .before .before .before .pre .1 .0 in
+    let k = seed-room g (c .before .before .before .before .before .before .before .before .pre .1 .2) in
+    (ground-searchable g .0, ground-searchable g .1, omega (arith, k), omega (arith, k), g .accepting-few, g .rejecting-few)
+
+grow-first-other-requires : (t : ℕ) → grow-lts.Need-first-other-requires (
+  find-children-reads.Asked,
+  find-children-reads.Learnt,
+  first-other-reads.Asked,
+  first-other-reads.Learnt,
+  plant-below t,
+  plant.Post,
+) (grow-at t) grow.Post grow-Inv-loop grow-μ-loop
+grow-first-other-requires t c κs = search needs
+
+grow-add-next : (t : ℕ) → grow-lts.Need-add-next (
+  find-children-reads.Asked,
+  find-children-reads.Learnt,
+  first-other-reads.Asked,
+  first-other-reads.Learnt,
+  plant-below t,
+  plant.Post,
+) (grow-at t) grow.Post grow-Inv-loop grow-μ-loop
+grow-add-next t c = omega (arith, c .before .before .before .before .before .if1 .left, c .before .before .before .before .before .before .before .before .before .before .before .before .pre .1 .1 .few)
+
+grow-loop-holds : (t : ℕ) → grow-lts.Need-loop-holds (
+  find-children-reads.Asked,
+  find-children-reads.Learnt,
+  first-other-reads.Asked,
+  first-other-reads.Learnt,
+  plant-below t,
+  plant.Post,
+) (grow-at t) grow.Post grow-Inv-loop grow-μ-loop
+grow-loop-holds t c =
+    let s = c .before .before .before .before .before .before .before .before .before .before .before .before in
+    (row-none (s .args .at) (children (s .args .p) (s .args .m)) (room-root (s .pre .1 .0) (s .pre .1 .2) (s .args .parent) (s .pre .1 .1) (omega (arith, c .before .before .before .before .before .if1 .left))), refl, refl, refl)
+
+grow-mul-i : (t : ℕ) → grow-lts.Need-mul-i (
+  find-children-reads.Asked,
+  find-children-reads.Learnt,
+  first-other-reads.Asked,
+  first-other-reads.Learnt,
+  plant-below t,
+  plant.Post,
+) (grow-at t) grow.Post grow-Inv-loop grow-μ-loop
+grow-mul-i t c =
+    let s = c .before .before .before .before .before .before .before .before .before .before .before .before .before .before in
+    omega (arith, found-small (s .pre .1 .0) (s .pre .1 .2) (c .before .before .before .before .before .find-children .ensures) .0)
+
+grow-slice-read-i : (t : ℕ) → grow-lts.Need-slice-read-i (
+  find-children-reads.Asked,
+  find-children-reads.Learnt,
+  first-other-reads.Asked,
+  first-other-reads.Learnt,
+  plant-below t,
+  plant.Post,
+) (grow-at t) grow.Post grow-Inv-loop grow-μ-loop
+grow-slice-read-i t c =
+    let s = c .before .before .before .before .before .before .before .before .before .before .before .before .before .before .before in
+    omega (arith, seed-room (s .pre .1 .0) (s .pre .1 .2), found-few (s .pre .1 .0) (s .pre .1 .2) (c .before .before .before .before .before .before .find-children .ensures), c .before .before .before .before .before .before .find-children .kept .1 .1 .1 .1 .0, c .before .before .loop .inv .2, c .before .loop-test .taken)
+
+grow-cast-i : (t : ℕ) → grow-lts.Need-cast-i (
+  find-children-reads.Asked,
+  find-children-reads.Learnt,
+  first-other-reads.Asked,
+  first-other-reads.Learnt,
+  plant-below t,
+  plant.Post,
+) (grow-at t) grow.Post grow-Inv-loop grow-μ-loop
+grow-cast-i t c =
+    let s = c .before .before .before .before .before .before .before .before .before .before .before .before .before .before .before in
+    omega (arith, found-small (s .pre .1 .0) (s .pre .1 .2) (found-again (c .before .before .before .before .before .before .find-children .ensures) (c .before .before .loop .inv .3)) .1 (c .before .before .loop .j) (c .before .loop-test .taken))
+
+grow-add-i : (t : ℕ) → grow-lts.Need-add-i (
+  find-children-reads.Asked,
+  find-children-reads.Learnt,
+  first-other-reads.Asked,
+  first-other-reads.Learnt,
+  plant-below t,
+  plant.Post,
+) (grow-at t) grow.Post grow-Inv-loop grow-μ-loop
+grow-add-i t c =
+    let s = c .before .before .before .before .before .before .before .before .before .before .before .before .before .before .before in
+    let b = found-small (s .pre .1 .0) (s .pre .1 .2) (found-again (c .before .before .before .before .before .before .find-children .ensures) (c .before .before .loop .inv .3)) in
+    omega (arith, b .1 (c .before .before .loop .j) (c .before .loop-test .taken), b .2, c .before .before .before .first-other .ensures)
+
+grow-cast-plant : (t : ℕ) → grow-lts.Need-cast-plant (
+  find-children-reads.Asked,
+  find-children-reads.Learnt,
+  first-other-reads.Asked,
+  first-other-reads.Learnt,
+  plant-below t,
+  plant.Post,
+) (grow-at t) grow.Post grow-Inv-loop grow-μ-loop
+grow-cast-plant t c = omega (arith, c .before .before .before .before .before .before .before .before .if1 .left, c .before .before .before .before .before .before .before .before .before .before .before .before .before .before .before .pre .1 .1 .few)
+
+grow-mul-plant : (t : ℕ) → grow-lts.Need-mul-plant (
+  find-children-reads.Asked,
+  find-children-reads.Learnt,
+  first-other-reads.Asked,
+  first-other-reads.Learnt,
+  plant-below t,
+  plant.Post,
+) (grow-at t) grow.Post grow-Inv-loop grow-μ-loop
+grow-mul-plant t c =
+    let s = c .before .before .before .before .before .before .before .before .before .before .before .before .before .before .before .before .before .before in
+    omega (arith, found-small (s .pre .1 .0) (s .pre .1 .2) (c .before .before .before .before .before .before .before .before .before .find-children .ensures) .0)
+
+grow-sub-plant : (t : ℕ) → grow-lts.Need-sub-plant (
+  find-children-reads.Asked,
+  find-children-reads.Learnt,
+  first-other-reads.Asked,
+  first-other-reads.Learnt,
+  plant-below t,
+  plant.Post,
+) (grow-at t) grow.Post grow-Inv-loop grow-μ-loop
+grow-sub-plant t c =
+    let s = c .before .before .before .before .before .before .before .before .before .before .before .before .before .before .before .before .before .before in
+    omega (arith, seed-room (s .pre .1 .0) (s .pre .1 .2), found-few (s .pre .1 .0) (s .pre .1 .2) (c .before .before .before .before .before .before .before .before .before .find-children .ensures), c .before .before .before .before .before .before .before .before .before .find-children .kept .1 .1 .1 .1 .0, c .before .before .before .before .before .loop .inv .2)
+
+grow-part-plant-start : (t : ℕ) → grow-lts.Need-part-plant-start (
+  find-children-reads.Asked,
+  find-children-reads.Learnt,
+  first-other-reads.Asked,
+  first-other-reads.Learnt,
+  plant-below t,
+  plant.Post,
+) (grow-at t) grow.Post grow-Inv-loop grow-μ-loop
+grow-part-plant-start t c =
+    let s = c .before .before .before .before .before .before .before .before .before .before .before .before .before .before .before .before .before .before in
+    omega (arith, seed-room (s .pre .1 .0) (s .pre .1 .2), found-few (s .pre .1 .0) (s .pre .1 .2) (c .before .before .before .before .before .before .before .before .before .find-children .ensures), c .before .before .before .before .before .before .before .before .before .find-children .kept .1 .1 .1 .1 .0, c .before .before .before .before .before .loop .inv .2)
+
+grow-part-plant-end : (t : ℕ) → grow-lts.Need-part-plant-end (
+  find-children-reads.Asked,
+  find-children-reads.Learnt,
+  first-other-reads.Asked,
+  first-other-reads.Learnt,
+  plant-below t,
+  plant.Post,
+) (grow-at t) grow.Post grow-Inv-loop grow-μ-loop
+grow-part-plant-end t c = omega arith
+
+grow-plant-requires : (t : ℕ) → grow-lts.Need-plant-requires (
+  find-children-reads.Asked,
+  find-children-reads.Learnt,
+  first-other-reads.Asked,
+  first-other-reads.Learnt,
+  plant-below t,
+  plant.Post,
+) (grow-at t) grow.Post grow-Inv-loop grow-μ-loop
+grow-plant-requires t c κs =
+    let s = c .before .before .before .before .before .before .before .before .before .before .before .before .before .before .before .before .before .before .before in
+    let g = s .pre .1 .0 in
+    let d = s .pre .1 .2 in
+    let f = found-again (c .before .before .before .before .before .before .before .before .before .before .find-children .ensures) (c .before .before .before .before .before .before .loop .inv .3) in
+    let long : c .before .before .before .before .before .before .before .before .before .before .find-children .result ≤ length (c .before .before .before .before .before .before .loop .kids) = omega (arith, seed-room g d, found-few g d (c .before .before .before .before .before .before .before .before .before .before .find-children .ensures), c .before .before .before .before .before .before .before .before .before .before .find-children .kept .1 .1 .1 .1 .0, c .before .before .before .before .before .before .loop .inv .2) in
+    let at = found-at g d f (c .before .before .before .before .before .loop-test .taken) long (c .before .before .before .before .before .before .before .first-other .result) (c .before .before .before .before .before .before .before .first-other .ensures) in
+    let v = c .before .before .before .before .before .before .loop .inv .0 in
+    (omega (arith, found-fewer g d f (c .before .before .before .before .before .loop-test .taken) long _ (at .1), s .pre .0), (g, v .room, at .0, found-seed g d f (c .before .before .before .before .before .loop-test .taken) long _ _ (at .1) (omega (arith, mid-len (c .before .before .before .before .before .before .before .before .before .before .find-children .result) (length (c .before .before .before .before .before .before .loop .kids)) (c .before .before .before .before .before .before .loop .kids) (le-refl _), c .before .before .before .before .before .before .before .before .before .before .find-children .kept .1 .1 .1 .1 .0, c .before .before .before .before .before .before .loop .inv .2)), omega (arith, v .next-is)))
+
+grow-same-length : (t : ℕ) → grow-lts.Need-same-length (
+  find-children-reads.Asked,
+  find-children-reads.Learnt,
+  first-other-reads.Asked,
+  first-other-reads.Learnt,
+  plant-below t,
+  plant.Post,
+) (grow-at t) grow.Post grow-Inv-loop grow-μ-loop
+grow-same-length t c = c .before .before .before .before .before .before .before .before .before .plant .kept .1 .1 .1 .1 .1 .1 .1 .1 .0 ∙ row-long (c .before .before .before .before .before .before .before .before .before .before .before .before .before .before .before .before .loop .inv .0) .0 ∙ length-set (c .before .before .before .before .before .before .before .before .before .before .before .before .before .before .before .before .before .before .before .before .before .before .before .before .before .before .before .before .before .args .masks .now) (c .before .before .before .before .before .before .before .before .before .before .before .before .before .before .before .before .before .before .before .before .before .before .before .before .before .before .before .before .before .args .at) (c .before .before .before .before .before .before .before .before .before .before .before .before .before .before .before .before .before .before .before .before .before .before .before .before .before .before .before .before .before .args .m)
+
+grow-same-length-2 : (t : ℕ) → grow-lts.Need-same-length-2 (
+  find-children-reads.Asked,
+  find-children-reads.Learnt,
+  first-other-reads.Asked,
+  first-other-reads.Learnt,
+  plant-below t,
+  plant.Post,
+) (grow-at t) grow.Post grow-Inv-loop grow-μ-loop
+grow-same-length-2 t c = c .before .before .before .before .before .before .before .before .before .plant .kept .1 .1 .1 .1 .1 .1 .1 .1 .1 .0 ∙ row-long (c .before .before .before .before .before .before .before .before .before .before .before .before .before .before .before .before .loop .inv .0) .1 ∙ length-set (c .before .before .before .before .before .before .before .before .before .before .before .before .before .before .before .before .before .before .before .before .before .before .before .before .before .before .before .before .before .args .parents .now) (c .before .before .before .before .before .before .before .before .before .before .before .before .before .before .before .before .before .before .before .before .before .before .before .before .before .before .before .before .before .args .at) (c .before .before .before .before .before .before .before .before .before .before .before .before .before .before .before .before .before .before .before .before .before .before .before .before .before .before .before .before .before .args .parent)
+
+grow-same-length-3 : (t : ℕ) → grow-lts.Need-same-length-3 (
+  find-children-reads.Asked,
+  find-children-reads.Learnt,
+  first-other-reads.Asked,
+  first-other-reads.Learnt,
+  plant-below t,
+  plant.Post,
+) (grow-at t) grow.Post grow-Inv-loop grow-μ-loop
+grow-same-length-3 t c = c .before .before .before .before .before .before .before .before .before .plant .kept .1 .1 .1 .1 .1 .1 .1 .1 .1 .1 .0 ∙ c .before .before .before .before .before .before .before .before .before .before .before .before .before .before .before .before .loop .inv .1
+
+grow-same-length-4 : (t : ℕ) → grow-lts.Need-same-length-4 (
+  find-children-reads.Asked,
+  find-children-reads.Learnt,
+  first-other-reads.Asked,
+  first-other-reads.Learnt,
+  plant-below t,
+  plant.Post,
+) (grow-at t) grow.Post grow-Inv-loop grow-μ-loop
+grow-same-length-4 t c = c .before .before .kids2 .given .1 ∙ c .before .before .before .before .before .before .before .before .before .before .before .before .before .before .before .before .loop .inv .2 ∙ c .before .before .before .before .before .before .before .before .before .before .before .before .before .before .before .before .before .before .before .before .find-children .kept .1 .1 .1 .1 .0
+
+grow-returns-2 : (t : ℕ) → grow-lts.Need-returns-2 (
+  find-children-reads.Asked,
+  find-children-reads.Learnt,
+  first-other-reads.Asked,
+  first-other-reads.Learnt,
+  plant-below t,
+  plant.Post,
+) (grow-at t) grow.Post grow-Inv-loop grow-μ-loop
+grow-returns-2 t c =
+    let s = c .before .before .before .before .before .before .before .before .before .before .before .before .before .before .before .before .before .before .before .before .before .before .before .before .before .before .before .before .before in
+    let g = s .pre .1 .0 in
+    let d = s .pre .1 .2 in
+    let f = found-again (c .before .before .before .before .before .before .before .before .before .before .before .before .before .before .before .before .before .before .before .before .find-children .ensures) (c .before .before .before .before .before .before .before .before .before .before .before .before .before .before .before .before .loop .inv .3) in
+    let long : c .before .before .before .before .before .before .before .before .before .before .before .before .before .before .before .before .before .before .before .before .find-children .result ≤ length (c .before .before .before .before .before .before .before .before .before .before .before .before .before .before .before .before .loop .kids) = omega (arith, seed-room g d, found-few g d (c .before .before .before .before .before .before .before .before .before .before .before .before .before .before .before .before .before .before .before .before .find-children .ensures), c .before .before .before .before .before .before .before .before .before .before .before .before .before .before .before .before .before .before .before .before .find-children .kept .1 .1 .1 .1 .0, c .before .before .before .before .before .before .before .before .before .before .before .before .before .before .before .before .loop .inv .2) in
+    let at = found-at g d f (c .before .before .before .before .before .before .before .before .before .before .before .before .before .before .before .loop-test .taken) long (c .before .before .before .before .before .before .before .before .before .before .before .before .before .before .before .before .before .first-other .result) (c .before .before .before .before .before .before .before .before .before .before .before .before .before .before .before .before .before .first-other .ensures) in
+    grown-over g d (s .args .parent) (c .before .before .before .before .before .before .before .before .before .before .before .before .before .before .before .before .loop .inv .0) (omega (arith, c .before .before .before .before .before .before .before .before .before .before .before .before .before .before .before .loop-test .taken, found-count g d f long)) (at .1) (c .before .before .before .before .before .before .before .before .before .plant .ensures) (c .if2 .taken)
+
+grow-add-j : (t : ℕ) → grow-lts.Need-add-j (
+  find-children-reads.Asked,
+  find-children-reads.Learnt,
+  first-other-reads.Asked,
+  first-other-reads.Learnt,
+  plant-below t,
+  plant.Post,
+) (grow-at t) grow.Post grow-Inv-loop grow-μ-loop
+grow-add-j t c =
+    let s = c .before .before .before .before .before .before .before .before .before .before .before .before .before .before .before .before .before .before .before .before .before .before .before .before .before .before .before .before .before in
+    omega (arith, c .before .before .before .before .before .before .before .before .before .before .before .before .before .before .before .loop-test .taken, found-small (s .pre .1 .0) (s .pre .1 .2) (c .before .before .before .before .before .before .before .before .before .before .before .before .before .before .before .before .before .before .before .before .find-children .ensures) .0)
+
+grow-loop-less : (t : ℕ) → grow-lts.Need-loop-less (
+  find-children-reads.Asked,
+  find-children-reads.Learnt,
+  first-other-reads.Asked,
+  first-other-reads.Learnt,
+  plant-below t,
+  plant.Post,
+) (grow-at t) grow.Post grow-Inv-loop grow-μ-loop
+grow-loop-less t c = omega (arith, c .before .before .before .before .before .before .before .before .before .before .before .before .before .before .before .loop-test .taken)
+
+grow-loop-again : (t : ℕ) → grow-lts.Need-loop-again (
+  find-children-reads.Asked,
+  find-children-reads.Learnt,
+  first-other-reads.Asked,
+  first-other-reads.Learnt,
+  plant-below t,
+  plant.Post,
+) (grow-at t) grow.Post grow-Inv-loop grow-μ-loop
+grow-loop-again t c =
+    let s = c .before .before .before .before .before .before .before .before .before .before .before .before .before .before .before .before .before .before .before .before .before .before .before .before .before .before .before .before .before in
+    let g = s .pre .1 .0 in
+    let d = s .pre .1 .2 in
+    let f = found-again (c .before .before .before .before .before .before .before .before .before .before .before .before .before .before .before .before .before .before .before .before .find-children .ensures) (c .before .before .before .before .before .before .before .before .before .before .before .before .before .before .before .before .loop .inv .3) in
+    let long : c .before .before .before .before .before .before .before .before .before .before .before .before .before .before .before .before .before .before .before .before .find-children .result ≤ length (c .before .before .before .before .before .before .before .before .before .before .before .before .before .before .before .before .loop .kids) = omega (arith, seed-room g d, found-few g d (c .before .before .before .before .before .before .before .before .before .before .before .before .before .before .before .before .before .before .before .before .find-children .ensures), c .before .before .before .before .before .before .before .before .before .before .before .before .before .before .before .before .before .before .before .before .find-children .kept .1 .1 .1 .1 .0, c .before .before .before .before .before .before .before .before .before .before .before .before .before .before .before .before .loop .inv .2) in
+    let at = found-at g d f (c .before .before .before .before .before .before .before .before .before .before .before .before .before .before .before .loop-test .taken) long (c .before .before .before .before .before .before .before .before .before .before .before .before .before .before .before .before .before .first-other .result) (c .before .before .before .before .before .before .before .before .before .before .before .before .before .before .before .before .before .first-other .ensures) in
+    (row-more (c .before .before .before .before .before .before .before .before .before .before .before .before .before .before .before .before .loop .inv .0) (omega (arith, c .before .before .before .before .before .before .before .before .before .before .before .before .before .before .before .loop-test .taken, found-count g d f long)) (at .1) (c .before .before .before .before .before .before .before .before .before .plant .ensures) (c .if2 .left) (c .before .before .before .before .before .before .before .before .before .plant .kept .1 .1 .1 .1 .1 .1 .1 .1 .1 .1 .0), c .before .before .before .before .before .before .before .before .before .plant .kept .1 .1 .1 .1 .1 .1 .1 .1 .1 .1 .0 ∙ c .before .before .before .before .before .before .before .before .before .before .before .before .before .before .before .before .loop .inv .1, c .before .before .kids2 .given .1 ∙ c .before .before .before .before .before .before .before .before .before .before .before .before .before .before .before .before .loop .inv .2, take-put (c .before .before .before .before .before .before .before .before .before .before .before .before .before .before .before .before .before .before .before .before .find-children .result) (length (c .before .before .before .before .before .before .before .before .before .before .before .before .before .before .before .before .loop .kids) - c .before .before .before .before .before .before .before .before .before .before .before .before .before .before .before .before .before .before .before .before .find-children .result) (c .before .before .before .before .before .before .before .before .before .before .before .before .before .before .before .before .loop .kids) (c .before .before .before .before .before .before .before .before .before .plant .last .1 .1 .1 .1 .1 .1 .1 .1 .1 .1 .1 .0) long ∙ c .before .before .before .before .before .before .before .before .before .before .before .before .before .before .before .before .loop .inv .3)
+
+grow-same-length-5 : (t : ℕ) → grow-lts.Need-same-length-5 (
+  find-children-reads.Asked,
+  find-children-reads.Learnt,
+  first-other-reads.Asked,
+  first-other-reads.Learnt,
+  plant-below t,
+  plant.Post,
+) (grow-at t) grow.Post grow-Inv-loop grow-μ-loop
+grow-same-length-5 t c = row-long (c .before .loop .inv .0) .0 ∙ length-set (c .before .before .before .before .before .before .before .before .before .before .before .before .before .before .args .masks .now) (c .before .before .before .before .before .before .before .before .before .before .before .before .before .before .args .at) (c .before .before .before .before .before .before .before .before .before .before .before .before .before .before .args .m)
+
+grow-same-length-6 : (t : ℕ) → grow-lts.Need-same-length-6 (
+  find-children-reads.Asked,
+  find-children-reads.Learnt,
+  first-other-reads.Asked,
+  first-other-reads.Learnt,
+  plant-below t,
+  plant.Post,
+) (grow-at t) grow.Post grow-Inv-loop grow-μ-loop
+grow-same-length-6 t c = row-long (c .before .loop .inv .0) .1 ∙ length-set (c .before .before .before .before .before .before .before .before .before .before .before .before .before .before .args .parents .now) (c .before .before .before .before .before .before .before .before .before .before .before .before .before .before .args .at) (c .before .before .before .before .before .before .before .before .before .before .before .before .before .before .args .parent)
+
+grow-same-length-7 : (t : ℕ) → grow-lts.Need-same-length-7 (
+  find-children-reads.Asked,
+  find-children-reads.Learnt,
+  first-other-reads.Asked,
+  first-other-reads.Learnt,
+  plant-below t,
+  plant.Post,
+) (grow-at t) grow.Post grow-Inv-loop grow-μ-loop
+grow-same-length-7 t c = c .before .loop .inv .1
+
+grow-same-length-8 : (t : ℕ) → grow-lts.Need-same-length-8 (
+  find-children-reads.Asked,
+  find-children-reads.Learnt,
+  first-other-reads.Asked,
+  first-other-reads.Learnt,
+  plant-below t,
+  plant.Post,
+) (grow-at t) grow.Post grow-Inv-loop grow-μ-loop
+grow-same-length-8 t c = c .before .loop .inv .2 ∙ c .before .before .before .before .before .find-children .kept .1 .1 .1 .1 .0
+
+grow-returns-3 : (t : ℕ) → grow-lts.Need-returns-3 (
+  find-children-reads.Asked,
+  find-children-reads.Learnt,
+  first-other-reads.Asked,
+  first-other-reads.Learnt,
+  plant-below t,
+  plant.Post,
+) (grow-at t) grow.Post grow-Inv-loop grow-μ-loop
+grow-returns-3 t c =
+    let s = c .before .before .before .before .before .before .before .before .before .before .before .before .before .before in
+    let g = s .pre .1 .0 in
+    let d = s .pre .1 .2 in
+    let f = found-again (c .before .before .before .before .before .find-children .ensures) (c .before .loop .inv .3) in
+    let long : c .before .before .before .before .before .find-children .result ≤ length (c .before .loop .kids) = omega (arith, seed-room g d, found-few g d (c .before .before .before .before .before .find-children .ensures), c .before .before .before .before .before .find-children .kept .1 .1 .1 .1 .0, c .before .loop .inv .2) in
+    grown-whole g d (s .args .parent) (c .before .loop .inv .0) (omega (arith, c .loop-test .left, found-count g d f long))
+
+plant-mul-e : (t : ℕ) → plant-lts.Need-mul-e (
+  mask-at-reads.Asked,
+  mask-at-reads.Learnt,
+  grow-below t,
+  grow.Post,
+  remember-reads.Asked,
+  remember-reads.Learnt,
+  start-of-reads.Asked,
+  start-of-reads.Learnt,
+  size-of-reads.Asked,
+  size-of-reads.Learnt,
+  copy-tree-reads.Asked,
+  copy-tree-reads.Learnt,
+) (plant-at t) plant.Post
+plant-mul-e t c = let s = c .before .before .before .before .before .before in omega (arith, s .pre .1 .2, length-append (s .args .accepting .now) (s .args .rejecting .now), s .pre .1 .0 .accepting-few, s .pre .1 .0 .rejecting-few)
+
+plant-slice-read-e : (t : ℕ) → plant-lts.Need-slice-read-e (
+  mask-at-reads.Asked,
+  mask-at-reads.Learnt,
+  grow-below t,
+  grow.Post,
+  remember-reads.Asked,
+  remember-reads.Learnt,
+  start-of-reads.Asked,
+  start-of-reads.Learnt,
+  size-of-reads.Asked,
+  size-of-reads.Learnt,
+  copy-tree-reads.Asked,
+  copy-tree-reads.Learnt,
+) (plant-at t) plant.Post
+plant-slice-read-e t c = let s = c .before .before .before .before .before .before .before in omega (arith, s .pre .1 .2, s .pre .1 .1 .seen-long)
+
+plant-mask-at-requires : (t : ℕ) → plant-lts.Need-mask-at-requires (
+  mask-at-reads.Asked,
+  mask-at-reads.Learnt,
+  grow-below t,
+  grow.Post,
+  remember-reads.Asked,
+  remember-reads.Learnt,
+  start-of-reads.Asked,
+  start-of-reads.Learnt,
+  size-of-reads.Asked,
+  size-of-reads.Learnt,
+  copy-tree-reads.Asked,
+  copy-tree-reads.Learnt,
+) (plant-at t) plant.Post
+plant-mask-at-requires t c κs = let s = c .before .before .before .before .before .before .before .before in omega (arith, s .pre .1 .2, length-append (s .args .accepting .now) (s .args .rejecting .now))
+
+plant-grow-requires : (t : ℕ) → plant-lts.Need-grow-requires (
+  mask-at-reads.Asked,
+  mask-at-reads.Learnt,
+  grow-below t,
+  grow.Post,
+  remember-reads.Asked,
+  remember-reads.Learnt,
+  start-of-reads.Asked,
+  start-of-reads.Learnt,
+  size-of-reads.Asked,
+  size-of-reads.Learnt,
+  copy-tree-reads.Asked,
+  copy-tree-reads.Learnt,
+) (plant-at t) plant.Post
+plant-grow-requires t c κs =
+    let s = c .before .before .before .before .before .before .before .before .before .before .before .before .before in
+    (omega (arith, s .pre .0, ap (λ (x : ℕ). ones (coloursOf (s .args .p) x)) (c .before .before .before .before .mask-at .ensures)), (s .pre .1 .0, s .pre .1 .1, seed-is (c .before .before .before .before .mask-at .ensures) (s .pre .1 .3)))
+
+plant-same-length : (t : ℕ) → plant-lts.Need-same-length (
+  mask-at-reads.Asked,
+  mask-at-reads.Learnt,
+  grow-below t,
+  grow.Post,
+  remember-reads.Asked,
+  remember-reads.Learnt,
+  start-of-reads.Asked,
+  start-of-reads.Learnt,
+  size-of-reads.Asked,
+  size-of-reads.Learnt,
+  copy-tree-reads.Asked,
+  copy-tree-reads.Learnt,
+) (plant-at t) plant.Post
+plant-same-length t c = c .before .before .before .before .before .before .before .before .before .grow .kept .1 .1 .1 .1 .1 .1 .1 .1 .0
+
+plant-same-length-2 : (t : ℕ) → plant-lts.Need-same-length-2 (
+  mask-at-reads.Asked,
+  mask-at-reads.Learnt,
+  grow-below t,
+  grow.Post,
+  remember-reads.Asked,
+  remember-reads.Learnt,
+  start-of-reads.Asked,
+  start-of-reads.Learnt,
+  size-of-reads.Asked,
+  size-of-reads.Learnt,
+  copy-tree-reads.Asked,
+  copy-tree-reads.Learnt,
+) (plant-at t) plant.Post
+plant-same-length-2 t c = c .before .before .before .before .before .before .before .before .before .grow .kept .1 .1 .1 .1 .1 .1 .1 .1 .1 .0
+
+plant-same-length-3 : (t : ℕ) → plant-lts.Need-same-length-3 (
+  mask-at-reads.Asked,
+  mask-at-reads.Learnt,
+  grow-below t,
+  grow.Post,
+  remember-reads.Asked,
+  remember-reads.Learnt,
+  start-of-reads.Asked,
+  start-of-reads.Learnt,
+  size-of-reads.Asked,
+  size-of-reads.Learnt,
+  copy-tree-reads.Asked,
+  copy-tree-reads.Learnt,
+) (plant-at t) plant.Post
+plant-same-length-3 t c = c .before .before .before .before .before .before .before .before .before .grow .kept .1 .1 .1 .1 .1 .1 .1 .1 .1 .1 .0
+
+plant-same-length-4 : (t : ℕ) → plant-lts.Need-same-length-4 (
+  mask-at-reads.Asked,
+  mask-at-reads.Learnt,
+  grow-below t,
+  grow.Post,
+  remember-reads.Asked,
+  remember-reads.Learnt,
+  start-of-reads.Asked,
+  start-of-reads.Learnt,
+  size-of-reads.Asked,
+  size-of-reads.Learnt,
+  copy-tree-reads.Asked,
+  copy-tree-reads.Learnt,
+) (plant-at t) plant.Post
+plant-same-length-4 t c = c .before .before .before .before .before .before .before .before .before .grow .kept .1 .1 .1 .1 .1 .1 .1 .1 .1 .1 .1 .0
+
+plant-returns : (t : ℕ) → plant-lts.Need-returns (
+  mask-at-reads.Asked,
+  mask-at-reads.Learnt,
+  grow-below t,
+  grow.Post,
+  remember-reads.Asked,
+  remember-reads.Learnt,
+  start-of-reads.Asked,
+  start-of-reads.Learnt,
+  size-of-reads.Asked,
+  size-of-reads.Learnt,
+  copy-tree-reads.Asked,
+  copy-tree-reads.Learnt,
+) (plant-at t) plant.Post
+plant-returns t c = grown-is (c .before .before .before .before .before .before .before .before .before .before .before .before .before .before .mask-at .ensures) (c .before .before .before .before .before .before .before .before .before .grow .ensures)
+
+plant-remember-requires : (t : ℕ) → plant-lts.Need-remember-requires (
+  mask-at-reads.Asked,
+  mask-at-reads.Learnt,
+  grow-below t,
+  grow.Post,
+  remember-reads.Asked,
+  remember-reads.Learnt,
+  start-of-reads.Asked,
+  start-of-reads.Learnt,
+  size-of-reads.Asked,
+  size-of-reads.Learnt,
+  copy-tree-reads.Asked,
+  copy-tree-reads.Learnt,
+) (plant-at t) plant.Post
+plant-remember-requires t c κs =
+    let s = c .before .before .before .before .before .before .before .before .before .before .before .before .before .before .before .before .before .before .before .before .before .before .before .before in
+    (omega (arith, s .pre .1 .2, s .pre .1 .1 .seen-long, c .before .before .before .before .before .before .before .before .before .before .grow .kept .1 .1 .1 .1 .1 .1 .1 .1 .1 .1 .0), omega (arith, c .before .before .before .before .before .before .before .before .before .before .grow .ensures .next-is, c .before .if2 .left), omega (arith, c .before .if2 .left, s .pre .1 .1 .few))
+
+plant-same-length-5 : (t : ℕ) → plant-lts.Need-same-length-5 (
+  mask-at-reads.Asked,
+  mask-at-reads.Learnt,
+  grow-below t,
+  grow.Post,
+  remember-reads.Asked,
+  remember-reads.Learnt,
+  start-of-reads.Asked,
+  start-of-reads.Learnt,
+  size-of-reads.Asked,
+  size-of-reads.Learnt,
+  copy-tree-reads.Asked,
+  copy-tree-reads.Learnt,
+) (plant-at t) plant.Post
+plant-same-length-5 t c = c .before .before .before .before .before .before .before .before .before .before .before .before .before .grow .kept .1 .1 .1 .1 .1 .1 .1 .1 .0
+
+plant-same-length-6 : (t : ℕ) → plant-lts.Need-same-length-6 (
+  mask-at-reads.Asked,
+  mask-at-reads.Learnt,
+  grow-below t,
+  grow.Post,
+  remember-reads.Asked,
+  remember-reads.Learnt,
+  start-of-reads.Asked,
+  start-of-reads.Learnt,
+  size-of-reads.Asked,
+  size-of-reads.Learnt,
+  copy-tree-reads.Asked,
+  copy-tree-reads.Learnt,
+) (plant-at t) plant.Post
+plant-same-length-6 t c = c .before .before .before .before .before .before .before .before .before .before .before .before .before .grow .kept .1 .1 .1 .1 .1 .1 .1 .1 .1 .0
+
+plant-same-length-7 : (t : ℕ) → plant-lts.Need-same-length-7 (
+  mask-at-reads.Asked,
+  mask-at-reads.Learnt,
+  grow-below t,
+  grow.Post,
+  remember-reads.Asked,
+  remember-reads.Learnt,
+  start-of-reads.Asked,
+  start-of-reads.Learnt,
+  size-of-reads.Asked,
+  size-of-reads.Learnt,
+  copy-tree-reads.Asked,
+  copy-tree-reads.Learnt,
+) (plant-at t) plant.Post
+plant-same-length-7 t c = c .before .before .remember .kept .0 ∙ c .before .before .before .before .before .before .before .before .before .before .before .before .before .grow .kept .1 .1 .1 .1 .1 .1 .1 .1 .1 .1 .0
+
+plant-same-length-8 : (t : ℕ) → plant-lts.Need-same-length-8 (
+  mask-at-reads.Asked,
+  mask-at-reads.Learnt,
+  grow-below t,
+  grow.Post,
+  remember-reads.Asked,
+  remember-reads.Learnt,
+  start-of-reads.Asked,
+  start-of-reads.Learnt,
+  size-of-reads.Asked,
+  size-of-reads.Learnt,
+  copy-tree-reads.Asked,
+  copy-tree-reads.Learnt,
+) (plant-at t) plant.Post
+plant-same-length-8 t c = c .before .before .before .before .before .before .before .before .before .before .before .before .before .grow .kept .1 .1 .1 .1 .1 .1 .1 .1 .1 .1 .1 .0
+
+plant-returns-2 : (t : ℕ) → plant-lts.Need-returns-2 (
+  mask-at-reads.Asked,
+  mask-at-reads.Learnt,
+  grow-below t,
+  grow.Post,
+  remember-reads.Asked,
+  remember-reads.Learnt,
+  start-of-reads.Asked,
+  start-of-reads.Learnt,
+  size-of-reads.Asked,
+  size-of-reads.Learnt,
+  copy-tree-reads.Asked,
+  copy-tree-reads.Learnt,
+) (plant-at t) plant.Post
+plant-returns-2 t c =
+    let s = c .before .before .before .before .before .before .before .before .before .before .before .before .before .before .before .before .before .before .before .before .before .before .before .before .before .before .before in
+    grown-seen (s .args .i) (s .pre .1 .1) (s .pre .1 .4) (omega (arith, s .pre .1 .2, s .pre .1 .1 .seen-long, c .before .before .before .before .before .before .before .before .before .before .before .before .before .grow .kept .1 .1 .1 .1 .1 .1 .1 .1 .1 .1 .0)) (c .before .before .before .before .if2 .left) (grown-is (c .before .before .before .before .before .before .before .before .before .before .before .before .before .before .before .before .before .before .mask-at .ensures) (c .before .before .before .before .before .before .before .before .before .before .before .before .before .grow .ensures)) (c .before .before .remember .ensures)
+
+plant-start-of-requires : (t : ℕ) → plant-lts.Need-start-of-requires (
+  mask-at-reads.Asked,
+  mask-at-reads.Learnt,
+  grow-below t,
+  grow.Post,
+  remember-reads.Asked,
+  remember-reads.Learnt,
+  start-of-reads.Asked,
+  start-of-reads.Learnt,
+  size-of-reads.Asked,
+  size-of-reads.Learnt,
+  copy-tree-reads.Asked,
+  copy-tree-reads.Learnt,
+) (plant-at t) plant.Post
+plant-start-of-requires t c κs = search needs
+
+plant-size-of-requires : (t : ℕ) → plant-lts.Need-size-of-requires (
+  mask-at-reads.Asked,
+  mask-at-reads.Learnt,
+  grow-below t,
+  grow.Post,
+  remember-reads.Asked,
+  remember-reads.Learnt,
+  start-of-reads.Asked,
+  start-of-reads.Learnt,
+  size-of-reads.Asked,
+  size-of-reads.Learnt,
+  copy-tree-reads.Asked,
+  copy-tree-reads.Learnt,
+) (plant-at t) plant.Post
+plant-size-of-requires t c κs = search needs
+
+plant-add-if3 : (t : ℕ) → plant-lts.Need-add-if3 (
+  mask-at-reads.Asked,
+  mask-at-reads.Learnt,
+  grow-below t,
+  grow.Post,
+  remember-reads.Asked,
+  remember-reads.Learnt,
+  start-of-reads.Asked,
+  start-of-reads.Learnt,
+  size-of-reads.Asked,
+  size-of-reads.Learnt,
+  copy-tree-reads.Asked,
+  copy-tree-reads.Learnt,
+) (plant-at t) plant.Post
+plant-add-if3 t c = let s = c .before .before .before .before .before .before .before .before .before .before in omega (arith, s .pre .1 .1 .few, s .pre .1 .1 .at-most, c .size-of .ensures)
+
+plant-add-result : (t : ℕ) → plant-lts.Need-add-result (
+  mask-at-reads.Asked,
+  mask-at-reads.Learnt,
+  grow-below t,
+  grow.Post,
+  remember-reads.Asked,
+  remember-reads.Learnt,
+  start-of-reads.Asked,
+  start-of-reads.Learnt,
+  size-of-reads.Asked,
+  size-of-reads.Learnt,
+  copy-tree-reads.Asked,
+  copy-tree-reads.Learnt,
+) (plant-at t) plant.Post
+plant-add-result t c = omega (arith, c .before .before .before .before .before .before .before .before .before .before .before .pre .1 .1 .few)
+
+plant-returns-3 : (t : ℕ) → plant-lts.Need-returns-3 (
+  mask-at-reads.Asked,
+  mask-at-reads.Learnt,
+  grow-below t,
+  grow.Post,
+  remember-reads.Asked,
+  remember-reads.Learnt,
+  start-of-reads.Asked,
+  start-of-reads.Learnt,
+  size-of-reads.Asked,
+  size-of-reads.Learnt,
+  copy-tree-reads.Asked,
+  copy-tree-reads.Learnt,
+) (plant-at t) plant.Post
+plant-returns-3 t c =
+    let s = c .before .before .before .before .before .before .before .before .before .before .before in
+    let z = seen-at (s .pre .1 .1) (s .args .i) (c .before .before .start-of .result) (c .before .size-of .result) (s .pre .1 .2) (c .before .before .before .if1 .left) (c .before .before .start-of .ensures) (c .before .size-of .ensures) in
+    grown-none (s .pre .1 .1) _ (s .args .parent) (omega (arith, c .if3 .taken, z .0))
+
+plant-copy-tree-requires : (t : ℕ) → plant-lts.Need-copy-tree-requires (
+  mask-at-reads.Asked,
+  mask-at-reads.Learnt,
+  grow-below t,
+  grow.Post,
+  remember-reads.Asked,
+  remember-reads.Learnt,
+  start-of-reads.Asked,
+  start-of-reads.Learnt,
+  size-of-reads.Asked,
+  size-of-reads.Learnt,
+  copy-tree-reads.Asked,
+  copy-tree-reads.Learnt,
+) (plant-at t) plant.Post
+plant-copy-tree-requires t c κs =
+    let s = c .before .before .before .before .before .before .before .before .before .before .before .before .before in
+    let z = seen-at (s .pre .1 .1) (s .args .i) (c .before .before .before .before .start-of .result) (c .before .before .before .size-of .result) (s .pre .1 .2) (c .before .before .before .before .before .if1 .left) (c .before .before .before .before .start-of .ensures) (c .before .before .before .size-of .ensures) in
+    (omega (arith, z .0, z .1 .before), omega (arith, c .before .before .if3 .left, s .pre .1 .1 .masks-long), omega (arith, c .before .before .if3 .left, s .pre .1 .1 .parents-long), omega (arith, z .0, seed-size (s .pre .1 .0) (s .pre .1 .3)), omega (arith, s .pre .1 .1 .few, s .pre .1 .1 .at-most), copy-fits (z .1) (c .before .before .before .size-of .result) (s .args .places) (z .0) (c .before .before .if3 .left) (s .pre .1 .1 .few))
+
+plant-add-result-2 : (t : ℕ) → plant-lts.Need-add-result-2 (
+  mask-at-reads.Asked,
+  mask-at-reads.Learnt,
+  grow-below t,
+  grow.Post,
+  remember-reads.Asked,
+  remember-reads.Learnt,
+  start-of-reads.Asked,
+  start-of-reads.Learnt,
+  size-of-reads.Asked,
+  size-of-reads.Learnt,
+  copy-tree-reads.Asked,
+  copy-tree-reads.Learnt,
+) (plant-at t) plant.Post
+plant-add-result-2 t c = let s = c .before .before .before .before .before .before .before .before .before .before .before .before .before .before .before .before .before .before in omega (arith, s .pre .1 .1 .few, s .pre .1 .1 .at-most, c .before .before .before .before .before .before .before .before .size-of .ensures)
+
+plant-same-length-9 : (t : ℕ) → plant-lts.Need-same-length-9 (
+  mask-at-reads.Asked,
+  mask-at-reads.Learnt,
+  grow-below t,
+  grow.Post,
+  remember-reads.Asked,
+  remember-reads.Learnt,
+  start-of-reads.Asked,
+  start-of-reads.Learnt,
+  size-of-reads.Asked,
+  size-of-reads.Learnt,
+  copy-tree-reads.Asked,
+  copy-tree-reads.Learnt,
+) (plant-at t) plant.Post
+plant-same-length-9 t c = c .before .before .before .before .copy-tree .kept .0
+
+plant-same-length-10 : (t : ℕ) → plant-lts.Need-same-length-10 (
+  mask-at-reads.Asked,
+  mask-at-reads.Learnt,
+  grow-below t,
+  grow.Post,
+  remember-reads.Asked,
+  remember-reads.Learnt,
+  start-of-reads.Asked,
+  start-of-reads.Learnt,
+  size-of-reads.Asked,
+  size-of-reads.Learnt,
+  copy-tree-reads.Asked,
+  copy-tree-reads.Learnt,
+) (plant-at t) plant.Post
+plant-same-length-10 t c = c .before .before .before .before .copy-tree .kept .1 .0
+
+plant-returns-4 : (t : ℕ) → plant-lts.Need-returns-4 (
+  mask-at-reads.Asked,
+  mask-at-reads.Learnt,
+  grow-below t,
+  grow.Post,
+  remember-reads.Asked,
+  remember-reads.Learnt,
+  start-of-reads.Asked,
+  start-of-reads.Learnt,
+  size-of-reads.Asked,
+  size-of-reads.Learnt,
+  copy-tree-reads.Asked,
+  copy-tree-reads.Learnt,
+) (plant-at t) plant.Post
+plant-returns-4 t c =
+    let s = c .before .before .before .before .before .before .before .before .before .before .before .before .before .before .before .before .before .before in
+    let z = seen-at (s .pre .1 .1) (s .args .i) (c .before .before .before .before .before .before .before .before .before .start-of .result) (c .before .before .before .before .before .before .before .before .size-of .result) (s .pre .1 .2) (c .before .before .before .before .before .before .before .before .before .before .if1 .left) (c .before .before .before .before .before .before .before .before .before .start-of .ensures) (c .before .before .before .before .before .before .before .before .size-of .ensures) in
+    grown-copy (s .pre .1 .1) _ (s .args .parent) (c .before .before .before .before .before .before .before .before .size-of .result) (z .0) (c .before .before .before .before .before .before .before .if3 .left) (c .before .before .before .before .copy-tree .ensures .0 ∙ copy-masks (z .1) (c .before .before .before .before .before .before .before .before .size-of .result) (z .0)) (c .before .before .before .before .copy-tree .ensures .1 ∙ copy-parents (z .1) (c .before .before .before .before .before .before .before .before .size-of .result) (s .args .parent) (z .0) (seed-parents (s .pre .1 .0) (s .pre .1 .3)))
+
+pub +grow+plant-spec : {M : Type 1} → statement M
++grow+plant-spec = close μ-grow μ-plant (λ t. grow-lts.spec (
+  find-children-reads.Asked,
+  find-children-reads.Learnt,
+  first-other-reads.Asked,
+  first-other-reads.Learnt,
+  plant-below t,
+  plant.Post,
+)
+    (grow-at t)
+    grow.Post
+    grow-Inv-loop
+    grow-μ-loop
+    (grow-add-result t)
+    (grow-returns t)
+    (grow-mul-masks t)
+    (grow-slice-write-masks t)
+    (grow-mul-parents t)
+    (grow-slice-write-parents t)
+    (grow-find-children-requires t)
+    (grow-first-other-requires t)
+    (grow-add-next t)
+    (grow-loop-holds t)
+    (grow-mul-i t)
+    (grow-slice-read-i t)
+    (grow-cast-i t)
+    (grow-add-i t)
+    (grow-cast-plant t)
+    (grow-mul-plant t)
+    (grow-sub-plant t)
+    (grow-part-plant-start t)
+    (grow-part-plant-end t)
+    (grow-plant-requires t)
+    (grow-same-length t)
+    (grow-same-length-2 t)
+    (grow-same-length-3 t)
+    (grow-same-length-4 t)
+    (grow-returns-2 t)
+    (grow-add-j t)
+    (grow-loop-less t)
+    (grow-loop-again t)
+    (grow-same-length-5 t)
+    (grow-same-length-6 t)
+    (grow-same-length-7 t)
+    (grow-same-length-8 t)
+    (grow-returns-3 t))
+    λ t. plant-lts.spec (
+      mask-at-reads.Asked,
+      mask-at-reads.Learnt,
+      grow-below t,
+      grow.Post,
+      remember-reads.Asked,
+      remember-reads.Learnt,
+      start-of-reads.Asked,
+      start-of-reads.Learnt,
+      size-of-reads.Asked,
+      size-of-reads.Learnt,
+      copy-tree-reads.Asked,
+      copy-tree-reads.Learnt,
+    )
+    (plant-at t)
+    plant.Post
+    (plant-mul-e t)
+    (plant-slice-read-e t)
+    (plant-mask-at-requires t)
+    (plant-grow-requires t)
+    (plant-same-length t)
+    (plant-same-length-2 t)
+    (plant-same-length-3 t)
+    (plant-same-length-4 t)
+    (plant-returns t)
+    (plant-remember-requires t)
+    (plant-same-length-5 t)
+    (plant-same-length-6 t)
+    (plant-same-length-7 t)
+    (plant-same-length-8 t)
+    (plant-returns-2 t)
+    (plant-start-of-requires t)
+    (plant-size-of-requires t)
+    (plant-add-if3 t)
+    (plant-add-result t)
+    (plant-returns-3 t)
+    (plant-copy-tree-requires t)
+    (plant-add-result-2 t)
+    (plant-same-length-9 t)
+    (plant-same-length-10 t)
+    (plant-returns-4 t)
