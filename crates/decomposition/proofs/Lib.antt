@@ -20,3 +20,4 @@ pub mod Search
 pub mod Subtrees
 pub mod Stores
 pub mod Growing
+pub mod Roots

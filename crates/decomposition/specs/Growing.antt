@@ -9,7 +9,9 @@ use lib.ListN.{length, getD}
 use lib.Seq.{sets}
 use Rattle.policy.specs.declared.Policy.{Policy}
 use Rattle.policy.specs.Policies.{coloursOf, accepting, legal}
+use Rattle.decomposition.specs.Forest.{forest}
 use Rattle.decomposition.specs.Candidates.{candidates, judged}
+use Rattle.decomposition.specs.NodeTables.{nodeMasks, nodeParents}
 use Rattle.decomposition.specs.Subtrees.{treeMasks, treeParents, treeSize}
 use Rattle.decomposition.specs.Stores.{part}
 
@@ -55,3 +57,9 @@ pub record Grown (p : Policy) (list : List ℕ) (places m q n next : ℕ) (masks
   pub masks-are : next ≤ places → masks ≡ sets masks₀ n (treeMasks p m)
   pub parents-are : next ≤ places → parents ≡ sets parents₀ n (treeParents p q n m)
   pub seen-are : next ≤ places → Seen p list masks parents seen next
+
+-- from masks₀ and parents₀: the trees of all roots are written, from number 0 on, and `next` comes after them; or `next` is past the places, if they do not fit
+pub record AllGrown (p : Policy) (places next : ℕ) (masks₀ parents₀ masks parents : List ℕ) : Type 0 where
+  pub next-is : next ≡ min (length (forest p)) (places + 1)
+  pub masks-are : next ≤ places → masks ≡ sets masks₀ 0 (nodeMasks p)
+  pub parents-are : next ≤ places → parents ≡ sets parents₀ 0 (nodeParents p)

@@ -2,14 +2,15 @@
 ghost use mathlib.Core.Path.{_≡_};
 ghost use mathlib.Core.Bool.{cond};
 ghost use mathlib.Core.List.{_++_, List·Memᴰ};
-ghost use Prim.Native.Nat.{ℕ, _+_, _-_, _*_, _/_, _%_, _<_, _≤_};
+ghost use Prim.Native.Nat.{ℕ, _+_, _-_, _*_, _/_, _%_, _<_, _≤_, max};
 ghost use lib.ListN.{length, getD, set};
 ghost use lib.Seq.{sets};
 ghost use Rattle.lists.specs.Lists.{Distinct};
+ghost use Rattle.decomposition.specs.Candidates.{rootCandidates};
 ghost use Rattle.decomposition.specs.Siblings.{LargerFirst};
 ghost use Rattle.decomposition.specs.Search.{ChildrenFound};
 ghost use Rattle.decomposition.specs.Stores.{part, moved};
-ghost use Rattle.decomposition.specs.Growing.{Ground, Room, Seed, Grown};
+ghost use Rattle.decomposition.specs.Growing.{Ground, Room, Seed, Grown, AllGrown};
 use policy::Policy;
 
 // The masks of a tree, copied from its place `from` to `at`.
@@ -206,4 +207,48 @@ fn grow(
         }
     }
     next
+}
+
+// The trees of all roots: how many nodes there are, or one past the places where they do not fit.
+pub fn grow_roots(
+    p: Policy,
+    accepting: &[u64],
+    rejecting: &[u64],
+    roots: &[u64],
+    places: usize,
+    masks: &mut [u64],
+    parents: &mut [u16],
+    seen: &mut [u32],
+    kids: &mut [u16],
+) -> usize
+    requires { ⌜ Ground p (now accepting) (now rejecting) × Room p (now accepting ++ now rejecting) (now masks) (now parents) (now seen) places 0 × (now roots ≡ rootCandidates p) × (p .colours * max (length (now accepting)) (length (now rejecting)) ≤ length (now kids)) ⌝ }
+    ensures { λ r. ⌜ AllGrown p places r (now (masks .entry)) (now (parents .entry)) (now (masks .exit)) (now (parents .exit)) ⌝ }
+{
+    let mut next: usize = 0;
+    let mut after: u64 = 0;
+    loop {
+        let m = crate::next_root(roots, after);
+        if m == 0 {
+            return next;
+        }
+        let verdict = policy::is_accepting(p, m);
+        next = grow(
+            p,
+            accepting,
+            rejecting,
+            m,
+            verdict,
+            65535,
+            next,
+            places,
+            masks,
+            parents,
+            seen,
+            kids,
+        );
+        if places < next {
+            return next;
+        }
+        after = m;
+    }
 }
