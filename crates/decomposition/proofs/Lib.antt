@@ -11,9 +11,7 @@ pub mod Priorities
 pub mod Planted
 pub mod Numbered
 pub mod Forest
-pub mod Following
 pub mod Siblings
-pub mod NodeLaws
 pub mod CandidateLaws
 pub mod NodeColumns
 pub mod Search

@@ -1,32 +1,43 @@
--- Node tables that are filled from the front: each holds the beginning of a column of the forest, and 0 past it. Assumes nothing.
-use Prim.Native.Nat.{ℕ, zero, suc, _+_, _≤_, _<_, min}
+-- Node tables that hold the columns of the forest, and 0 past them: the space for growing it, masks and parents as they are grown, priorities from the front, and what
+-- filling the tables gives. Assumes nothing.
+use Prim.Native.Nat.{ℕ, zero, suc, _+_, _*_, _-_, _^_, _≤_, _<_, min, max}
 use native.Mathlib.Omega.{arith}
+use native.Mathlib.Nat.{mul-comm, mul-le-mul-left, mul-le-mul-right}
 use native.Mathlib.Numerals.{add-one}
 use mathlib.Core.Path.{_≡_, refl, sym, ap, ap₂, _∙_, subst}
 use mathlib.Core.Logic.{_⊎_, inl, inr, _≢_}
-use mathlib.Core.Bool.{Bool, true, false, cond}
+use mathlib.Core.Bool.{Bool, true, false, not, _&&_, cond}
 use mathlib.Core.List.{List, [], _∷_, _++_, map}
 use lib.Dec.{eqb}
-use lib.ListN.{length, getD, take, set, length-set, length-map}
-use lib.Seq.{take-suc, take-all, length-take-le, getD-take}
+use lib.Pow.{pow-mono}
+use lib.ListN.{length, getD, take, drop, set, replicate, length-set, length-map, length-append, length-replicate}
+use lib.Seq.{sets, sets-eq, take-suc, take-all, length-take-le, getD-take}
 use borrow.Author.Tests.{le-leb, lt-leb}
-use Rattle.lists.proofs.Bools.{test, ≡eqb, neqb}
+use Rattle.lists.specs.Lists.{filter, below}
+use Rattle.lists.proofs.Bools.{test}
 use Rattle.tables.specs.Tables.{padded, zeros}
 use Rattle.tables.proofs.Tables.{zeros-padded, zeros-same, length-zeros, getD-padded, padded-more}
 use Rattle.policy.specs.declared.Policy.{Policy}
-use Rattle.policy.specs.Policies.{accepting, legal}
+use Rattle.policy.specs.Policies.{coloursOf, accepting, legal}
 use Rattle.policy.proofs.Laws.{legal-counts}
+use Rattle.graph.specs.Coloured.{coloured}
+use Rattle.graph.specs.Through.{cycleThrough}
 use Rattle.decomposition.specs.declared.nodes.Filled.the-variants.{Nodes, TooMany}
-use Rattle.decomposition.specs.Forest.{Node, forest, node, priority}
-use Rattle.decomposition.specs.Laws.{maskAt, parentAt, rootAt}
-use Rattle.decomposition.specs.NodeTables.{nodeMasks, nodeParents, nodeRanks, Written, rankOf, Begun, nodeTables, nodesFit, fillingOf, filledOf}
+use Rattle.decomposition.specs.Forest.{Node, differs, full, forest, node, priority}
+use Rattle.decomposition.specs.Laws.{ForestLaws, maskAt, parentAt, rootAt}
+use Rattle.decomposition.specs.Candidates.{lowestIs, candidateAt, candidatesOf, coloursAt, candidates, judged}
+use Rattle.decomposition.specs.NodeTables.{nodeMasks, nodeParents, nodeRanks, Sought, Cleared, Written, Lent, Spare, nodeTables, nodesFit, fillingOf, filledOf}
+use Rattle.decomposition.specs.Growing.{Ground, Room, AllGrown}
+use Rattle.decomposition.proofs.Distinct.{length-below, flat-few}
+use Rattle.decomposition.proofs.Children.{root-few, child-fewer, ordered-children, ordered-roots}
 use Rattle.decomposition.proofs.Priorities.{priority-root, priority-child, priority-few}
-use Rattle.decomposition.proofs.NodeLaws.{laws, numbers}
+use Rattle.decomposition.proofs.Numbered.{Numbered, numbered}
+use Rattle.decomposition.proofs.Forest.{forest-laws}
 
 -- ---- the table t holds the first n entries of the column l
 module _ (l t : List ℕ) where
-  column-none : (t₀ : List ℕ) → t ≡ zeros t₀ → t ≡ padded (length t) (take 0 l)
-  column-none t₀ e = e ∙ zeros-padded t₀ ∙ ap (λ (k : ℕ). padded k []) (sym (ap length e ∙ length-zeros t₀))
+  column-none : t ≡ zeros t → t ≡ padded (length t) (take 0 l)
+  column-none e = e ∙ zeros-padded t
 
   module _ (n : ℕ) (e : t ≡ padded (length t) (take n l)) where
     column-at : n ≤ length l → (j : ℕ) → j < n → getD t j 0 ≡ getD l j 0
@@ -44,6 +55,20 @@ module _ (l t : List ℕ) where
 
     column-whole : length l ≤ n → t ≡ padded (length t) l
     column-whole h = e ∙ ap (padded (length t)) (take-all n l h)
+
+-- a column stored into a table that is cleared
+drop-zeros : (k n : ℕ) → drop {A = ℕ} k (replicate n 0) ≡ replicate (n - k) 0
+drop-zeros zero n = let e : n - 0 ≡ n = omega arith in ap (λ (i : ℕ). replicate i 0) (sym e)
+drop-zeros (suc k) zero = let e : 0 - suc k ≡ 0 = omega arith in ap (λ (i : ℕ). replicate i 0) (sym e)
+drop-zeros (suc k) (suc n) = let e : n - k ≡ suc n - suc k = omega arith in drop-zeros k n ∙ ap (λ (i : ℕ). replicate i 0) e
+
+stored : (t l : List ℕ) → t ≡ zeros t → length l ≤ length t → sets t 0 l ≡ padded (length t) l
+unfolding zeros padded
+stored t l e h =
+    sets-eq l t 0 (omega arith) ∙ ap (λ (u : List ℕ). l ++ u) (ap₂ (λ (k : ℕ) (u : List ℕ). drop k u) zero-more e ∙ drop-zeros (length l) (length t))
+  where
+    zero-more : 0 + length l ≡ length l
+    zero-more = omega arith
 
 -- ---- the columns
 getD-map : (f : Node → ℕ) (l : List Node) (d : Node) (j : ℕ) → j < length l → getD (map f l) j 0 ≡ f (getD l j d)
@@ -76,106 +101,207 @@ module _ (p : Policy) where
   unfolding nodeRanks node
   ranks-at n l = getD-map (priority p) (forest p) (record { mask = 0; parent = 0; level = 0; accepted = false }) n l
 
--- ---- tables that hold the first n nodes
-pub begun-none : (p : Policy) (m₀ q₀ r₀ m q r : List ℕ) → length q₀ ≡ length m₀ → length r₀ ≡ length m₀ → m ≡ zeros m₀ → q ≡ zeros q₀ → r ≡ zeros r₀ → Begun p m q r 0
-begun-none p m₀ q₀ r₀ m q r lq lr em eq er = record {
-  at-most = omega arith;
-  few = omega arith;
-  long = omega arith;
-  parents-long = ap length eq ∙ length-zeros q₀ ∙ lq ∙ sym (ap length em ∙ length-zeros m₀);
-  ranks-long = ap length er ∙ length-zeros r₀ ∙ lr ∙ sym (ap length em ∙ length-zeros m₀);
-  masks-are = column-none (nodeMasks p) m m₀ em;
-  parents-are = column-none (nodeParents p) q q₀ eq;
-  ranks-are = column-none (nodeRanks p) r r₀ er;
-}
+  -- ---- how many candidates there are
+  judged-both : (l : List ℕ) → length (filter (λ m. not (differs true (accepting p m))) l) + length (filter (λ m. not (differs false (accepting p m))) l) ≡ length l
+  judged-both [] = omega arith
+  judged-both (x ∷ l) = go (accepting p x) (judged-both l)
+    where
+      f : List ℕ
+      f = filter (λ m. not (differs true (accepting p m))) l
 
-module _ {p : Policy} {m q r : List ℕ} {n : ℕ} (b : Begun p m q r n) where
-  mask-of : (j : ℕ) → j < n → getD m j 0 ≡ maskAt (forest p) j
-  mask-of j h = column-at (nodeMasks p) m n (b .masks-are) (omega (arith, length-masks p, b .at-most)) j h ∙ masks-at p j (omega (arith, b .at-most))
+      h : List ℕ
+      h = filter (λ m. not (differs false (accepting p m))) l
 
-  parent-of : (j : ℕ) → j < n → getD q j 0 ≡ parentAt (forest p) j
-  parent-of j h = column-at (nodeParents p) q n (b .parents-are) (omega (arith, length-parents p, b .at-most)) j h ∙ parents-at p j (omega (arith, b .at-most))
+      go : (b : Bool) → length f + length h ≡ length l → length (cond (not (differs true b)) (x ∷ f) f) + length (cond (not (differs false b)) (x ∷ h) h) ≡ suc (length l)
+      go true e = omega arith
+      go false e = omega arith
 
-  rank-of : (j : ℕ) → j < n → getD r j 0 ≡ priority p (node (forest p) j)
-  rank-of j h = column-at (nodeRanks p) r n (b .ranks-are) (omega (arith, length-ranks p, b .at-most)) j h ∙ ranks-at p j (omega (arith, b .at-most))
+  candidates-few : length (candidates p) ≤ p .states * 2 ^ p .colours
+  unfolding candidates candidatesOf candidateAt
+  candidates-few = omega (arith, flat-few (λ (i : ℕ). candidatesOf p (coloursAt p i)) (p .states) of-few (below (2 ^ p .colours)), ap (λ (k : ℕ). k * p .states) (length-below (2 ^ p .colours)), mul-comm (p .states) (2 ^ p .colours))
+    where
+      one-few : (b : Bool) (x : ℕ) → length (cond b (x ∷ []) []) ≤ 1
+      one-few true x = omega arith
+      one-few false x = omega arith
 
-  pub begun-written : Written p m q n
-  begun-written = record {
-    at-most = b .at-most;
-    few = b .few;
-    masks-long = b .long;
-    parents-long = omega (arith, b .long, b .parents-long);
-    masks-are = mask-of;
-    parents-are = parent-of;
+      at-few : (c v : ℕ) → length (candidateAt p c v) ≤ 1
+      at-few c v = let x = cycleThrough p (coloured p (full p) c) v in one-few (lowestIs p v x && eqb (coloursOf p x) c) x
+
+      of-few : (i : ℕ) → length (candidatesOf p (coloursAt p i)) ≤ p .states
+      of-few i = omega (arith, flat-few (candidateAt p (coloursAt p i)) 1 (at-few (coloursAt p i)) (below (p .states)), length-below (p .states))
+
+  judged-few : length (judged p true) + length (judged p false) ≤ p .states * 2 ^ p .colours
+  unfolding judged
+  judged-few = omega (arith, judged-both (candidates p), candidates-few)
+
+-- ---- space for growing the forest
+module _ (p : Policy) (lawful : legal p ≡ true) where
+  pub most-few : p .states * 2 ^ p .colours ≤ 4096
+  most-few = omega (arith, mul-le-mul-right (2 ^ p .colours) (legal-counts p lawful .states-few), pow-mono (legal-counts p lawful .colours-few))
+
+  -- the lists are filled
+  pub lent-lists : {a r seen kids : List ℕ} {a′ r′ : List ℕ} → Spare p a r seen kids → a′ ≡ judged p true → r′ ≡ judged p false → Lent p a′ r′ seen kids
+  lent-lists {a} {r} {seen} {kids} {a′} {r′} s ea er =
+      let both : length a′ + length r′ ≤ p .states * 2 ^ p .colours = omega (arith, ap length ea, ap length er, judged-few p) in
+      record {
+        accepting-few = omega (arith, most-few);
+        rejecting-few = omega (arith, most-few);
+        seen-long = omega (arith, s .seen-long);
+        seen-none = s .seen-none;
+        kids-long = omega (arith, s .kids-long, mul-le-mul-left (p .colours) (longer both));
+      }
+    where
+      longer : length a′ + length r′ ≤ p .states * 2 ^ p .colours → max (length a′) (length r′) ≤ p .states * 2 ^ p .colours
+      longer h = omega arith
+
+  module _ {a r rs seen kids : List ℕ} (s : Sought p a r rs) (l : Lent p a r seen kids) where
+    pub lent-ground : Ground p a r
+    lent-ground = record {
+      lawful = lawful;
+      accepting-are = s .accepting-are;
+      rejecting-are = s .rejecting-are;
+      accepting-few = l .accepting-few;
+      rejecting-few = l .rejecting-few;
+    }
+
+    pub lent-room : {masks parents ranks : List ℕ} {places : ℕ} → Cleared masks parents ranks → places ≡ min (length masks) 65535 → Room p (a ++ r) masks parents seen places 0
+    lent-room {masks} {parents} {ranks} {places} c e = record {
+      few = omega arith;
+      at-most = omega arith;
+      masks-long = omega arith;
+      parents-long = omega (arith, c .parents-long);
+      seen-long = omega (arith, length-append a r, l .seen-long);
+      seen-are = record { size-is = λ i b z. absurd (z (l .seen-none i)); stands = λ i b z. absurd (z (l .seen-none i)) };
+    }
+
+-- ---- masks and parents as they are grown
+module _ {p : Policy} {m₀ q₀ r₀ m q : List ℕ} {places n : ℕ} (c : Cleared m₀ q₀ r₀) (e : places ≡ min (length m₀) 65535) (g : AllGrown p places n m₀ q₀ m q) (h : n ≤ places) where
+  pub grown-masks : m ≡ padded (length m₀) (nodeMasks p)
+  grown-masks = g .masks-are h ∙ stored m₀ (nodeMasks p) (c .masks-are) (omega (arith, g .next-is, length-masks p))
+
+  pub grown-parents : q ≡ padded (length q₀) (nodeParents p)
+  grown-parents = g .parents-are h ∙ stored q₀ (nodeParents p) (c .parents-are) (omega (arith, g .next-is, length-parents p, c .parents-long))
+
+  pub grown-written : length m ≡ length m₀ → length q ≡ length q₀ → Written p m q n
+  grown-written lm lq = record {
+    all = omega (arith, g .next-is);
+    few = omega arith;
+    masks-long = omega arith;
+    parents-long = omega (arith, c .parents-long);
+    masks-are = λ j k. ap (λ (t : List ℕ). getD t j 0) grown-masks ∙ getD-padded (length m₀) (nodeMasks p) j (omega (arith, length-masks p, g .next-is)) ∙ masks-at p j (omega (arith, g .next-is));
+    parents-are = λ j k. ap (λ (t : List ℕ). getD t j 0) grown-parents ∙ getD-padded (length q₀) (nodeParents p) j (omega (arith, length-parents p, g .next-is)) ∙ parents-at p j (omega (arith, g .next-is));
   }
 
-  module _ (lawful : legal p ≡ true) (l : n < length (forest p)) where
-    -- a child's parent stands before it
-    parent-before : parentAt (forest p) n ≢ 65535 → (rootAt (forest p) n ≡ false) × (parentAt (forest p) n < n)
-    parent-before h = go (test (rootAt (forest p) n))
-      where
-        go : (rootAt (forest p) n ≡ true) ⊎ (rootAt (forest p) n ≡ false) → (rootAt (forest p) n ≡ false) × (parentAt (forest p) n < n)
-        go (inl t) = absurd (h (numbers p lawful .root-parent n l t))
-        go (inr f) = (f, laws p lawful .parent-lt n l f)
+-- ---- the first n priorities are written
+pub record Ranking (p : Policy) (r₀ r : List ℕ) (n : ℕ) : Type 0 where
+  pub at-most : n ≤ length (forest p)
+  pub long : length r ≡ length r₀
+  pub are : r ≡ padded (length r) (take n (nodeRanks p))
 
-    -- so its priority is there, and small enough to count on
-    pub rank-fits : {x : ℕ} → x ≡ parentAt (forest p) n → x ≢ 65535 → (x < length r) × (getD r x 0 < 255)
-    rank-fits {x} e h = rw e (omega (arith, lt, b .long, b .ranks-long), omega (arith, rank-of (parentAt (forest p) n) lt, priority-few p (node (forest p) (parentAt (forest p) n)), laws p lawful .levels (parentAt (forest p) n) (omega (arith, lt, l)), legal-counts p lawful .colours-few))
-      where
-        lt : parentAt (forest p) n < n
-        lt = parent-before (λ z. h (e ∙ z)) .1
+pub ranking-none : (p : Policy) (r : List ℕ) → r ≡ zeros r → Ranking p r r 0
+ranking-none p r e = record { at-most = omega arith; long = refl; are = column-none (nodeRanks p) r e }
 
-    rank-is : rankOf p r (maskAt (forest p) n) (parentAt (forest p) n) ≡ priority p (node (forest p) n)
-    unfolding rankOf
-    rank-is = go (test (rootAt (forest p) n))
-      where
-        go : (rootAt (forest p) n ≡ true) ⊎ (rootAt (forest p) n ≡ false)
-            → cond (eqb (parentAt (forest p) n) 65535) (cond (accepting p (maskAt (forest p) n)) 0 1) (getD r (parentAt (forest p) n) 0 + 1) ≡ priority p (node (forest p) n)
-        go (inl t) = rw (≡eqb (parentAt (forest p) n) 65535 (numbers p lawful .root-parent n l t)) (sym (priority-root p (node (forest p) n) t ∙ ap (λ (a : Bool). cond a 0 1) (numbers p lawful .accepted-root n l t)))
-        go (inr f) =
-            let lt : parentAt (forest p) n < n = laws p lawful .parent-lt n l f in
-            rw (neqb (parentAt (forest p) n) 65535 (λ z. omega (arith, z, lt, b .few)))
-            (ap (λ (k : ℕ). k + 1) (rank-of (parentAt (forest p) n) lt)
-            ∙ sym (priority-child p (node (forest p) (parentAt (forest p) n)) (node (forest p) n) (numbers p lawful .level-up n l f) (numbers p lawful .accepted-child n l f)))
+module _ {p : Policy} (lawful : legal p ≡ true) {masks parents r₀ r : List ℕ} {count n : ℕ} (w : Written p masks parents count) (v : Ranking p r₀ r n) (room : count ≤ length r₀) where
+  pub ranking-all : count ≤ n → r ≡ padded (length r₀) (nodeRanks p)
+  ranking-all h = column-whole (nodeRanks p) r n (v .are) (omega (arith, length-ranks p, w .all)) ∙ ap (λ (k : ℕ). padded k (nodeRanks p)) (v .long)
 
-    -- one more node
-    pub begun-more : {x y z : ℕ} → n < min (length m) 65535 → x ≡ maskAt (forest p) n → y ≡ parentAt (forest p) n → z ≡ rankOf p r x y → Begun p (set m n x) (set q n y) (set r n z) (n + 1)
-    begun-more {x} {y} {z} h ex ey ez = record {
-      at-most = omega arith;
-      few = omega arith;
-      long = omega (arith, length-set m n x);
-      parents-long = length-set q n y ∙ b .parents-long ∙ sym (length-set m n x);
-      ranks-long = length-set r n z ∙ b .ranks-long ∙ sym (length-set m n x);
-      masks-are = column-more (nodeMasks p) m n (b .masks-are) (omega (arith, length-masks p)) (omega arith) x (ex ∙ sym (masks-at p n l));
-      parents-are = column-more (nodeParents p) q n (b .parents-are) (omega (arith, length-parents p)) (omega (arith, b .parents-long)) y (ey ∙ sym (parents-at p n l));
-      ranks-are = column-more (nodeRanks p) r n (b .ranks-are) (omega (arith, length-ranks p)) (omega (arith, b .ranks-long)) z (ez ∙ ap₂ (rankOf p r) ex ey ∙ rank-is ∙ sym (ranks-at p n l));
+  module _ (l : n < count) where
+    here : n < length (forest p)
+    here = omega (arith, w .all)
+
+    laws : ForestLaws p (forest p)
+    laws = forest-laws p lawful
+
+    numbers : Numbered p (forest p)
+    numbers = numbered p (child-fewer p) (root-few p) (ordered-children p) (ordered-roots p)
+
+    ranking-more : {x : ℕ} → x ≡ priority p (node (forest p) n) → Ranking p r₀ (set r n x) (n + 1)
+    ranking-more {x} e = record {
+      at-most = omega (arith, w .all);
+      long = length-set r n x ∙ v .long;
+      are = column-more (nodeRanks p) r n (v .are) (omega (arith, length-ranks p, w .all)) (omega (arith, v .long)) x (e ∙ sym (ranks-at p n here));
     }
+
+    -- a root
+    pub ranking-root : {x : ℕ} → getD parents n 0 ≡ 65535 → x ≡ cond (accepting p (getD masks n 0)) 0 1 → Ranking p r₀ (set r n x) (n + 1)
+    ranking-root {x} q e = ranking-more (e ∙ ap (λ (m : ℕ). cond (accepting p m) 0 1) (w .masks-are n l) ∙ sym (priority-root p (node (forest p) n) root ∙ ap (λ (b : Bool). cond b 0 1) (numbers .accepted-root n here root)))
+      where
+        root : rootAt (forest p) n ≡ true
+        root = go (test (rootAt (forest p) n))
+          where
+            go : (rootAt (forest p) n ≡ true) ⊎ (rootAt (forest p) n ≡ false) → rootAt (forest p) n ≡ true
+            go (inl t) = t
+            go (inr f) = absurd (omega (arith, laws .parent-lt n here f, w .parents-are n l, w .few))
+
+    -- a child: its parent's priority is there, and small enough to count on
+    module _ (q : getD parents n 0 ≢ 65535) where
+      child : rootAt (forest p) n ≡ false
+      child = go (test (rootAt (forest p) n))
+        where
+          go : (rootAt (forest p) n ≡ true) ⊎ (rootAt (forest p) n ≡ false) → rootAt (forest p) n ≡ false
+          go (inl t) = absurd (q (w .parents-are n l ∙ numbers .root-parent n here t))
+          go (inr f) = f
+
+      before : getD parents n 0 < n
+      before = omega (arith, w .parents-are n l, laws .parent-lt n here child)
+
+      rank-before : getD r (getD parents n 0) 0 ≡ priority p (node (forest p) (parentAt (forest p) n))
+      rank-before =
+          column-at (nodeRanks p) r n (v .are) (omega (arith, length-ranks p, v .at-most)) (getD parents n 0) before ∙ ranks-at p (getD parents n 0) (omega (arith, before, here))
+          ∙ ap (λ (i : ℕ). priority p (node (forest p) i)) (w .parents-are n l)
+
+      pub ranking-parent : (getD parents n 0 < length r) × (getD r (getD parents n 0) 0 < 255)
+      ranking-parent = (
+        omega (arith, before, v .long),
+        omega (arith, rank-before, priority-few p (node (forest p) (parentAt (forest p) n)), laws .levels (parentAt (forest p) n) (omega (arith, before, here, w .parents-are n l)), legal-counts p lawful .colours-few),
+      )
+
+      pub ranking-child : Ranking p r₀ (set r n (getD r (getD parents n 0) 0 + 1)) (n + 1)
+      ranking-child = ranking-more (ap (λ (k : ℕ). k + 1) rank-before ∙ sym (priority-child p (node (forest p) (parentAt (forest p) n)) (node (forest p) n) (numbers .level-up n here child) (numbers .accepted-child n here child)))
 
 -- ---- what filling gives
 module _ (p : Policy) (m₀ q₀ r₀ : List ℕ) where
   -- all nodes are written
-  pub filled-whole : {m q r : List ℕ} {n : ℕ} → Begun p m q r n → n ≡ length (forest p) → length m ≡ length m₀ → length q ≡ length q₀ → length r ≡ length r₀
+  pub filled-whole : {m q r : List ℕ} {n : ℕ} → n ≡ length (forest p) → n ≤ min (length m₀) 65535 → m ≡ padded (length m₀) (nodeMasks p) → q ≡ padded (length q₀) (nodeParents p) → r ≡ padded (length r₀) (nodeRanks p)
       → (Nodes n ≡ fillingOf p (nodeTables m₀ q₀ r₀)) × (nodeTables m q r ≡ filledOf p (nodeTables m₀ q₀ r₀))
   unfolding fillingOf filledOf nodesFit
-  filled-whole {m} {q} {r} {n} b e lm lq lr =
-      rw (le-leb (length (forest p)) (min (length m₀) 65535) (omega (arith, e, b .few, b .long, lm))) (
-        ap (λ (k : ℕ). Nodes k) e,
-        λ i. nodeTables ((column-whole (nodeMasks p) m n (b .masks-are) (omega (arith, e, length-masks p)) ∙ ap (λ (k : ℕ). padded k (nodeMasks p)) lm) i)
-            ((column-whole (nodeParents p) q n (b .parents-are) (omega (arith, e, length-parents p)) ∙ ap (λ (k : ℕ). padded k (nodeParents p)) lq) i)
-            ((column-whole (nodeRanks p) r n (b .ranks-are) (omega (arith, e, length-ranks p)) ∙ ap (λ (k : ℕ). padded k (nodeRanks p)) lr) i),
-      )
+  filled-whole {m} {q} {r} {n} e h em eq er =
+      rw (le-leb (length (forest p)) (min (length m₀) 65535) (omega (arith, e))) (ap (λ (k : ℕ). Nodes k) e, λ i. nodeTables (em i) (eq i) (er i))
 
-  -- there is one more node than places
-  pub filled-none : {n : ℕ} (m₁ q₁ r₁ : List ℕ) {m q r : List ℕ} → n < length (forest p) → n ≡ min (length m₀) 65535
-      → length m₁ ≡ length m₀ → length q₁ ≡ length q₀ → length r₁ ≡ length r₀ → (m ≡ zeros m₁) × (q ≡ zeros q₁) × (r ≡ zeros r₁)
-      → (TooMany ≡ fillingOf p (nodeTables m₀ q₀ r₀)) × (nodeTables m q r ≡ filledOf p (nodeTables m₀ q₀ r₀))
+  -- there are more nodes than places
+  pub filled-none : (m₁ q₁ r₁ : List ℕ) {m q r : List ℕ} → min (length m₀) 65535 < length (forest p) → length m₁ ≡ length m₀ → length q₁ ≡ length q₀ → length r₁ ≡ length r₀
+      → (m ≡ zeros m₁) × (q ≡ zeros q₁) × (r ≡ zeros r₁) → (TooMany ≡ fillingOf p (nodeTables m₀ q₀ r₀)) × (nodeTables m q r ≡ filledOf p (nodeTables m₀ q₀ r₀))
   unfolding fillingOf filledOf nodesFit
-  filled-none {n} m₁ q₁ r₁ l e lm lq lr z =
-      rw (lt-leb (length (forest p)) (min (length m₀) 65535) (omega (arith, e)))
-      (refl, λ i. nodeTables ((z .0 ∙ zeros-same m₁ m₀ lm) i) ((z .1 ∙ zeros-same q₁ q₀ lq) i) ((z .2 ∙ zeros-same r₁ r₀ lr) i))
+  filled-none m₁ q₁ r₁ l lm lq lr z =
+      rw (lt-leb (length (forest p)) (min (length m₀) 65535) l) (refl, λ i. nodeTables ((z .0 ∙ zeros-same m₁ m₀ lm) i) ((z .1 ∙ zeros-same q₁ q₀ lq) i) ((z .2 ∙ zeros-same r₁ r₀ lr) i))
 
   -- it goes by the lengths alone
   pub filled-same : (m₁ q₁ r₁ : List ℕ) → length m₁ ≡ length m₀ → length q₁ ≡ length q₀ → length r₁ ≡ length r₀
       → (fillingOf p (nodeTables m₁ q₁ r₁) ≡ fillingOf p (nodeTables m₀ q₀ r₀)) × (filledOf p (nodeTables m₁ q₁ r₁) ≡ filledOf p (nodeTables m₀ q₀ r₀))
   unfolding fillingOf filledOf nodesFit zeros
   filled-same m₁ q₁ r₁ lm lq lr = rw (lm, lq, lr) (refl, refl)
+
+-- tables just cleared
+pub cleared-zeros : (m₀ q₀ r₀ : List ℕ) {m q r : List ℕ} → length q₀ ≡ length m₀ → length r₀ ≡ length m₀ → (m ≡ zeros m₀) × (q ≡ zeros q₀) × (r ≡ zeros r₀) → Cleared m q r
+cleared-zeros m₀ q₀ r₀ {m} {q} {r} lq lr z = record {
+  parents-long = ap length (z .1) ∙ length-zeros q₀ ∙ lq ∙ sym (ap length (z .0) ∙ length-zeros m₀);
+  ranks-long = ap length (z .2) ∙ length-zeros r₀ ∙ lr ∙ sym (ap length (z .0) ∙ length-zeros m₀);
+  masks-are = z .0 ∙ zeros-same m₀ m (sym (ap length (z .0) ∙ length-zeros m₀));
+  parents-are = z .1 ∙ zeros-same q₀ q (sym (ap length (z .1) ∙ length-zeros q₀));
+  ranks-are = z .2 ∙ zeros-same r₀ r (sym (ap length (z .2) ∙ length-zeros r₀));
+}
+
+pub none-seen : (n i : ℕ) → getD {A = ℕ} (replicate n 0) i 0 ≡ 0
+none-seen zero i = refl
+none-seen (suc n) zero = refl
+none-seen (suc n) (suc i) = none-seen n i
+
+-- space for so many candidates
+pub spare-of : (p : Policy) → legal p ≡ true → (k : ℕ) {a r seen kids : List ℕ} → p .states * 2 ^ p .colours ≤ k → length a ≡ k → length r ≡ k → seen ≡ replicate k 0 → length kids ≡ 8 * k → Spare p a r seen kids
+spare-of p lawful k {a} {r} {seen} {kids} h ea er es ek = record {
+  accepting-long = omega arith;
+  rejecting-long = omega arith;
+  seen-long = omega (arith, ap length es, length-replicate {A = ℕ} k 0);
+  seen-none = λ i. ap (λ (t : List ℕ). getD t i 0) es ∙ none-seen k i;
+  kids-long = omega (arith, mul-le-mul-left (p .colours) h, mul-le-mul-right k (legal-counts p lawful .colours-few));
+}

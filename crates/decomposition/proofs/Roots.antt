@@ -20,7 +20,6 @@ use Rattle.policy.proofs.Laws.{colours-lt}
 use Rattle.graph.proofs.Cycles.{cycle-some}
 use Rattle.decomposition.specs.Forest.{Node, before, forest, inOrder, roots}
 use Rattle.decomposition.specs.Laws.{Ordered}
-use Rattle.decomposition.specs.Next.{firstIn, afterIn}
 use Rattle.decomposition.specs.Candidates.{rootCandidates}
 use Rattle.decomposition.specs.Siblings.{nextIn}
 use Rattle.decomposition.specs.NodeTables.{nodeMasks}
@@ -51,11 +50,11 @@ after-at (x ∷ l) o (suc j) h = rw (back (test (before (getD l j 0) x))) (after
     back (inr f) = f
 
 next-at : (l : List ℕ) → Ordered l → (j : ℕ) → j < length l → getD l j 0 ≢ 0 → nextIn (getD l j 0) l ≡ getD l (j + 1) 0
-unfolding nextIn afterIn
+unfolding nextIn
 next-at l o j h z = rw (neqb (getD l j 0) 0 z) (after-at l o j h ∙ ap (λ (i : ℕ). getD l i 0) (sym (add-one j)))
 
 next-first : (l : List ℕ) → nextIn 0 l ≡ getD l 0 0
-unfolding nextIn firstIn
+unfolding nextIn
 next-first l = first-at l
 
 nodes-many : (p : Policy) → length (nodeMasks p) ≡ length (forest p)

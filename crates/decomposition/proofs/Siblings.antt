@@ -1,27 +1,23 @@
 -- A search through a list of masks that keeps the best mask so far ends with the next sibling: the least by the sibling order of the masks that pass is the first
 -- of the ordered list of them. Assumes nothing.
 use Prim.Native.Nat.{ℕ, _+_, _≤_, _<_}
-use native.Mathlib.Omega.{arith}
 use native.Mathlib.Decide.{ℕ-discrete}
 use native.Mathlib.Numerals.{add-one}
 use mathlib.Core.Path.{_≡_, refl, sym, ap, _∙_, subst}
 use mathlib.Core.Logic.{_⊎_, inl, inr, _≢_}
-use mathlib.Core.Bool.{Bool, true, false, not, _&&_, _||_, cond, true≢false}
+use mathlib.Core.Bool.{Bool, true, false, _&&_, _||_, cond, true≢false}
 use mathlib.Core.List.{List, [], _∷_, _++_, List·Memᴰ, List·Memᴰ·head, List·Memᴰ·cases-cons, List·Memᴰ·not-nil, List·Memᴰ·append-cases, List·Memᴰ·eq-of-singleton, Memᴰ·append-left, Memᴰ·append-right}
 use lib.Dec.{eqb}
 use lib.ListN.{length, getD, take}
 use lib.Seq.{take-suc, take-all}
-use Rattle.lists.specs.Lists.{any, filter, firstOr, Distinct}
-use Rattle.lists.proofs.Bools.{test, ≡eqb, neqb, and-l, and-r, both, not-true}
-use Rattle.lists.proofs.Lists.{some-any, mem-at, none-any, none-true, filter-mem, mem-filter, getD-mem}
-use Rattle.masks.specs.Masks.{properly}
-use Rattle.decomposition.specs.Forest.{before, inOrder, largest}
+use Rattle.lists.specs.Lists.{filter, firstOr, Distinct}
+use Rattle.lists.proofs.Bools.{test, ≡eqb, neqb}
+use Rattle.lists.proofs.Lists.{filter-mem, mem-filter, getD-mem}
+use Rattle.decomposition.specs.Forest.{before, inOrder}
 use Rattle.decomposition.specs.Laws.{Ordered}
-use Rattle.decomposition.specs.Next.{firstIn, afterIn}
-use Rattle.decomposition.specs.Siblings.{childrenIn, nextIn, around, isLargest, standsAfter, better, rootBetter, childBetter}
+use Rattle.decomposition.specs.Siblings.{nextIn, standsAfter, better, rootBetter}
 use Rattle.decomposition.proofs.Order.{before-irreflexive, before-transitive, before-total, order-mem, mem-order}
-use Rattle.decomposition.proofs.Distinct.{distinct-filter, distinct-ordered, distinct-largest}
-use Rattle.decomposition.proofs.Largest.{largest-order-mem, mem-largest}
+use Rattle.decomposition.proofs.Distinct.{distinct-ordered}
 
 -- ---- the least of the members that pass
 -- r is 0 and none passes, or r is the member that passes and stands before the others
@@ -126,7 +122,7 @@ ordered-filter t (x ∷ l) o = go (t x) (ordered-filter t l (o .1))
     go false r = r
 
 next-first : (a : ℕ) (o : List ℕ) → nextIn a o ≡ firstOr 0 (filter (standsAfter a) o)
-unfolding nextIn firstIn afterIn standsAfter
+unfolding nextIn standsAfter
 next-first a o = go (test (eqb a 0))
   where
     whole : (l : List ℕ) → filter (λ (m : ℕ). true || before a m) l ≡ l
@@ -152,84 +148,3 @@ root-end l a i r d h v =
   where
     sound : (x : ℕ) → List·Memᴰ x (filter (standsAfter a) (inOrder l)) → List·Memᴰ x l × (standsAfter a x ≡ true)
     sound x k = let q = filter-mem (standsAfter a) (inOrder l) x k in (order-mem l x (q .0), q .1)
-
--- ---- the search among the children of n
--- m is one that stands after a
-unfoldable pub childAfter : List ℕ → ℕ → ℕ → ℕ → Bool
-childAfter l n a m = properly m n && (standsAfter a m && isLargest l m n)
-
-child-better : (l : List ℕ) (n a b m : ℕ) → childBetter l n a b m ≡ childAfter l n a m && better b m
-unfolding childBetter childAfter rootBetter
-child-better l n a b m = go (properly m n) (standsAfter a m) (better b m) (isLargest l m n)
-  where
-    go : (x y z w : Bool) → x && ((y && z) && w) ≡ (x && (y && w)) && z
-    go false y z w = refl
-    go true false z w = refl
-    go true true false false = refl
-    go true true false true = refl
-    go true true true false = refl
-    go true true true true = refl
-
-module _ (l : List ℕ) (n : ℕ) where
-  abbrev within : List ℕ
-  within = filter (λ (m : ℕ). properly m n) l
-
-  children-mem : (x : ℕ) → List·Memᴰ x (childrenIn l n) → List·Memᴰ x l × (properly x n ≡ true) × (isLargest l x n ≡ true)
-  unfolding childrenIn isLargest around
-  children-mem x k =
-      let q = largest-order-mem within x k in
-      let w = filter-mem (λ (m : ℕ). properly m n) l x (q .0) in
-      (w .0, w .1, ap not (none-true (λ (y : ℕ). around y x n) l (λ y m. outside (q .1) y m (test (properly y n)))))
-    where
-      outside : ((y : ℕ) → List·Memᴰ y within → properly x y ≡ false) → (y : ℕ) → List·Memᴰ y l → (properly y n ≡ true) ⊎ (properly y n ≡ false) → properly y n && properly x y ≡ false
-      outside h y m (inl t) = rw t (h y (mem-filter (λ (z : ℕ). properly z n) l y m t))
-      outside h y m (inr f) = rw f refl
-
-  mem-children : (x : ℕ) → List·Memᴰ x l → properly x n ≡ true → isLargest l x n ≡ true → List·Memᴰ x (childrenIn l n)
-  unfolding childrenIn isLargest around
-  mem-children x k t h =
-      mem-order (largest within) x
-      (mem-largest within x (mem-filter (λ (m : ℕ). properly m n) l x k t)
-      (λ y m. let w = filter-mem (λ (m : ℕ). properly m n) l y m in let q = none-any (λ (y : ℕ). around y x n) l (not-true (any (λ (y : ℕ). around y x n) l) h) y (w .0) in (rw (w .1) at q)))
-
-  pub child-turn : (a i b r : ℕ) (u : Bool) → i < length l → ((x : ℕ) → List·Memᴰ x l → x ≢ 0) → u ≡ childBetter l n a b (getD l i 0) → r ≡ cond u (getD l i 0) b → Least (childAfter l n a) (take i l) b
-      → Least (childAfter l n a) (take (i + 1) l) r
-  child-turn a i b r u h nonzero d c v = least-turn (childAfter l n a) l i b r u h nonzero (d ∙ child-better l n a b (getD l i 0)) c v
-
-  -- all are seen
-  pub child-end : (a i r : ℕ) → Distinct l → length l ≤ i → Least (childAfter l n a) (take i l) r → r ≡ nextIn a (childrenIn l n)
-  unfolding childrenIn childAfter
-  child-end a i r d h v =
-      least-first (childAfter l n a) l (filter (standsAfter a) (childrenIn l n)) r
-      (ordered-filter (standsAfter a) (childrenIn l n) (distinct-ordered (largest within) (distinct-largest within (distinct-filter (λ (m : ℕ). properly m n) l d)))) sound complete
-      (subst (λ (z : List ℕ). Least (childAfter l n a) z r) (take-all i l h) v)
-      ∙ sym (next-first a (childrenIn l n))
-    where
-      sound : (x : ℕ) → List·Memᴰ x (filter (standsAfter a) (childrenIn l n)) → List·Memᴰ x l × (childAfter l n a x ≡ true)
-      sound x k =
-          let q = filter-mem (standsAfter a) (childrenIn l n) x k in
-          let w = children-mem x (q .0) in
-          (w .0, both (properly x n) (standsAfter a x && isLargest l x n) (w .1) (both (standsAfter a x) (isLargest l x n) (q .1) (w .2)))
-
-      complete : (x : ℕ) → List·Memᴰ x l → childAfter l n a x ≡ true → List·Memᴰ x (filter (standsAfter a) (childrenIn l n))
-      complete x k t =
-          let u : standsAfter a x && isLargest l x n ≡ true = and-r (properly x n) (standsAfter a x && isLargest l x n) t in
-          mem-filter (standsAfter a) (childrenIn l n) x (mem-children x k (and-l (properly x n) (standsAfter a x && isLargest l x n) t) (and-r (standsAfter a x) (isLargest l x n) u))
-          (and-l (standsAfter a x) (isLargest l x n) u)
-
--- ---- whether one lies around m
--- one more place
-pub none-more : (t : ℕ → Bool) (i : ℕ) → ((j : ℕ) → j < i → t j ≡ false) → t i ≡ false → (j : ℕ) → j < i + 1 → t j ≡ false
-none-more t i h f j l = go (ℕ-discrete j i)
-  where
-    go : Dec (j ≡ i) → t j ≡ false
-    go (yes e) = ap t e ∙ f
-    go (no k) = h j (omega arith)
-
-pub largest-not : (l : List ℕ) (m n i : ℕ) → i < length l → around (getD l i 0) m n ≡ true → isLargest l m n ≡ false
-unfolding isLargest
-largest-not l m n i h t = ap not (some-any (λ (x : ℕ). around x m n) l (getD l i 0) (getD-mem l i 0 h) t)
-
-pub largest-is : (l : List ℕ) (m n : ℕ) → ((j : ℕ) → j < length l → around (getD l j 0) m n ≡ false) → isLargest l m n ≡ true
-unfolding isLargest
-largest-is l m n h = ap not (none-true (λ (x : ℕ). around x m n) l (λ x k. let q = mem-at l 0 x k in sym (ap (λ (z : ℕ). around z m n) (q .2)) ∙ h (q .0) (q .1)))

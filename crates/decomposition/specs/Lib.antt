@@ -1,6 +1,5 @@
 pub mod Forest
 pub mod Laws
-pub mod Next
 pub mod Candidates
 pub mod Siblings
 pub mod NodeTables

@@ -1,14 +1,11 @@
 -- The node tables (document 01, "Cycles and the forest"): the columns of the forest, what is written of them on the way, and what filling them gives.
-use Prim.Native.Nat.{ℕ, _+_, _≤_, _<_, min}
+use Prim.Native.Nat.{ℕ, _+_, _*_, _^_, _≤_, _<_, min, max}
 use mathlib.Core.Path.{_≡_}
-use mathlib.Core.Logic.{_≢_}
 use mathlib.Core.Bool.{Bool, true, false, cond}
-use mathlib.Core.List.{List, map, List·Memᴰ}
-use lib.Dec.{eqb, leb}
-use lib.ListN.{length, getD, take}
-use Rattle.lists.specs.Lists.{Distinct}
+use mathlib.Core.List.{List, map}
+use lib.Dec.{leb}
+use lib.ListN.{length, getD}
 use Rattle.policy.specs.declared.Policy.{Policy}
-use Rattle.policy.specs.Policies.{accepting}
 use Rattle.tables.specs.Tables.{padded, zeros}
 use Rattle.decomposition.specs.declared.nodes.Filled.{Filled}
 use Rattle.decomposition.specs.declared.nodes.Filled.the-variants.{Nodes, TooMany}
@@ -25,39 +22,45 @@ module _ (p : Policy) where
   unfoldable pub nodeRanks : List ℕ
   nodeRanks = map (priority p) (forest p)
 
--- what a search asks of a list of masks: no mask twice, and no mask 0
-abbrev pub Searched : List ℕ → Type 0
-Searched l = Distinct l × ((x : ℕ) → List·Memᴰ x l → x ≢ 0)
-
 -- the lists that nodes are looked for in: the candidates of either verdict, and those for roots
 pub record Sought (p : Policy) (accepting rejecting roots : List ℕ) : Type 0 where
   pub accepting-are : accepting ≡ judged p true
   pub rejecting-are : rejecting ≡ judged p false
   pub roots-are : roots ≡ rootCandidates p
 
--- the first n places of two tables hold mask and parent of the first n nodes
+-- three tables of one length, with 0 in every place
+pub record Cleared (masks parents ranks : List ℕ) : Type 0 where
+  pub parents-long : length parents ≡ length masks
+  pub ranks-long : length ranks ≡ length masks
+  pub masks-are : masks ≡ zeros masks
+  pub parents-are : parents ≡ zeros parents
+  pub ranks-are : ranks ≡ zeros ranks
+
+-- the n nodes of the forest: their masks and parents in two tables
 pub record Written (p : Policy) (masks parents : List ℕ) (n : ℕ) : Type 0 where
-  pub at-most : n ≤ length (forest p)
+  pub all : n ≡ length (forest p)
   pub few : n ≤ 65535
   pub masks-long : n ≤ length masks
   pub parents-long : n ≤ length parents
   pub masks-are : (j : ℕ) → j < n → getD masks j 0 ≡ node (forest p) j .mask
   pub parents-are : (j : ℕ) → j < n → getD parents j 0 ≡ node (forest p) j .parent
 
--- the priority of a node, from its mask, its parent and the priorities before it: a root's goes by its verdict, a child's is one more than its parent's
-unfoldable pub rankOf : Policy → List ℕ → ℕ → ℕ → ℕ
-rankOf p ranks mask parent = cond (eqb parent 65535) (cond (accepting p mask) 0 1) (getD ranks parent 0 + 1)
+-- ---- space that is lent
+-- for growing trees: no tree is seen yet, and there is room for the positions of the children on each level
+pub record Lent (p : Policy) (accepting rejecting seen kids : List ℕ) : Type 0 where
+  pub accepting-few : length accepting ≤ 4096
+  pub rejecting-few : length rejecting ≤ 4096
+  pub seen-long : length accepting + length rejecting ≤ length seen
+  pub seen-none : (i : ℕ) → getD seen i 0 ≡ 0
+  pub kids-long : p .colours * max (length accepting) (length rejecting) ≤ length kids
 
--- three tables of one length hold the first n nodes, and 0 in every place past them
-pub record Begun (p : Policy) (masks parents ranks : List ℕ) (n : ℕ) : Type 0 where
-  pub at-most : n ≤ length (forest p)
-  pub few : n ≤ 65535
-  pub long : n ≤ length masks
-  pub parents-long : length parents ≡ length masks
-  pub ranks-long : length ranks ≡ length masks
-  pub masks-are : masks ≡ padded (length masks) (take n (nodeMasks p))
-  pub parents-are : parents ≡ padded (length parents) (take n (nodeParents p))
-  pub ranks-are : ranks ≡ padded (length ranks) (take n (nodeRanks p))
+-- for listing the candidates and growing trees
+pub record Spare (p : Policy) (accepting rejecting seen kids : List ℕ) : Type 0 where
+  pub accepting-long : p .states * 2 ^ p .colours ≤ length accepting
+  pub rejecting-long : p .states * 2 ^ p .colours ≤ length rejecting
+  pub seen-long : p .states * 2 ^ p .colours ≤ length seen
+  pub seen-none : (i : ℕ) → getD seen i 0 ≡ 0
+  pub kids-long : p .colours * (p .states * 2 ^ p .colours) ≤ length kids
 
 -- ---- what filling the tables gives
 pub record NodeTables : Type 0 where

@@ -2,32 +2,23 @@
 -- 0 stands for none.
 use Prim.Native.Nat.{ℕ, _<_}
 use mathlib.Core.Path.{_≡_}
-use mathlib.Core.Bool.{Bool, false, not, _&&_, _||_, cond}
+use mathlib.Core.Bool.{Bool, false, _&&_, _||_, cond}
 use mathlib.Core.List.{List}
 use lib.Dec.{eqb}
 use lib.ListN.{length, getD}
-use Rattle.lists.specs.Lists.{any, filter}
+use Rattle.lists.specs.Lists.{filter, firstOr}
 use Rattle.masks.specs.Masks.{properly}
 use Rattle.decomposition.specs.Forest.{before, inOrder, largest}
-use Rattle.decomposition.specs.Next.{firstIn, afterIn}
 
 -- the largest of l properly inside n, in sibling order
 unfoldable pub childrenIn : List ℕ → ℕ → List ℕ
 childrenIn l n = inOrder (largest (filter (λ m. properly m n) l))
 
--- the first of some siblings where a is 0, else the first that stands after a
+-- the first of some siblings where a is 0, else the first that stands after a; 0, which is no cycle, where there is none
 unfoldable pub nextIn : ℕ → List ℕ → ℕ
-nextIn a l = let r = afterIn a l in cond (eqb a 0) (firstIn l) r
+nextIn a l = let r = firstOr 0 (filter (before a) l) in cond (eqb a 0) (firstOr 0 l) r
 
 -- ---- what a search for it asks of a mask m
--- x lies around m, and properly inside n
-unfoldable pub around : ℕ → ℕ → ℕ → Bool
-around x m n = properly x n && properly m x
-
--- no member of l properly inside n lies around m
-unfoldable pub isLargest : List ℕ → ℕ → ℕ → Bool
-isLargest l m n = not (any (λ x. around x m n) l)
-
 -- m stands after a, the sibling left
 unfoldable pub standsAfter : ℕ → ℕ → Bool
 standsAfter a m = eqb a 0 || before a m
@@ -38,9 +29,6 @@ better b m = eqb b 0 || before m b
 
 unfoldable pub rootBetter : ℕ → ℕ → ℕ → Bool
 rootBetter a b m = standsAfter a m && better b m
-
-unfoldable pub childBetter : List ℕ → ℕ → ℕ → ℕ → ℕ → Bool
-childBetter l n a b m = properly m n && (rootBetter a b m && isLargest l m n)
 
 -- ---- the order of a list
 -- no member stands before one that it lies properly inside

@@ -5,7 +5,7 @@ ghost use mathlib.Core.List.{List·Memᴰ};
 ghost use Prim.Native.Nat.{ℕ};
 ghost use Rattle.lists.specs.Lists.{Distinct};
 ghost use Rattle.decomposition.specs.Forest.{before, inOrder};
-ghost use Rattle.decomposition.specs.Siblings.{around, isLargest, standsAfter, better, rootBetter, childBetter, childrenIn, nextIn};
+ghost use Rattle.decomposition.specs.Siblings.{standsAfter, better, rootBetter, nextIn};
 
 pub mod listing;
 pub mod nodes;
@@ -19,25 +19,6 @@ pub fn stands_before(a: u64, b: u64) -> bool
     ensures { λ r. ⌜ r ≡ before a b ⌝ }
 {
     a < b
-}
-
-// Whether x lies around m, and properly inside n.
-fn is_around(x: u64, m: u64, n: u64) -> bool
-    ensures { λ r. ⌜ r ≡ around x m n ⌝ }
-{
-    masks::properly_inside(x, n) && masks::properly_inside(m, x)
-}
-
-// Whether no mask of the list that is properly inside n lies around m.
-pub fn is_largest(list: &[u64], m: u64, n: u64) -> bool
-    ensures { λ r. ⌜ r ≡ isLargest (now (list .entry)) m n ⌝ }
-{
-    for i in 0..list.len() {
-        if is_around(list[i], m, n) {
-            return false;
-        }
-    }
-    true
 }
 
 // Whether m stands after the sibling `after`.
@@ -58,28 +39,6 @@ fn is_better_root(after: u64, best: u64, m: u64) -> bool
     ensures { λ r. ⌜ r ≡ rootBetter after best m ⌝ }
 {
     stands_after(after, m) && is_better(best, m)
-}
-
-// Few masks pass the first two tests, so the walk through the list comes last.
-fn is_better_child(list: &[u64], n: u64, after: u64, best: u64, m: u64) -> bool
-    ensures { λ r. ⌜ r ≡ childBetter (now (list .entry)) n after best m ⌝ }
-{
-    masks::properly_inside(m, n) && (is_better_root(after, best, m) && is_largest(list, m, n))
-}
-
-// The first child of n in the list that stands after `after`; the first of all where `after` is 0; 0 where there is none.
-pub fn next_child(list: &[u64], n: u64, after: u64) -> u64
-    requires { ⌜ Distinct (now list) × ((x : ℕ) → List·Memᴰ x (now list) → x ≢ 0) ⌝ }
-    ensures { λ r. ⌜ r ≡ nextIn after (childrenIn (now (list .entry)) n) ⌝ }
-{
-    let mut best: u64 = 0;
-    for i in 0..list.len() {
-        let m = list[i];
-        if is_better_child(list, n, after, best, m) {
-            best = m;
-        }
-    }
-    best
 }
 
 // The first root in the list that stands after `after`; the first of all where `after` is 0; 0 where there is none.

@@ -1,0 +1,17 @@
+-- `nodes::root_rank` meets its contract. Assumes nothing.
+use mathlib.Core.Path.{refl, sym, _∙_}
+use borrow.Author.Needs.{needs}
+use Rattle.decomposition.proofs.nodes.root_rank.Statement.{statement}
+use Rattle.decomposition.proofs.nodes.root_rank.Tie as tie
+
+is-accepting-requires : tie.Need-is-accepting-requires
+is-accepting-requires c κs = search needs
+
+returns : tie.Need-returns
+returns c = rw (sym (c .before .is-accepting .ensures) ∙ c .if1 .taken) refl
+
+returns-2 : tie.Need-returns-2
+returns-2 c = rw (sym (c .before .is-accepting .ensures) ∙ c .if1 .left) refl
+
+pub root-rank-spec : {M : Type 1} → statement M
+root-rank-spec = tie.close (tie.spec is-accepting-requires returns returns-2)
