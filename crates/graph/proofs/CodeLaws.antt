@@ -9,22 +9,23 @@ use native.Mathlib.Numerals.{add-one}
 use mathlib.Core.Path.{_≡_, refl, sym, ap, _∙_, subst}
 use mathlib.Core.Logic.{_⊎_, inl, inr}
 use mathlib.Core.Bool.{Bool, true, false, _&&_, cond, and-true, and-false, false≢true}
-use mathlib.Core.List.{List, [], _∷_}
+use mathlib.Core.List.{List, [], _∷_, List·Memᴰ}
 use lib.Dec.{eqb}
 use lib.Bits.{bitOr}
 use lib.ListN.{length, getD, set, replicate, length-set, length-replicate}
 use lib.Seq.{getD-set-same, getD-set-other}
-use Rattle.lists.proofs.Bools.{test, or-cases, or-left, or-right, eqb≡, ≡eqb, bool-ext}
+use Rattle.lists.proofs.Bools.{test, or-cases, or-left, or-right, and-l, and-r, both, eqb≡, ≡eqb, bool-ext}
 use Rattle.masks.specs.Masks.{has, insert, gather, members}
-use Rattle.masks.proofs.Gather.{gather-none, gather-in, gather-out}
+use Rattle.masks.proofs.Gather.{gather-none, gather-in, gather-out, has-gather}
 use Rattle.masks.proofs.Bits.{has-none, has-or, has-insert, mask-ext}
 use Rattle.policy.specs.declared.Policy.{Policy}
 use Rattle.policy.specs.Policies.{edges, edgeOf, source, targetOf, legal}
-use Rattle.policy.proofs.Laws.{legal-counts, edges-le, legal-target, source-edge, edge-lt}
+use Rattle.policy.proofs.Laws.{legal-counts, edges-le, legal-target, source-edge, edge-lt, source-lt}
 use Rattle.graph.specs.Cycles.{Path, reach}
-use Rattle.graph.specs.Through.{cycleThrough, Rows, withEdge, edgeRow, edgeRows, States, joinRow, joinRows, joinedRows, returning, throughRows}
+use Rattle.graph.specs.Through.{cycleThrough, Rows, withEdge, edgeRow, edgeRows, States, joinRow, joinRows, joinedRows, mutualTo, inner, innerTo}
 use Rattle.graph.proofs.Paths.{members-has, members-lt, reach-sound, reach-complete}
-use Rattle.graph.proofs.Through.{Leads, leads-join, leads-edge}
+use Rattle.graph.proofs.Coloured.{gather-some}
+use Rattle.graph.proofs.Through.{Leads, leads-join, leads-edge, through-some, some-through}
 
 -- ---- one more member
 insert-cases : (m t e : ℕ) → has (insert m t) e ≡ true → (has m e ≡ true) ⊎ (t ≡ e)
@@ -330,103 +331,150 @@ pub joined-more : (rows : List ℕ) (n k : ℕ) → joinedRows rows n (k + 1) �
 unfolding joinedRows
 joined-more rows n k = rw add-one
 
-pub returning-none : (t rows : List ℕ) (l m u v x : ℕ) → returning t rows l m u v x 0 ≡ x
-unfolding returning
-returning-none t rows l m u v x = refl
+pub mutual-none : (rows : List ℕ) (v : ℕ) → mutualTo rows v 0 ≡ 0
+unfolding mutualTo
+mutual-none rows v = gather-none (λ (w : ℕ). has (getD rows v 0) w && has (getD rows w 0) v)
 
-pub returning-in : (t rows : List ℕ) (l m u v x a : ℕ) → has m (u * l + a) && has (getD rows (getD t (u * l + a) 0) 0) v ≡ true
-    → returning t rows l m u v x (a + 1) ≡ insert (returning t rows l m u v x a) (u * l + a)
-unfolding returning
-returning-in t rows l m u v x a h = rw (add-one a, h) refl
+pub mutual-in : (rows : List ℕ) (v n : ℕ) → has (getD rows v 0) n && has (getD rows n 0) v ≡ true → mutualTo rows v (n + 1) ≡ insert (mutualTo rows v n) n
+unfolding mutualTo
+mutual-in rows v n h = gather-in (λ (w : ℕ). has (getD rows v 0) w && has (getD rows w 0) v) n h
 
-pub returning-out : (t rows : List ℕ) (l m u v x a : ℕ) → has m (u * l + a) && has (getD rows (getD t (u * l + a) 0) 0) v ≡ false
-    → returning t rows l m u v x (a + 1) ≡ returning t rows l m u v x a
-unfolding returning
-returning-out t rows l m u v x a h = rw (add-one a, h) refl
+pub mutual-out : (rows : List ℕ) (v n : ℕ) → has (getD rows v 0) n && has (getD rows n 0) v ≡ false → mutualTo rows v (n + 1) ≡ mutualTo rows v n
+unfolding mutualTo
+mutual-out rows v n h = gather-out (λ (w : ℕ). has (getD rows v 0) w && has (getD rows w 0) v) n h
 
-pub through-none : (t rows : List ℕ) (l m v : ℕ) → throughRows t rows l m v 0 ≡ 0
-unfolding throughRows
-through-none t rows l m v = refl
+pub inner-none : (t : List ℕ) (l m s u x : ℕ) → inner t l m s u x 0 ≡ x
+unfolding inner
+inner-none t l m s u x = refl
 
-pub through-in : (t rows : List ℕ) (l m v u : ℕ) → has (getD rows v 0) u ≡ true → throughRows t rows l m v (u + 1) ≡ returning t rows l m u v (throughRows t rows l m v u) l
-unfolding throughRows
-through-in t rows l m v u h = rw (add-one u, h) refl
+pub inner-in : (t : List ℕ) (l m s u x a : ℕ) → has m (u * l + a) && has s (getD t (u * l + a) 0) ≡ true → inner t l m s u x (a + 1) ≡ insert (inner t l m s u x a) (u * l + a)
+unfolding inner
+inner-in t l m s u x a h = rw (add-one a, h) refl
 
-pub through-out : (t rows : List ℕ) (l m v u : ℕ) → has (getD rows v 0) u ≡ false → throughRows t rows l m v (u + 1) ≡ throughRows t rows l m v u
-unfolding throughRows
-through-out t rows l m v u h = rw (add-one u, h) refl
+pub inner-out : (t : List ℕ) (l m s u x a : ℕ) → has m (u * l + a) && has s (getD t (u * l + a) 0) ≡ false → inner t l m s u x (a + 1) ≡ inner t l m s u x a
+unfolding inner
+inner-out t l m s u x a h = rw (add-one a, h) refl
 
--- ---- the largest cycle through v, state by state: its edges below the first one of u, then those of u
-module _ (p : Policy) (ok : legal p ≡ true) (m v : ℕ) where
-  -- the test that cycleThrough gathers by
-  on : ℕ → Bool
-  on e = let es = members (edges p) m in has m e && has (reach p es v) (source p e) && has (reach p es (targetOf p e)) v
+pub inner-to-none : (t : List ℕ) (l m s : ℕ) → innerTo t l m s 0 ≡ 0
+unfolding innerTo
+inner-to-none t l m s = refl
 
-  -- its edges that leave the states below u
-  throughTo : ℕ → ℕ
-  throughTo u = gather on (u * p .letters)
+pub inner-to-in : (t : List ℕ) (l m s u : ℕ) → has s u ≡ true → innerTo t l m s (u + 1) ≡ inner t l m s u (innerTo t l m s u) l
+unfolding innerTo
+inner-to-in t l m s u h = rw (add-one u, h) refl
 
-  module _ (rows : List ℕ) (is : Rows p m rows) (l : v < p .states) (u : ℕ) (lu : u < p .states) where
-    -- whether the edge at letter a is on it, by whether v leads to u
-    on-at : (b : Bool) → has (getD rows v 0) u ≡ b → (a : ℕ) → a < p .letters → on (u * p .letters + a) ≡ has m (u * p .letters + a) && b && has (getD rows (getD (p .target) (u * p .letters + a) 0) 0) v
-    unfolding on targetOf edgeOf
-    on-at b h a la =
-        let e = edgeOf p u a in
-        let le : e < edges p = edge-lt p u a lu la in
-        rw (source-edge p ok u a la, ← is v l, h, ← is (targetOf p e) (legal-target p ok e le)) refl
+pub inner-to-out : (t : List ℕ) (l m s u : ℕ) → has s u ≡ false → innerTo t l m s (u + 1) ≡ innerTo t l m s u
+unfolding innerTo
+inner-to-out t l m s u h = rw (add-one u, h) refl
 
-    returning-to : has (getD rows v 0) u ≡ true → (a : ℕ) → a ≤ p .letters → returning (p .target) rows (p .letters) m u v (throughTo u) a ≡ gather on (u * p .letters + a)
-    unfolding returning throughTo
-    returning-to h zero k = ap (gather on) (sym (add-zero (u * p .letters)))
-    returning-to h (suc a) k = go (test back) (returning-to h a (omega arith))
+-- ---- the edges between the states of s, state by state: those below the first one of u, then those of u
+module _ (p : Policy) (ok : legal p ≡ true) (m s : ℕ) where
+  between : ℕ → Bool
+  between e = has m e && has s (source p e) && has s (targetOf p e)
+
+  -- such edges that leave the states below u
+  betweenTo : ℕ → ℕ
+  betweenTo u = gather between (u * p .letters)
+
+  module _ (u : ℕ) where
+    -- whether the edge at letter a is one, by whether s has u
+    between-at : (b : Bool) → has s u ≡ b → (a : ℕ) → a < p .letters → between (u * p .letters + a) ≡ has m (u * p .letters + a) && b && has s (getD (p .target) (u * p .letters + a) 0)
+    unfolding between targetOf edgeOf
+    between-at b h a la = rw (source-edge p ok u a la, h) refl
+
+    inner-between : has s u ≡ true → (a : ℕ) → a ≤ p .letters → inner (p .target) (p .letters) m s u (betweenTo u) a ≡ gather between (u * p .letters + a)
+    unfolding inner betweenTo
+    inner-between h zero k = ap (gather between) (sym (add-zero (u * p .letters)))
+    inner-between h (suc a) k = go (test into) (inner-between h a (omega arith))
       where
         e : ℕ
         e = u * p .letters + a
 
-        back : Bool
-        back = has m e && has (getD rows (getD (p .target) e 0) 0) v
+        into : Bool
+        into = has m e && has s (getD (p .target) e 0)
 
-        is-on : on e ≡ back
-        is-on = on-at true h a k ∙ ap (λ (b : Bool). b && has (getD rows (getD (p .target) e 0) 0) v) (and-true (has m e))
+        is : between e ≡ into
+        is = between-at true h a k ∙ ap (λ (b : Bool). b && has s (getD (p .target) e 0)) (and-true (has m e))
 
-        next : gather on (e + 1) ≡ gather on (u * p .letters + suc a)
-        next = let q : e + 1 ≡ u * p .letters + suc a = omega arith in ap (gather on) q
+        next : gather between (e + 1) ≡ gather between (u * p .letters + suc a)
+        next = let q : e + 1 ≡ u * p .letters + suc a = omega arith in ap (gather between) q
 
-        go : (back ≡ true) ⊎ (back ≡ false) → returning (p .target) rows (p .letters) m u v (throughTo u) a ≡ gather on e → returning (p .target) rows (p .letters) m u v (throughTo u) (suc a) ≡ gather on (u * p .letters + suc a)
-        go (inl t) ih = rw t (ap (λ (x : ℕ). insert x e) ih ∙ sym (gather-in on e (is-on ∙ t)) ∙ next)
-        go (inr f) ih = rw f (ih ∙ sym (gather-out on e (is-on ∙ f)) ∙ next)
+        go : (into ≡ true) ⊎ (into ≡ false) → inner (p .target) (p .letters) m s u (betweenTo u) a ≡ gather between e → inner (p .target) (p .letters) m s u (betweenTo u) (suc a) ≡ gather between (u * p .letters + suc a)
+        go (inl t) ih = rw t (ap (λ (x : ℕ). insert x e) ih ∙ sym (gather-in between e (is ∙ t)) ∙ next)
+        go (inr f) ih = rw f (ih ∙ sym (gather-out between e (is ∙ f)) ∙ next)
 
-    none-to : has (getD rows v 0) u ≡ false → (a : ℕ) → a ≤ p .letters → throughTo u ≡ gather on (u * p .letters + a)
-    unfolding throughTo
-    none-to h zero k = ap (gather on) (sym (add-zero (u * p .letters)))
-    none-to h (suc a) k =
+    none-between : has s u ≡ false → (a : ℕ) → a ≤ p .letters → betweenTo u ≡ gather between (u * p .letters + a)
+    unfolding betweenTo
+    none-between h zero k = ap (gather between) (sym (add-zero (u * p .letters)))
+    none-between h (suc a) k =
         let e = u * p .letters + a in
-        let off : on e ≡ false = on-at false h a k ∙ ap (λ (b : Bool). b && has (getD rows (getD (p .target) e 0) 0) v) (and-false (has m e)) in
+        let off : between e ≡ false = between-at false h a k ∙ ap (λ (b : Bool). b && has s (getD (p .target) e 0)) (and-false (has m e)) in
         let q : e + 1 ≡ u * p .letters + suc a = omega arith in
-        none-to h a (omega arith) ∙ sym (gather-out on e off) ∙ ap (gather on) q
+        none-between h a (omega arith) ∙ sym (gather-out between e off) ∙ ap (gather between) q
 
-    last : gather on (u * p .letters + p .letters) ≡ throughTo (u + 1)
-    unfolding throughTo
-    last = let q : u * p .letters + p .letters ≡ (u + 1) * p .letters = rw (add-one u, suc-mul u (p .letters)) (omega arith) in ap (gather on) q
+    last : gather between (u * p .letters + p .letters) ≡ betweenTo (suc u)
+    unfolding betweenTo
+    last = let q : u * p .letters + p .letters ≡ suc u * p .letters = rw (suc-mul u (p .letters)) (omega arith) in ap (gather between) q
 
-    through-state : has (getD rows v 0) u ≡ true → returning (p .target) rows (p .letters) m u v (throughTo u) (p .letters) ≡ throughTo (u + 1)
-    through-state h = returning-to h (p .letters) (omega arith) ∙ last
-
-    through-other : has (getD rows v 0) u ≡ false → throughTo u ≡ throughTo (u + 1)
-    through-other h = none-to h (p .letters) (omega arith) ∙ last
-
-  through-to : (rows : List ℕ) → Rows p m rows → v < p .states → (u : ℕ) → u ≤ p .states → throughRows (p .target) rows (p .letters) m v u ≡ throughTo u
-  unfolding throughRows throughTo
-  through-to rows is l zero k = sym (ap (gather on) (zero-mul (p .letters)) ∙ gather-none on)
-  through-to rows is l (suc u) k = go (test (has (getD rows v 0) u)) (through-to rows is l u (omega arith))
+  inner-to : (u : ℕ) → innerTo (p .target) (p .letters) m s u ≡ betweenTo u
+  unfolding innerTo betweenTo
+  inner-to zero = sym (ap (gather between) (zero-mul (p .letters)) ∙ gather-none between)
+  inner-to (suc u) = go (test (has s u)) (inner-to u)
     where
-      next : throughTo (u + 1) ≡ throughTo (suc u)
-      next = ap throughTo (add-one u)
+      go : (has s u ≡ true) ⊎ (has s u ≡ false) → innerTo (p .target) (p .letters) m s u ≡ betweenTo u → innerTo (p .target) (p .letters) m s (suc u) ≡ betweenTo (suc u)
+      go (inl t) ih = rw t (ap (λ (x : ℕ). inner (p .target) (p .letters) m s u x (p .letters)) ih ∙ inner-between u t (p .letters) (omega arith) ∙ last u)
+      go (inr f) ih = rw f (ih ∙ none-between u f (p .letters) (omega arith) ∙ last u)
 
-      go : (has (getD rows v 0) u ≡ true) ⊎ (has (getD rows v 0) u ≡ false) → throughRows (p .target) rows (p .letters) m v u ≡ throughTo u → throughRows (p .target) rows (p .letters) m v (suc u) ≡ throughTo (suc u)
-      go (inl t) ih = rw t (ap (λ (x : ℕ). returning (p .target) rows (p .letters) m u v x (p .letters)) ih ∙ through-state rows is l u k t ∙ next)
-      go (inr f) ih = rw f (ih ∙ through-other rows is l u k f ∙ next)
+-- ---- the largest cycle through v is the edges of m between the states that v reaches and that reach v
+module _ (p : Policy) (ok : legal p ≡ true) (m v : ℕ) (rows : List ℕ) (is : Rows p m rows) (l : v < p .states) where
+  es : List ℕ
+  es = members (edges p) m
 
-  pub rows-through : (t rows : List ℕ) → t ≡ p .target → Rows p m rows → v < p .states → throughRows t rows (p .letters) m v (p .states) ≡ cycleThrough p m v
-  unfolding throughTo on cycleThrough edges
-  rows-through t rows e is l = ap (λ (k : List ℕ). throughRows k rows (p .letters) m v (p .states)) e ∙ through-to rows is l (p .states) (omega arith)
+  ring : ℕ
+  ring = mutualTo rows v (p .states)
+
+  targets-lt : (e : ℕ) → List·Memᴰ e es → targetOf p e < p .states
+  unfolding es
+  targets-lt e k = legal-target p ok e (members-lt (edges p) m e k)
+
+  ring-some : (w : ℕ) → has ring w ≡ true → Leads p m v w × Leads p m w v
+  unfolding ring mutualTo es
+  ring-some w h =
+      let r = gather-some (λ (w : ℕ). has (getD rows v 0) w && has (getD rows w 0) v) (p .states) w h in
+      let a = and-l (has (getD rows v 0) w) (has (getD rows w 0) v) (r .1) in
+      let b = and-r (has (getD rows v 0) w) (has (getD rows w 0) v) (r .1) in
+      (reach-sound p es v w (ap (λ (x : ℕ). has x w) (sym (is v l)) ∙ a), reach-sound p es w v (ap (λ (x : ℕ). has x v) (sym (is w (r .0))) ∙ b))
+
+  some-ring : (w : ℕ) → w < p .states → Leads p m v w → Leads p m w v → has ring w ≡ true
+  unfolding ring mutualTo es
+  some-ring w lw a b =
+      has-gather (λ (w : ℕ). has (getD rows v 0) w && has (getD rows w 0) v) (p .states) w lw
+      ∙ both (has (getD rows v 0) w) (has (getD rows w 0) v) (ap (λ (x : ℕ). has x w) (is v l) ∙ reach-complete p es v l targets-lt (a .0) w (a .1))
+      (ap (λ (x : ℕ). has x v) (is w lw) ∙ reach-complete p es w lw targets-lt (b .0) v (b .1))
+
+  ring-through : betweenTo p ok m ring (p .states) ≡ cycleThrough p m v
+  unfolding betweenTo between edges
+  ring-through = mask-ext (betweenTo p ok m ring (p .states)) (cycleThrough p m v) (λ e. bool-ext (has (betweenTo p ok m ring (p .states)) e) (has (cycleThrough p m v) e) (there e) (back e))
+    where
+      targets : (e : ℕ) → e < edges p → targetOf p e < p .states
+      targets e k = legal-target p ok e k
+
+      there : (e : ℕ) → has (betweenTo p ok m ring (p .states)) e ≡ true → has (cycleThrough p m v) e ≡ true
+      there e h =
+          let r = gather-some (between p ok m ring) (p .states * p .letters) e h in
+          let a = and-l (has m e && has ring (source p e)) (has ring (targetOf p e)) (r .1) in
+          let t = and-l (has m e) (has ring (source p e)) a in
+          some-through p targets m v l e (r .0) t (ring-some (source p e) (and-r (has m e) (has ring (source p e)) a) .0) (ring-some (targetOf p e) (and-r (has m e && has ring (source p e)) (has ring (targetOf p e)) (r .1)) .1)
+
+      back : (e : ℕ) → has (cycleThrough p m v) e ≡ true → has (betweenTo p ok m ring (p .states)) e ≡ true
+      back e h =
+          let r = through-some p m v e h in
+          let step = leads-edge p m e (r .0) (r .1) in
+          let src = some-ring (source p e) (source-lt p ok e (r .0)) (r .2) (leads-join p m (source p e) (targetOf p e) v step (r .3)) in
+          let tgt = some-ring (targetOf p e) (targets e (r .0)) (leads-join p m v (source p e) (targetOf p e) (r .2) step) (r .3) in
+          has-gather (between p ok m ring) (p .states * p .letters) e (r .0)
+          ∙ both (has m e && has ring (source p e)) (has ring (targetOf p e)) (both (has m e) (has ring (source p e)) (r .1) src) tgt
+
+  pub rows-through : (t : List ℕ) (s : ℕ) → t ≡ p .target → s ≡ mutualTo rows v (p .states) → innerTo t (p .letters) m s (p .states) ≡ cycleThrough p m v
+  unfolding ring
+  rows-through t s e q = rw (e, q) (inner-to p ok m ring (p .states) ∙ ring-through)

@@ -56,17 +56,19 @@ joinedRows rows n zero = rows
 joinedRows rows n (suc k) = let r = joinedRows rows n k in joinRows r k (getD r k 0) n
 
 -- ---- the largest cycle, state by state
--- the edges x, with those of the first a edges of u that are in m and whose target has v in its row
-unfoldable pub returning : List ℕ → List ℕ → ℕ → ℕ → ℕ → ℕ → ℕ → ℕ → ℕ
-returning t rows l m u v x zero = x
-returning t rows l m u v x (suc a) =
-    let r = returning t rows l m u v x a in
-    let e = u * l + a in
-    cond (has m e && has (getD rows (getD t e 0) 0) v) (insert r e) r
+-- the states below n that v's row has, and whose row has v
+unfoldable pub mutualTo : List ℕ → ℕ → ℕ → ℕ
+mutualTo rows v n = gather (λ w. has (getD rows v 0) w && has (getD rows w 0) v) n
 
--- the edges of m that leave a state below n of row v, and whose target has v in its row
-unfoldable pub throughRows : List ℕ → List ℕ → ℕ → ℕ → ℕ → ℕ → ℕ
-throughRows t rows l m v zero = 0
-throughRows t rows l m v (suc u) =
-    let r = throughRows t rows l m v u in
-    cond (has (getD rows v 0) u) (returning t rows l m u v r l) r
+-- the edges x, with those of the first a edges of u that are in m and lead to a state of s
+unfoldable pub inner : List ℕ → ℕ → ℕ → ℕ → ℕ → ℕ → ℕ → ℕ
+inner t l m s u x zero = x
+inner t l m s u x (suc a) =
+    let r = inner t l m s u x a in
+    let e = u * l + a in
+    cond (has m e && has s (getD t e 0)) (insert r e) r
+
+-- the edges of m that leave a state of s below n and lead to a state of s
+unfoldable pub innerTo : List ℕ → ℕ → ℕ → ℕ → ℕ → ℕ
+innerTo t l m s zero = 0
+innerTo t l m s (suc u) = let r = innerTo t l m s u in cond (has s u) (inner t l m s u r l) r

@@ -6,7 +6,7 @@ ghost use Prim.Native.Nat.{_+_, _*_, _<_, _≤_};
 ghost use lib.ListN.{getD};
 ghost use Rattle.masks.specs.Masks.{has};
 ghost use Rattle.policy.specs.Policies.{legal};
-ghost use Rattle.graph.specs.Through.{cycleThrough, Rows, withEdge, edgeRow, edgeRows, States, joinRow, joinRows, returning};
+ghost use Rattle.graph.specs.Through.{cycleThrough, Rows, withEdge, edgeRow, edgeRows, States, joinRow, joinRows, mutualTo, inner};
 use policy::Policy;
 
 // A row, with the target of edge e where e is in m. The targets are t.
@@ -82,51 +82,67 @@ pub fn reach_all(p: Policy, heads: &[u8; 64], m: u64) -> [u64; 16]
     rows
 }
 
-// Whether edge e is in m, and v in the row of its target.
-fn leads_back(m: u64, row: u64, e: usize, v: usize) -> bool
-    requires { ⌜ (e < 64) × (v < 64) ⌝ }
-    ensures { λ r. ⌜ r ≡ has m e && has row v ⌝ }
+// Whether w is in v's row, and v in w's.
+fn is_mutual(from: u64, row: u64, w: usize, v: usize) -> bool
+    requires { ⌜ (w < 64) × (v < 64) ⌝ }
+    ensures { λ r. ⌜ r ≡ has from w && has row v ⌝ }
 {
-    masks::has(m, e) & masks::has(row, v)
+    masks::has(from, w) & masks::has(row, v)
 }
 
-// The edges x, with those of m that leave u and whose target reaches v.
-fn with_returning(
-    heads: &[u8; 64],
-    rows: &[u64; 16],
-    letters: usize,
-    m: u64,
-    u: usize,
-    v: usize,
-    x: u64,
-) -> u64
-    requires { ⌜ (u < 16) × (v < 16) × (u * letters + letters ≤ 64) × States (now heads) (u * letters + letters) ⌝ }
-    ensures { λ r. ⌜ r ≡ returning (now (heads .entry)) (now (rows .entry)) letters m u v x letters ⌝ }
+// The states below n that v reaches and that reach v.
+fn both_ways(rows: &[u64; 16], n: usize, v: usize) -> u64
+    requires { ⌜ (n ≤ 16) × (v < 16) ⌝ }
+    ensures { λ r. ⌜ r ≡ mutualTo (now (rows .entry)) v n ⌝ }
+{
+    let from = rows[v];
+    let mut s: u64 = 0;
+    for w in 0..n {
+        if is_mutual(from, rows[w], w, v) {
+            s = masks::with(s, w);
+        }
+    }
+    s
+}
+
+// Whether edge e is in m, and its target t in s.
+fn leads_into(m: u64, s: u64, e: usize, t: usize) -> bool
+    requires { ⌜ (e < 64) × (t < 64) ⌝ }
+    ensures { λ r. ⌜ r ≡ has m e && has s t ⌝ }
+{
+    masks::has(m, e) & masks::has(s, t)
+}
+
+// The edges x, with those of m that leave u and lead to a state of s.
+fn with_inner(heads: &[u8; 64], letters: usize, m: u64, s: u64, u: usize, x: u64) -> u64
+    requires { ⌜ (u < 16) × (u * letters + letters ≤ 64) × States (now heads) (u * letters + letters) ⌝ }
+    ensures { λ r. ⌜ r ≡ inner (now (heads .entry)) letters m s u x letters ⌝ }
 {
     let first = u * letters;
     let mut r = x;
     for a in 0..letters {
         let e = first + a;
         let t = heads[e] as usize;
-        if leads_back(m, rows[t], e, v) {
+        if leads_into(m, s, e, t) {
             r = masks::with(r, e);
         }
     }
     r
 }
 
-// The largest cycle through state v inside m; empty where there is none. The heads are the targets of p's edges, and the rows are those of m.
+// The largest cycle through state v inside m; empty where there is none: the edges of m between states that v reaches and that reach v. The heads are the targets of
+// p's edges, and the rows are those of m.
 pub fn cycle_through(p: Policy, heads: &[u8; 64], rows: &[u64; 16], m: u64, v: usize) -> u64
     requires { ⌜ (legal p ≡ true) × (now heads ≡ p .target) × (v < p .states) × Rows p m (now rows) ⌝ }
     ensures { λ r. ⌜ r ≡ cycleThrough p m v ⌝ }
 {
     let n = p.states as usize;
     let letters = p.letters as usize;
-    let from = rows[v];
+    let s = both_ways(rows, n, v);
     let mut r: u64 = 0;
     for u in 0..n {
-        if masks::has(from, u) {
-            r = with_returning(heads, rows, letters, m, u, v, r);
+        if masks::has(s, u) {
+            r = with_inner(heads, letters, m, s, u, r);
         }
     }
     r

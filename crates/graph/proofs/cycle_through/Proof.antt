@@ -6,16 +6,17 @@ use Prim.Native.Nat.{ℕ, _+_, _*_, _-_, _≤_, _<_}
 use native.Mathlib.Nat.{le-antisymm}
 use native.Mathlib.Omega.{arith}
 use borrow.Author.Needs.{needs}
-use Rattle.graph.specs.Through.{States, returning, throughRows}
-use Rattle.graph.proofs.CodeLaws.{state-few, row-few, row-states, through-none, through-in, through-out, rows-through}
+use Rattle.policy.proofs.Laws.{legal-counts}
+use Rattle.graph.specs.Through.{States, inner, innerTo}
+use Rattle.graph.proofs.CodeLaws.{state-few, row-few, row-states, inner-to-none, inner-to-in, inner-to-out, rows-through}
 use Rattle.graph.proofs.cycle_through.Statement.{statement}
 use Rattle.graph.proofs.cycle_through.Tie as tie
 
 abbrev Inv-loop : tie.InvT-loop
-Inv-loop heads rows m v n letters from r₀ u₀ r u = (u ≤ n) × (r ≡ throughRows heads rows letters m v u)
+Inv-loop heads rows m v n letters s r₀ u₀ r u = (u ≤ n) × (r ≡ innerTo heads letters m s u)
 
 abbrev μ-loop : tie.MeasureT-loop
-μ-loop heads rows m v n letters from r₀ u₀ r u = n - u
+μ-loop heads rows m v n letters s r₀ u₀ r u = n - u
 
 cast-n : tie.Need-cast-n Inv-loop μ-loop
 cast-n c = search needs
@@ -23,14 +24,11 @@ cast-n c = search needs
 cast-letters : tie.Need-cast-letters Inv-loop μ-loop
 cast-letters c = search needs
 
-mul-from : tie.Need-mul-from Inv-loop μ-loop
-mul-from c = let s = c .before .before in omega (arith, state-few (s .args .p) (s .pre .0) (s .args .v) (s .pre .2))
-
-element-copy-out-from : tie.Need-element-copy-out-from Inv-loop μ-loop
-element-copy-out-from c = let s = c .before .before in state-few (s .args .p) (s .pre .0) (s .args .v) (s .pre .2)
+both-ways-requires : tie.Need-both-ways-requires Inv-loop μ-loop
+both-ways-requires c κs = let s = c .before .before in (legal-counts (s .args .p) (s .pre .0) .states-few, state-few (s .args .p) (s .pre .0) (s .args .v) (s .pre .2))
 
 loop-holds : tie.Need-loop-holds Inv-loop μ-loop
-loop-holds c = (omega arith, sym (through-none _ _ _ _ _))
+loop-holds c = (omega arith, sym (inner-to-none _ _ _ _))
 
 -- in the loop u is a state
 state : (c : tie.In-loop Inv-loop μ-loop) → c .before .loop .u < 16
@@ -39,17 +37,13 @@ state c = let s = c .before .before .before .before .before in state-few (s .arg
 has-requires : tie.Need-has-requires Inv-loop μ-loop
 has-requires c κs = omega (arith, state c)
 
-with-returning-requires : tie.Need-with-returning-requires Inv-loop μ-loop
-with-returning-requires c κs =
+with-inner-requires : tie.Need-with-inner-requires Inv-loop μ-loop
+with-inner-requires c κs =
     let s = c .before .before .before .before .before .before .before in
     let p = s .args .p in
     let u = c .before .before .before .loop .u in
-    let lu = c .before .before .loop-test .taken in (
-      state (c .before .before),
-      state-few p (s .pre .0) (s .args .v) (s .pre .2),
-      row-few p (s .pre .0) u lu,
-      subst (λ (t : List ℕ). States t (u * p .letters + p .letters)) (sym (s .pre .1)) (row-states p (s .pre .0) u lu),
-    )
+    let lu = c .before .before .loop-test .taken in
+    (state (c .before .before), row-few p (s .pre .0) u lu, subst (λ (t : List ℕ). States t (u * p .letters + p .letters)) (sym (s .pre .1)) (row-states p (s .pre .0) u lu))
 
 add-u : tie.Need-add-u Inv-loop μ-loop
 add-u c = omega arith
@@ -59,24 +53,26 @@ loop-less c = omega arith
 
 loop-again : tie.Need-loop-again Inv-loop μ-loop
 loop-again c =
-    let s = c .before .before .before .before .before .before .before .args in
-    let u = c .before .before .before .loop .u in
-    let inv = c .before .before .before .loop .inv in
-    let l = s .p .letters in (
+    let a = c .before .before .before .before .before .before .before .args in
+    let at = c .before .before .before .loop in
+    let s = c .before .before .before .before .both-ways .result in
+    let l = a .p .letters in (
       omega arith,
       ⊎-elim
-          (λ w. w .2 ∙ w .1 .ensures ∙ ap (λ (x : ℕ). returning (s .heads .now) (s .rows .now) l (s .m) u (s .v) x l) (inv .1) ∙ sym (through-in (s .heads .now) (s .rows .now) l (s .m) (s .v) u (sym (c .before .has .ensures) ∙ w .0 .taken)))
-          (λ w. w .1 ∙ inv .1 ∙ sym (through-out (s .heads .now) (s .rows .now) l (s .m) (s .v) u (sym (c .before .has .ensures) ∙ w .0 .left)))
+          (λ w. w .2 ∙ w .1 .ensures ∙ ap (λ (x : ℕ). inner (a .heads .now) l (a .m) s (at .u) x l) (at .inv .1) ∙ sym (inner-to-in (a .heads .now) l (a .m) s (at .u) (sym (c .before .has .ensures) ∙ w .0 .taken)))
+          (λ w. w .1 ∙ at .inv .1 ∙ sym (inner-to-out (a .heads .now) l (a .m) s (at .u) (sym (c .before .has .ensures) ∙ w .0 .left)))
           (c .if1 .came),
     )
 
 returns : tie.Need-returns Inv-loop μ-loop
 returns c =
     let s = c .before .before .before .before .before in
-    let p = s .args .p in
+    let a = s .args in
+    let p = a .p in
+    let ring = c .before .before .both-ways in
     let last : c .before .loop .u ≡ p .states = le-antisymm (c .before .loop .inv .0) (c .loop-test .left) in
-    c .before .loop .inv .1 ∙ ap (throughRows (s .args .heads .now) (s .args .rows .now) (p .letters) (s .args .m) (s .args .v)) last
-    ∙ rows-through p (s .pre .0) (s .args .m) (s .args .v) (s .args .heads .now) (s .args .rows .now) (s .pre .1) (s .pre .3) (s .pre .2)
+    c .before .loop .inv .1 ∙ ap (innerTo (a .heads .now) (p .letters) (a .m) (ring .result)) last
+    ∙ rows-through p (s .pre .0) (a .m) (a .v) (a .rows .now) (s .pre .3) (s .pre .2) (a .heads .now) (ring .result) (s .pre .1) (ring .ensures)
 
 pub cycle-through-spec : {M : Type 1} → statement M
 cycle-through-spec =
@@ -86,11 +82,10 @@ cycle-through-spec =
     μ-loop
     cast-n
     cast-letters
-    mul-from
-    element-copy-out-from
+    both-ways-requires
     loop-holds
     has-requires
-    with-returning-requires
+    with-inner-requires
     add-u
     loop-less
     loop-again

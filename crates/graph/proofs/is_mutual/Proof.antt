@@ -1,9 +1,9 @@
--- `graph::leads_back` meets its contract: the two tests at once. Assumes nothing.
+-- `graph::is_mutual` meets its contract: the two tests at once. Assumes nothing.
 use mathlib.Core.Path.{ap₂}
 use mathlib.Core.Bool.{_&&_}
 use borrow.Author.Needs.{needs}
-use Rattle.graph.proofs.leads_back.Statement.{statement}
-use Rattle.graph.proofs.leads_back.Tie as tie
+use Rattle.graph.proofs.is_mutual.Statement.{statement}
+use Rattle.graph.proofs.is_mutual.Tie as tie
 
 has-requires : tie.Need-has-requires
 has-requires c κs = search needs
@@ -14,5 +14,5 @@ has-requires-2 c κs = search needs
 returns : tie.Need-returns
 returns c = ap₂ _&&_ (c .before .has .ensures) (c .has2 .ensures)
 
-pub leads-back-spec : {M : Type 1} → statement M
-leads-back-spec = tie.close (tie.spec has-requires has-requires-2 returns)
+pub is-mutual-spec : {M : Type 1} → statement M
+is-mutual-spec = tie.close (tie.spec has-requires has-requires-2 returns)
