@@ -1,5 +1,6 @@
 -- The candidates are the full cycles, each once: every node of the forest is one, the children of a candidate are the
 -- largest candidates of the other verdict properly inside it, and the roots are the largest cycles through the states. Assumes nothing.
+-- the least number that passes, from one that does
 use Prim.Native.Nat.{ℕ, zero, suc, _-_, _^_, _≤_, _<_}
 use native.Mathlib.Omega.{arith}
 use native.Mathlib.Decide.{decLt}
@@ -16,7 +17,7 @@ use Rattle.masks.specs.Masks.{inside, properly}
 use Rattle.masks.proofs.Bits.{inside-trans, properly-lt}
 use Rattle.policy.specs.declared.Policy.{Policy}
 use Rattle.policy.specs.Policies.{coloursOf, accepting, legal}
-use Rattle.policy.proofs.Laws.{legal-counts, legal-target, colours-lt, accepting-colours}
+use Rattle.policy.proofs.Laws.{legal-target, colours-lt, accepting-colours}
 use Rattle.graph.specs.Cycles.{isCycle, contains}
 use Rattle.graph.specs.Through.{cycleThrough}
 use Rattle.graph.proofs.Cycles.{Targets, some-nonzero, contains-some, contains-inside}
@@ -27,11 +28,10 @@ use Rattle.decomposition.specs.Candidates.{lowestIs, candidateAt, candid
 use Rattle.decomposition.specs.Siblings.{childrenIn}
 use Rattle.decomposition.proofs.Order.{order-mem, mem-order}
 use Rattle.decomposition.proofs.Largest.{largest-order-mem, in-largest-order}
-use Rattle.decomposition.proofs.Distinct.{distinct-filter, distinct-below, distinct-flat, distinct-ordered, distinct-largest, length-below, flat-few}
+use Rattle.decomposition.proofs.Distinct.{distinct-filter, distinct-below, distinct-flat, distinct-ordered, distinct-largest}
 use Rattle.decomposition.proofs.Children.{root-cycle, root-largest}
 use Rattle.decomposition.proofs.Full.{inColours, Full, contains-lt, cycle-state, inside-full, full-cycle, full-state, fill, fill-inside}
 
--- the least number that passes, from one that does
 least-to : (t : ℕ → Bool) (k n : ℕ) → n < k → t n ≡ true → (u : ℕ) × (t u ≡ true) × (any t (below u) ≡ false)
 least-to t zero n l h = absurd (omega arith)
 least-to t (suc k) n l h = go (test (any t (below n))) (least-to t k)
@@ -294,14 +294,6 @@ module _ (p : Policy) where
     root-distinct : (v : ℕ) → Distinct (rootAt p v)
     unfolding rootAt
     root-distinct v = one-distinct (lowestIs p v (cycleThrough p (full p) v)) (cycleThrough p (full p) v)
-
-    root-few : (v : ℕ) → length (rootAt p v) ≤ 1
-    unfolding rootAt
-    root-few v = one-few (lowestIs p v (cycleThrough p (full p) v)) (cycleThrough p (full p) v)
-
-    pub root-candidates-few : length (rootCandidates p) ≤ 16
-    unfolding rootCandidates
-    root-candidates-few = omega (arith, flat-few (rootAt p) 1 root-few (below (p .states)), length-below (p .states), legal-counts p lawful .states-few)
 
     pub root-candidates-distinct : Distinct (rootCandidates p)
     unfolding rootCandidates

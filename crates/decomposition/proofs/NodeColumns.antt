@@ -9,7 +9,6 @@ use mathlib.Core.Logic.{_⊎_, inl, inr, _≢_}
 use mathlib.Core.Bool.{Bool, true, false, not, _&&_, cond}
 use mathlib.Core.List.{List, [], _∷_, _++_, map}
 use lib.Dec.{eqb}
-use lib.Pow.{pow-mono}
 use lib.ListN.{length, getD, take, drop, set, replicate, length-set, length-map, length-append, length-replicate}
 use lib.Seq.{sets, sets-eq, take-suc, take-all, length-take-le, getD-take}
 use borrow.Author.Tests.{le-leb, lt-leb}
@@ -29,6 +28,7 @@ use Rattle.decomposition.specs.Candidates.{lowestIs, candidateAt, candid
 use Rattle.decomposition.specs.NodeTables.{nodeMasks, nodeParents, nodeRanks, Sought, Cleared, Written, Lent, Spare, nodeTables, nodesFit, fillingOf, filledOf}
 use Rattle.decomposition.specs.Growing.{Ground, Room, AllGrown}
 use Rattle.decomposition.proofs.Distinct.{length-below, flat-few}
+use Rattle.decomposition.proofs.CandidateLaws.{room-few}
 use Rattle.decomposition.proofs.Children.{root-few, child-fewer, ordered-children, ordered-roots}
 use Rattle.decomposition.proofs.Priorities.{priority-root, priority-child, priority-few}
 use Rattle.decomposition.proofs.Numbered.{Numbered, numbered}
@@ -136,16 +136,13 @@ module _ (p : Policy) where
 
 -- ---- space for growing the forest
 module _ (p : Policy) (lawful : legal p ≡ true) where
-  pub most-few : p .states * 2 ^ p .colours ≤ 4096
-  most-few = omega (arith, mul-le-mul-right (2 ^ p .colours) (legal-counts p lawful .states-few), pow-mono (legal-counts p lawful .colours-few))
-
   -- the lists are filled
   pub lent-lists : {a r seen kids : List ℕ} {a′ r′ : List ℕ} → Spare p a r seen kids → a′ ≡ judged p true → r′ ≡ judged p false → Lent p a′ r′ seen kids
   lent-lists {a} {r} {seen} {kids} {a′} {r′} s ea er =
       let both : length a′ + length r′ ≤ p .states * 2 ^ p .colours = omega (arith, ap length ea, ap length er, judged-few p) in
       record {
-        accepting-few = omega (arith, most-few);
-        rejecting-few = omega (arith, most-few);
+        accepting-few = omega (arith, room-few p lawful);
+        rejecting-few = omega (arith, room-few p lawful);
         seen-long = omega (arith, s .seen-long);
         seen-none = s .seen-none;
         kids-long = omega (arith, s .kids-long, mul-le-mul-left (p .colours) (longer both));

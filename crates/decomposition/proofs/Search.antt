@@ -63,9 +63,6 @@ module _ (l : List ℕ) where
   getD-masks (k ∷ ks) zero h = refl
   getD-masks (k ∷ ks) (suc j) h = getD-masks ks j (omega arith)
 
-  pub outside-none : (ks : List ℕ) (m : ℕ) → any (inside m) (masksAt l (take 0 ks)) ≡ false
-  outside-none ks m = refl
-
   pub outside-more : (ks : List ℕ) (m j : ℕ) → j < length ks → any (inside m) (masksAt l (take j ks)) ≡ false → inside m (getD l (getD ks j 0) 0) ≡ false → any (inside m) (masksAt l (take (j + 1) ks)) ≡ false
   outside-more ks m j h a b = rw (at-more ks j h) (any-more (inside m) (masksAt l (take j ks)) (getD l (getD ks j 0) 0) a b)
 

@@ -1,7 +1,8 @@
 -- `nodes::fill_large` meets its contract: there is space enough. Assumes nothing.
 use mathlib.Core.Path.{refl}
 use borrow.Author.Needs.{needs}
-use Rattle.decomposition.proofs.NodeColumns.{most-few, spare-of}
+use Rattle.decomposition.proofs.CandidateLaws.{room-few}
+use Rattle.decomposition.proofs.NodeColumns.{spare-of}
 use Rattle.decomposition.proofs.nodes.fill_large.Statement.{statement}
 use Rattle.decomposition.proofs.nodes.fill_large.Tie as tie
 
@@ -20,7 +21,7 @@ slice-aggregate-list-and-write-4 c = search needs
 list-and-write-requires : tie.Need-list-and-write-requires
 list-and-write-requires c κs =
     let s = c .before .before .before .before .before .before .before .before .before .before in
-    (s .pre .0, s .pre .1, spare-of (s .args .p) (s .pre .0) 4096 (most-few (s .args .p) (s .pre .0)) refl refl refl refl)
+    (s .pre .0, s .pre .1, spare-of (s .args .p) (s .pre .0) 4096 (room-few (s .args .p) (s .pre .0)) refl refl refl refl)
 
 same-length : tie.Need-same-length
 same-length c = search needs

@@ -5,7 +5,7 @@ use mathlib.Core.Path.{sym, ap, subst}
 use borrow.Author.Needs.{needs}
 use Rattle.masks.proofs.Bits.{shl-one}
 use Rattle.policy.proofs.Laws.{legal-counts}
-use Rattle.decomposition.proofs.NodeColumns.{most-few}
+use Rattle.decomposition.proofs.CandidateLaws.{room-few}
 use Rattle.decomposition.proofs.nodes.most_candidates.Statement.{statement}
 use Rattle.decomposition.proofs.nodes.most_candidates.Tie as tie
 
@@ -22,7 +22,7 @@ mul-result : tie.Need-mul-result
 mul-result c =
     let p = c .before .before .args .p in
     let e = shl-one 64 (p .colours) (omega (arith, legal-counts p (c .before .before .pre) .colours-few)) in
-    record { fits = subst (λ (x : ℕ). p .states * x < 2 ^ 64) (sym e) (omega (arith, most-few p (c .before .before .pre))) }
+    record { fits = subst (λ (x : ℕ). p .states * x < 2 ^ 64) (sym e) (omega (arith, room-few p (c .before .before .pre))) }
 
 returns : tie.Need-returns
 returns c =
