@@ -335,25 +335,24 @@ pub mutual-none : (rows : List ℕ) (v : ℕ) → mutualTo rows v 0 ≡ 0
 unfolding mutualTo
 mutual-none rows v = gather-none (λ (w : ℕ). has (getD rows v 0) w && has (getD rows w 0) v)
 
-pub mutual-in : (rows : List ℕ) (v n : ℕ) → has (getD rows v 0) n && has (getD rows n 0) v ≡ true → mutualTo rows v (n + 1) ≡ insert (mutualTo rows v n) n
+pub mutual-next : (rows : List ℕ) (v n : ℕ)
+    → mutualTo rows v (n + 1) ≡ cond (has (getD rows v 0) n && has (getD rows n 0) v) (insert (mutualTo rows v n) n) (mutualTo rows v n)
 unfolding mutualTo
-mutual-in rows v n h = gather-in (λ (w : ℕ). has (getD rows v 0) w && has (getD rows w 0) v) n h
-
-pub mutual-out : (rows : List ℕ) (v n : ℕ) → has (getD rows v 0) n && has (getD rows n 0) v ≡ false → mutualTo rows v (n + 1) ≡ mutualTo rows v n
-unfolding mutualTo
-mutual-out rows v n h = gather-out (λ (w : ℕ). has (getD rows v 0) w && has (getD rows w 0) v) n h
+mutual-next rows v n = go (has (getD rows v 0) n && has (getD rows n 0) v) refl
+  where
+    go : (b : Bool) → has (getD rows v 0) n && has (getD rows n 0) v ≡ b → mutualTo rows v (n + 1) ≡ cond b (insert (mutualTo rows v n) n) (mutualTo rows v n)
+    go true h = gather-in (λ (w : ℕ). has (getD rows v 0) w && has (getD rows w 0) v) n h
+    go false h = gather-out (λ (w : ℕ). has (getD rows v 0) w && has (getD rows w 0) v) n h
 
 pub inner-none : (t : List ℕ) (l m s u x : ℕ) → inner t l m s u x 0 ≡ x
 unfolding inner
 inner-none t l m s u x = refl
 
-pub inner-in : (t : List ℕ) (l m s u x a : ℕ) → has m (u * l + a) && has s (getD t (u * l + a) 0) ≡ true → inner t l m s u x (a + 1) ≡ insert (inner t l m s u x a) (u * l + a)
+pub inner-next : (t : List ℕ) (l m s u x a : ℕ)
+    → inner t l m s u x (a + 1)
+    ≡ cond (has m (u * l + a) && has s (getD t (u * l + a) 0)) (insert (inner t l m s u x a) (u * l + a)) (inner t l m s u x a)
 unfolding inner
-inner-in t l m s u x a h = rw (add-one a, h) refl
-
-pub inner-out : (t : List ℕ) (l m s u x a : ℕ) → has m (u * l + a) && has s (getD t (u * l + a) 0) ≡ false → inner t l m s u x (a + 1) ≡ inner t l m s u x a
-unfolding inner
-inner-out t l m s u x a h = rw (add-one a, h) refl
+inner-next t l m s u x a = rw (add-one a) refl
 
 pub inner-to-none : (t : List ℕ) (l m s : ℕ) → innerTo t l m s 0 ≡ 0
 unfolding innerTo

@@ -14,10 +14,7 @@ fn with_edge(t: &[u8; 64], m: u64, row: u64, e: usize) -> u64
     requires { ⌜ (e < 64) × (getD (now t) e 0 < 16) ⌝ }
     ensures { λ r. ⌜ r ≡ withEdge (now (t .entry)) m row e ⌝ }
 {
-    if masks::has(m, e) {
-        return masks::with(row, t[e] as usize);
-    }
-    row
+    masks::with_if(row, t[e] as usize, masks::has(m, e))
 }
 
 // State v, with the targets of its edges in m.
@@ -98,9 +95,7 @@ fn both_ways(rows: &[u64; 16], n: usize, v: usize) -> u64
     let from = rows[v];
     let mut s: u64 = 0;
     for w in 0..n {
-        if is_mutual(from, rows[w], w, v) {
-            s = masks::with(s, w);
-        }
+        s = masks::with_if(s, w, is_mutual(from, rows[w], w, v));
     }
     s
 }
@@ -123,9 +118,7 @@ fn with_inner(heads: &[u8; 64], letters: usize, m: u64, s: u64, u: usize, x: u64
     for a in 0..letters {
         let e = first + a;
         let t = heads[e] as usize;
-        if leads_into(m, s, e, t) {
-            r = masks::with(r, e);
-        }
+        r = masks::with_if(r, e, leads_into(m, s, e, t));
     }
     r
 }

@@ -1,5 +1,6 @@
 // Sets as bit masks: edge sets in 64 bits, colour sets in 8.
 ghost use mathlib.Core.Path.{_≡_};
+ghost use mathlib.Core.Bool.{cond};
 ghost use Prim.Native.Nat.{_-_, _<_, _≤_, _^_};
 ghost use lib.Bits.{bitAnd, bitOr};
 ghost use lib.Count.{ones};
@@ -19,6 +20,14 @@ pub fn with(m: u64, e: usize) -> u64
     ensures { λ r. ⌜ r ≡ insert m e ⌝ }
 {
     m | (1 << e)
+}
+
+// m, with edge e where b holds; without a branch, which would often be foretold wrongly.
+pub fn with_if(m: u64, e: usize, b: bool) -> u64
+    requires { ⌜ e < 64 ⌝ }
+    ensures { λ r. ⌜ r ≡ cond b (insert m e) m ⌝ }
+{
+    m | ((b as u64) << e)
 }
 
 // What is in a and in b.

@@ -1,12 +1,13 @@
 -- `graph::both_ways` meets its contract. The invariant: s has those of the states passed that v reaches and that reach v. Assumes nothing.
 use mathlib.Core.Path.{_≡_, sym, ap, _∙_}
-use mathlib.Core.Logic.{⊎-elim}
+use mathlib.Core.Bool.{Bool, _&&_, cond}
 use Prim.Native.Nat.{ℕ, _-_, _≤_}
 use native.Mathlib.Nat.{le-antisymm}
 use native.Mathlib.Omega.{arith}
-use Rattle.masks.specs.Masks.{insert}
+use lib.ListN.{getD}
+use Rattle.masks.specs.Masks.{has, insert}
 use Rattle.graph.specs.Through.{mutualTo}
-use Rattle.graph.proofs.CodeLaws.{mutual-none, mutual-in, mutual-out}
+use Rattle.graph.proofs.CodeLaws.{mutual-none, mutual-next}
 use Rattle.graph.proofs.both_ways.Statement.{statement}
 use Rattle.graph.proofs.both_ways.Tie as tie
 
@@ -34,8 +35,8 @@ element-copy-out-is-mutual c = omega arith
 is-mutual-requires : tie.Need-is-mutual-requires Inv-loop μ-loop
 is-mutual-requires c κs = (omega arith, omega arith)
 
-with-requires : tie.Need-with-requires Inv-loop μ-loop
-with-requires c κs = omega arith
+with-if-requires : tie.Need-with-if-requires Inv-loop μ-loop
+with-if-requires c κs = omega arith
 
 add-w : tie.Need-add-w Inv-loop μ-loop
 add-w c = omega arith
@@ -48,10 +49,10 @@ loop-again c =
     let a = c .before .before .before .before .before .before .args in
     let at = c .before .before .before .before .loop in (
       omega arith,
-      ⊎-elim
-          (λ k. k .2 ∙ k .1 .ensures ∙ ap (λ (x : ℕ). insert x (at .w)) (at .inv .1) ∙ sym (mutual-in (a .rows .now) (a .v) (at .w) (sym (c .before .is-mutual .ensures) ∙ k .0 .taken)))
-          (λ k. k .1 ∙ at .inv .1 ∙ sym (mutual-out (a .rows .now) (a .v) (at .w) (sym (c .before .is-mutual .ensures) ∙ k .0 .left)))
-          (c .if1 .came),
+      c .with-if .ensures
+          ∙ ap (λ (b : Bool). cond b (insert (at .s) (at .w)) (at .s)) (c .before .is-mutual .ensures)
+          ∙ ap (λ (x : ℕ). cond (has (getD (a .rows .now) (a .v) 0) (at .w) && has (getD (a .rows .now) (at .w) 0) (a .v)) (insert x (at .w)) x) (at .inv .1)
+          ∙ sym (mutual-next (a .rows .now) (a .v) (at .w)),
     )
 
 returns : tie.Need-returns Inv-loop μ-loop
@@ -71,7 +72,7 @@ both-ways-spec =
     mul-is-mutual
     element-copy-out-is-mutual
     is-mutual-requires
-    with-requires
+    with-if-requires
     add-w
     loop-less
     loop-again

@@ -1,13 +1,13 @@
 -- `graph::with_inner` meets its contract. The invariant: r has those of the edges passed that lead into s. Assumes nothing.
 use mathlib.Core.Path.{_≡_, sym, ap, _∙_}
-use mathlib.Core.Logic.{⊎-elim}
+use mathlib.Core.Bool.{Bool, _&&_, cond}
 use Prim.Native.Nat.{ℕ, _+_, _*_, _-_, _≤_, _<_}
 use native.Mathlib.Nat.{le-antisymm}
 use native.Mathlib.Omega.{arith}
 use lib.ListN.{getD}
-use Rattle.masks.specs.Masks.{insert}
+use Rattle.masks.specs.Masks.{has, insert}
 use Rattle.graph.specs.Through.{inner}
-use Rattle.graph.proofs.CodeLaws.{inner-none, inner-in, inner-out}
+use Rattle.graph.proofs.CodeLaws.{inner-none, inner-next}
 use Rattle.graph.proofs.with_inner.Statement.{statement}
 use Rattle.graph.proofs.with_inner.Tie as tie
 
@@ -39,8 +39,8 @@ cast-t c = omega (arith, target-few (c .before))
 leads-into-requires : tie.Need-leads-into-requires Inv-loop μ-loop
 leads-into-requires c κs = (omega (arith, c .before .before .before .pre .1), omega (arith, target-few (c .before)))
 
-with-requires : tie.Need-with-requires Inv-loop μ-loop
-with-requires c κs = omega (arith, c .before .before .before .before .before .pre .1)
+with-if-requires : tie.Need-with-if-requires Inv-loop μ-loop
+with-if-requires c κs = omega (arith, c .before .before .before .before .pre .1)
 
 add-a : tie.Need-add-a Inv-loop μ-loop
 add-a c = omega arith
@@ -54,10 +54,10 @@ loop-again c =
     let at = c .before .before .before .before .loop in
     let e = s .u * s .letters + at .a in (
       omega arith,
-      ⊎-elim
-          (λ w. w .2 ∙ w .1 .ensures ∙ ap (λ (x : ℕ). insert x e) (at .inv .1) ∙ sym (inner-in (s .heads .now) (s .letters) (s .m) (s .s) (s .u) (s .x) (at .a) (sym (c .before .leads-into .ensures) ∙ w .0 .taken)))
-          (λ w. w .1 ∙ at .inv .1 ∙ sym (inner-out (s .heads .now) (s .letters) (s .m) (s .s) (s .u) (s .x) (at .a) (sym (c .before .leads-into .ensures) ∙ w .0 .left)))
-          (c .if1 .came),
+      c .with-if .ensures
+          ∙ ap (λ (b : Bool). cond b (insert (at .r) e) (at .r)) (c .before .leads-into .ensures)
+          ∙ ap (λ (x : ℕ). cond (has (s .m) e && has (s .s) (getD (s .heads .now) e 0)) (insert x e) x) (at .inv .1)
+          ∙ sym (inner-next (s .heads .now) (s .letters) (s .m) (s .s) (s .u) (s .x) (at .a)),
     )
 
 returns : tie.Need-returns Inv-loop μ-loop
@@ -75,7 +75,7 @@ with-inner-spec =
     element-copy-out-t
     cast-t
     leads-into-requires
-    with-requires
+    with-if-requires
     add-a
     loop-less
     loop-again
