@@ -27,7 +27,7 @@ pub use refusal::{ReadError, Refusal};
 pub const NONE: u16 = 65_535;
 
 /// Stack enough for any call.
-pub const STACK_BYTES: usize = 196_608;
+pub const STACK_BYTES: usize = 262_144;
 
 /// The seven tables that [`translate`] fills in. The lengths of the three node tables are equal, those of the two state tables too, and each row table is letters
 /// times as long as a state table. Row = built state times letters plus letter.
