@@ -1,15 +1,14 @@
--- Judging a policy: what reading letters collects, and what the search for a repeat and the rounds after it come to; each answer of the definition.
--- Assumes nothing.
+-- Judging a policy: what reading letters collects, and what the search for a repeat comes to; each answer of the definition. Assumes nothing.
 use Prim.Native.Nat.{ℕ, _+_, _*_, _^_, _≤_, _<_}
 use native.Mathlib.Omega.{arith}
 use mathlib.Core.Path.{_≡_, refl, sym, ap, ap₂, _∙_, subst}
 use mathlib.Core.Bool.{true, false, _&&_}
-use mathlib.Core.List.{List, _++_}
+use mathlib.Core.List.{List, [], _++_}
 use lib.Bits.{bitOr, or-zero-l, or-zero-r}
 use lib.ListN.{length}
 use borrow.Author.Tests.{lt-ltb, le-ltb}
-use Rattle.recurrence.specs.Recurs.{iter, rounds}
-use Rattle.recurrence.specs.Runs.{after, met, window}
+use Rattle.recurrence.specs.Recurs.{iter}
+use Rattle.recurrence.specs.Runs.{after, window}
 use Rattle.recurrence.proofs.Runs.{after-keeps}
 use Rattle.recurrence.proofs.Repeats.{iter-keeps}
 use Rattle.masks.specs.Masks.{insert}
@@ -20,9 +19,10 @@ use Rattle.running.specs.Running.{policyStep, policyMeets}
 use Rattle.running.proofs.Steps.{policy-moves, policy-stays, policy-within}
 use Rattle.judging.specs.declared.PolicyVerdict.the-variants.{Judged, Refused as RefusedPolicy}
 use Rattle.judging.specs.declared.Coloured.{Coloured}
+use Rattle.judging.specs.declared.Watch.{Watch}
 use Rattle.judging.specs.Judging.{inRange, setOf, recurringColours, policyVerdict}
-use Rattle.judging.specs.Rounds.{Comes, colouredState, colouredStep, colouredAfter}
-use Rattle.judging.proofs.Collect.{through-run, window-value}
+use Rattle.judging.specs.Rounds.{watchNext, colouredStep, colouredAfter, colouredAnew, colouredSince}
+use Rattle.judging.proofs.Collect.{through-run, Seeking, seeking-start, seeking-at, seeking-next, seeking-found, seeking-end}
 use Rattle.judging.proofs.Laws.{set-append, set-same, none-of, some-of}
 
 abbrev coloured : ℕ → ℕ → Coloured
@@ -56,11 +56,11 @@ module _ (p : Policy) where
   unfolding colouredStep
   step-within ok m a h = policy-within p ok (m .state) a h
 
-  moves : (m : Coloured) (a : ℕ) → colouredStep p m a .state ≡ policyStep p (m .state) a
+  pub moves : (m : Coloured) (a : ℕ) → colouredStep p m a .state ≡ policyStep p (m .state) a
   unfolding colouredStep
   moves m a = refl
 
-  adds : (m : Coloured) (a : ℕ) (l : List ℕ) → m .colours ≡ setOf l → colouredStep p m a .colours ≡ setOf (l ++ policyMeets p (m .state) a)
+  pub adds : (m : Coloured) (a : ℕ) (l : List ℕ) → m .colours ≡ setOf l → colouredStep p m a .colours ≡ setOf (l ++ policyMeets p (m .state) a)
   unfolding colouredStep
   adds m a l e = ap (λ (s : ℕ). bitOr s (setOf (policyMeets p (m .state) a))) e ∙ sym (set-append l (policyMeets p (m .state) a))
 
@@ -73,18 +73,49 @@ module _ (p : Policy) where
   pub rounds-within : legal p ≡ true → (loop : List ℕ) (k : ℕ) (m : Coloured) → m .state < p .states → iter (colouredAfter p loop) k m .state < p .states
   rounds-within ok loop k m h = iter-keeps (colouredAfter p loop) (λ m. m .state < p .states) (λ m h. word-within ok loop m h) m h k
 
+  -- ---- the search for a repeat, from state v
+  module _ (loop : List ℕ) (v : ℕ) where
+    abbrev pub ColouredSeeking : Coloured → Watch → ℕ → Type 0
+    ColouredSeeking t w round = Seeking (policyStep p) (policyMeets p) (colouredStep p) (λ m. m .state) (λ m. m .colours) setOf moves adds loop v (λ v. v) (p .states) t w round
+
+    pub coloured-start : (t : Coloured) → t ≡ record { state = v; colours = 0 } → ColouredSeeking t (record { kept = v; since = 0; limit = 1 }) 0
+    unfolding setOf
+    coloured-start t e =
+        seeking-start (policyStep p) (policyMeets p) (colouredStep p) (λ m. m .state) (λ m. m .colours) setOf moves adds loop v (λ v. v) (p .states) t
+        (ap (λ (m : Coloured). m .state) e) (ap (λ (m : Coloured). m .colours) e)
+
+    module _ (t : Coloured) (w : Watch) (round : ℕ) (h : ColouredSeeking t w round) where
+      pub coloured-within : legal p ≡ true → v < p .states → t .state < p .states
+      coloured-within ok l =
+          subst (λ (x : ℕ). x < p .states) (sym (seeking-at (policyStep p) (policyMeets p) (colouredStep p) (λ m. m .state) (λ m. m .colours) setOf moves adds loop v (λ v. v) (p .states) t w round h))
+          (iter-keeps (after (policyStep p) (policyMeets p) loop) (λ x. x < p .states) (λ x l. after-keeps (policyStep p) (policyMeets p) (λ v. v < p .states) (policy-within p ok) loop x l) v l round)
+
+      pub coloured-next : round < p .states → (t′ : Coloured) → t′ ≡ colouredAfter p loop t → (w′ : Watch) → w′ ≡ watchNext w (t′ .state)
+          → (u : Coloured) → u ≡ colouredSince t′ (w′ .since) → ColouredSeeking u w′ (round + 1)
+      unfolding setOf colouredSince
+      coloured-next l t′ e w′ we u ue =
+          subst (λ (m : Coloured). ColouredSeeking m w′ (round + 1)) (sym ue)
+          (subst (λ (x : Watch). ColouredSeeking (colouredSince t′ (x .since)) x (round + 1)) (sym we)
+          (seeking-next (policyStep p) (policyMeets p) (colouredStep p) (λ m. m .state) (λ m. m .colours) setOf moves adds loop v (λ v. v) (p .states)
+          colouredAnew (λ m. refl) (λ m. refl) t w round h l t′ e))
+
+      pub coloured-found : legal p ≡ true → v < p .states → (t′ : Coloured) → t′ ≡ colouredAfter p loop t → t′ .state ≡ w .kept → t′ .colours ≡ recurringColours p v [] loop
+      unfolding recurringColours window after
+      coloured-found ok l t′ e q =
+          seeking-found (policyStep p) (policyMeets p) (colouredStep p) (λ m. m .state) (λ m. m .colours) setOf moves adds loop v (λ v. v) (p .states)
+          set-same (λ v. v) (λ v. refl) (λ v. refl) (policy-within p ok) l t w round h t′ e q
+
+      pub coloured-end : p .states ≤ round → (u : Coloured) → u ≡ iter (colouredAfter p loop) (p .states) (colouredAnew t) → u .colours ≡ recurringColours p v [] loop
+      unfolding recurringColours window after setOf
+      coloured-end l u e =
+          ap (λ (m : Coloured). m .colours) e
+          ∙ seeking-end (policyStep p) (policyMeets p) (colouredStep p) (λ m. m .state) (λ m. m .colours) setOf moves adds loop v (λ v. v) (p .states) colouredAnew (λ m. refl) (λ m. refl) t w round h l .holds
+
   module _ (v : ℕ) (stem loop : List ℕ) where
-    -- the rounds read after the search meet what recurs
-    pub colours-recur : legal p ≡ true → v < p .states → (s t : Coloured) (k : ℕ) → s ≡ colouredAfter p stem (coloured v 0)
-        → Comes (colouredAfter p loop) colouredState (p .states) s t k
-        → (again : Coloured) → again .state ≡ t .state → again .colours ≡ 0
-        → iter (colouredAfter p loop) k again .colours ≡ recurringColours p v stem loop
-    unfolding recurringColours window setOf
-    colours-recur ok lt s t k e c again same none =
-        window-value (policyStep p) (policyMeets p) (colouredStep p) (λ m. m .state) (λ m. m .colours) setOf moves adds loop set-same
-        (λ v. v) (λ v. v) (λ v. refl) (λ v. refl) (p .states) (policy-within p ok) s t (subst (λ (s : Coloured). s .state < p .states) (sym e) (word-within ok stem (coloured v 0) lt)) k c again same none
-        ∙ ap (λ (x : ℕ). setOf (rounds (after (policyStep p) (policyMeets p) loop) (met (policyStep p) (policyMeets p) loop) x (p .states) (p .states)))
-        (ap (λ (s : Coloured). s .state) e ∙ word-is stem (coloured v 0))
+    -- the stem leads to where the rounds begin
+    pub colours-after : (s : Coloured) → s ≡ colouredAfter p stem (coloured v 0) → recurringColours p (s .state) [] loop ≡ recurringColours p v stem loop
+    unfolding recurringColours window after
+    colours-after s e = ap (λ (x : ℕ). setOf (window (policyStep p) (policyMeets p) (p .states) [] loop x)) (ap (λ (s : Coloured). s .state) e ∙ word-is stem (coloured v 0))
 
     -- ---- the answers, by the questions in their order
     pub policy-7 : legal p ≡ false → policyVerdict p v stem loop ≡ RefusedPolicy 7

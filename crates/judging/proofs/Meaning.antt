@@ -1,6 +1,6 @@
 -- What the definitions of judging mean: the recurring colours are the colours that recur, the least recurring priority is the least that recurs, and question
 -- 13 is answered no exactly if the run ever reads a row whose target is no state. Assumes nothing.
-use Prim.Native.Nat.{ℕ, zero, suc, _≤_, _<_}
+use Prim.Native.Nat.{ℕ, _≤_, _<_}
 use native.Mathlib.Omega.{arith}
 use mathlib.Core.Path.{_≡_, refl, sym, ap, _∙_, subst}
 use mathlib.Core.Logic.{_⊎_, inl, inr, _↔_}
@@ -25,6 +25,7 @@ use Rattle.running.specs.Running.{policyStep, policyMeets, rowOf, rowStates, sh
 use Rattle.running.proofs.Steps.{policy-within, row-moves, row-within}
 use Rattle.judging.specs.Judging.{nonEmpty, inRange, leastOf, recurringColours, noState, strayMeets, everStray, leastRecurring}
 use Rattle.judging.specs.Strays.{Strays}
+use Rattle.judging.proofs.Collect.{after-any, iter-any}
 use Rattle.judging.proofs.Laws.{set-has, least-le, least-mem, member-some, nonEmpty-append}
 
 -- ---- the recurring colours
@@ -35,17 +36,6 @@ recurring-colours p ok v h stem loop c =
     let held = window (policyStep p) (policyMeets p) (p .states) stem loop v in
     let w = recurring-window (policyStep p) (policyMeets p) (p .states) (policy-within p ok) stem loop v h c in
     (λ t. w .1 (set-has held c .0 t), λ q. set-has held c .1 (w .0 q))
-
--- ---- a run is the same whatever is looked for
-after-any : {S A B : Type 0} (step : S → ℕ → S) (m : S → ℕ → List A) (m′ : S → ℕ → List B) (w : List ℕ) (s : S) → after step m w s ≡ after step m′ w s
-unfolding after
-after-any step m m′ [] s = refl
-after-any step m m′ (a ∷ w) s = after-any step m m′ w (step s a)
-
-iter-any : {A : Type 0} (f g : A → A) → ((x : A) → f x ≡ g x) → (k : ℕ) (x : A) → iter f k x ≡ iter g k x
-unfolding iter
-iter-any f g h zero x = refl
-iter-any f g h (suc k) x = h (iter f k x) ∙ ap g (iter-any f g h k x)
 
 module _ (letters : ℕ) (targets priorities : List ℕ) where
   abbrev step : Run → ℕ → Run

@@ -1,12 +1,13 @@
--- Judging rows: what reading letters collects, and what the search for a repeat and the rounds after it come to; each answer of the definition. Assumes nothing.
-use Prim.Native.Nat.{ℕ, _≤_, _<_}
+-- Judging rows: what reading letters collects, and what the search for a repeat comes to; each answer of the definition. Assumes nothing.
+use Prim.Native.Nat.{ℕ, _+_, _≤_, _<_}
+use native.Mathlib.Omega.{arith}
 use mathlib.Core.Path.{_≡_, refl, sym, ap, ap₂, _∙_, subst}
-use mathlib.Core.Bool.{Bool, true, false, _&&_, _||_, cond}
+use mathlib.Core.Bool.{Bool, true, false, _&&_, _||_, cond, or-false}
 use mathlib.Core.List.{List, [], _∷_, _++_, append-nil}
 use lib.Dec.{eqb}
 use lib.ListN.{length}
 use borrow.Author.Tests.{lt-ltb, le-ltb}
-use Rattle.recurrence.specs.Recurs.{iter, rounds}
+use Rattle.recurrence.specs.Recurs.{iter}
 use Rattle.recurrence.specs.Runs.{after, met, window}
 use Rattle.recurrence.proofs.Runs.{after-keeps}
 use Rattle.running.specs.declared.Run.{Run}
@@ -16,9 +17,10 @@ use Rattle.running.specs.Running.{rowStates, shaped, readingOf, rowStep, rowMee
 use Rattle.running.proofs.Steps.{row-within}
 use Rattle.judging.specs.declared.RowsVerdict.the-variants.{Least, Refused as RefusedRows}
 use Rattle.judging.specs.declared.Seen.{Seen}
+use Rattle.judging.specs.declared.Watch.{Watch}
 use Rattle.judging.specs.Judging.{nonEmpty, inRange, leastOf, noState, strayMeets, everStray, leastRecurring, rowsVerdict}
-use Rattle.judging.specs.Rounds.{Comes, seenState, seenWith, seenStep, seenAfter}
-use Rattle.judging.proofs.Collect.{through-run, through-value, first-value, window-value}
+use Rattle.judging.specs.Rounds.{watchNext, seenWith, seenStep, seenAfter, seenAnew, seenSince}
+use Rattle.judging.proofs.Collect.{after-any, iter-any, through-run, through-value, Held, held-none, held-next, held-rounds, Seeking, seeking-start, seeking-next, seeking-found, seeking-end, first-back, first-all}
 use Rattle.judging.proofs.Laws.{least-with, least-same, nonEmpty-append, nonEmpty-same, none-of, some-of}
 
 -- ---- one reading
@@ -30,85 +32,150 @@ seen-least : (s : Seen) (x : Reading) (l : List ℕ) → s .least ≡ leastOf l 
 seen-least s (Moved r k) l e = least-with l k (s .least) e
 seen-least s (Refused n r) l e = e ∙ ap leastOf (sym (append-nil l))
 
-seen-stray : (s : Seen) (x : Reading) (a : ℕ) (l : List ℕ) → s .stray ≡ nonEmpty l → seenWith s x .stray ≡ nonEmpty (l ++ cond (noState x) (a ∷ []) [])
-seen-stray s (Moved r k) a l e = e ∙ ap nonEmpty (sym (append-nil l))
-seen-stray s (Refused n r) a l e = ap₂ _||_ e (go (eqb n 13)) ∙ sym (nonEmpty-append l (cond (eqb n 13) (a ∷ []) []))
+-- `b ||` for what was read before
+abbrev pub strayIn : Bool → List ℕ → Bool
+strayIn b l = b || nonEmpty l
+
+stray-append : (b : Bool) (l r : List ℕ) → strayIn b l || nonEmpty r ≡ strayIn b (l ++ r)
+stray-append true l r = refl
+stray-append false l r = sym (nonEmpty-append l r)
+
+seen-stray : (b : Bool) (s : Seen) (x : Reading) (a : ℕ) (l : List ℕ) → s .stray ≡ strayIn b l → seenWith s x .stray ≡ strayIn b (l ++ cond (noState x) (a ∷ []) [])
+seen-stray b s (Moved r k) a l e = e ∙ ap (strayIn b) (sym (append-nil l))
+seen-stray b s (Refused n r) a l e = ap₂ _||_ e (go (eqb n 13)) ∙ stray-append b l (cond (eqb n 13) (a ∷ []) [])
   where
     go : (b : Bool) → b ≡ nonEmpty (cond b (a ∷ []) [])
     go true = refl
     go false = refl
 
 module _ (letters : ℕ) (targets priorities : List ℕ) where
-  moves : (s : Seen) (a : ℕ) → seenStep letters targets priorities s a .run ≡ rowStep letters targets priorities (s .run) a
+  pub moves : (s : Seen) (a : ℕ) → seenStep letters targets priorities s a .run ≡ rowStep letters targets priorities (s .run) a
   unfolding seenStep rowStep
   moves s a = seen-run s (readingOf letters targets priorities (s .run) a)
 
-  adds-least : (s : Seen) (a : ℕ) (l : List ℕ) → s .least ≡ leastOf l → seenStep letters targets priorities s a .least ≡ leastOf (l ++ rowMeets letters targets priorities (s .run) a)
+  pub adds-least : (s : Seen) (a : ℕ) (l : List ℕ) → s .least ≡ leastOf l → seenStep letters targets priorities s a .least ≡ leastOf (l ++ rowMeets letters targets priorities (s .run) a)
   unfolding seenStep rowMeets
   adds-least s a l e = seen-least s (readingOf letters targets priorities (s .run) a) l e
 
-  adds-stray : (s : Seen) (a : ℕ) (l : List ℕ) → s .stray ≡ nonEmpty l → seenStep letters targets priorities s a .stray ≡ nonEmpty (l ++ strayMeets letters targets priorities (s .run) a)
+  pub adds-stray : (b : Bool) (s : Seen) (a : ℕ) (l : List ℕ) → s .stray ≡ strayIn b l → seenStep letters targets priorities s a .stray ≡ strayIn b (l ++ strayMeets letters targets priorities (s .run) a)
   unfolding seenStep strayMeets
-  adds-stray s a l e = seen-stray s (readingOf letters targets priorities (s .run) a) a l e
+  adds-stray b s a l e = seen-stray b s (readingOf letters targets priorities (s .run) a) a l e
 
   stays : (r : Run) (a : ℕ) → r .state < rowStates letters targets priorities → rowStep letters targets priorities r a .state < rowStates letters targets priorities
   stays r a h = row-within letters targets priorities r a h
 
+  abbrev n : ℕ
+  n = rowStates letters targets priorities
+
+  abbrev step : Run → ℕ → Run
+  step = rowStep letters targets priorities
+
+  abbrev next : Seen → ℕ → Seen
+  next = seenStep letters targets priorities
+
+  abbrev meets : Run → ℕ → List ℕ
+  meets = rowMeets letters targets priorities
+
+  abbrev strays : Run → ℕ → List ℕ
+  strays = strayMeets letters targets priorities
+
+  -- ---- the search for a repeat, from s
+  module _ (loop : List ℕ) (s : Seen) where
+    abbrev Least-seeking : Seen → Watch → ℕ → Type 0
+    Least-seeking t w round = Seeking step meets next (λ s. s .run) (λ s. s .least) leastOf moves adds-least loop (s .run) (λ r. r .state) n t w round
+
+    abbrev Stray-held : Seen → ℕ → Type 0
+    Stray-held t round = Held step strays next (λ s. s .run) (λ s. s .stray) (strayIn (s .stray)) moves (adds-stray (s .stray)) loop (s .run) t 0 round
+
+    -- the least since the kept state was kept, and whether there was a stray since the first round
+    pub record SeenSeeking (t : Seen) (w : Watch) (round : ℕ) : Type 0 where
+      pub least : Seeking (rowStep letters targets priorities) (rowMeets letters targets priorities) (seenStep letters targets priorities) (λ s. s .run) (λ s. s .least) leastOf moves adds-least loop (s .run) (λ r. r .state) (rowStates letters targets priorities) t w round
+      pub stray : Held (rowStep letters targets priorities) (strayMeets letters targets priorities) (seenStep letters targets priorities) (λ s. s .run) (λ s. s .stray) (strayIn (s .stray)) moves (adds-stray (s .stray)) loop (s .run) t 0 round
+
+    stray-same : (t u : Seen) (round : ℕ) → u .run ≡ t .run → u .stray ≡ t .stray → Stray-held t round → Stray-held u round
+    stray-same t u round r e h = record { at = r ∙ h .at; holds = e ∙ h .holds }
+
+    since-run : (t : Seen) (k : ℕ) → seenSince t k .run ≡ t .run
+    unfolding seenSince
+    since-run t k = go (eqb k 0)
+      where
+        go : (b : Bool) → cond b (seenAnew t) t .run ≡ t .run
+        go true = refl
+        go false = refl
+
+    since-stray : (t : Seen) (k : ℕ) → seenSince t k .stray ≡ t .stray
+    unfolding seenSince
+    since-stray t k = go (eqb k 0)
+      where
+        go : (b : Bool) → cond b (seenAnew t) t .stray ≡ t .stray
+        go true = refl
+        go false = refl
+
+    pub seen-start : (t : Seen) → t ≡ seenAnew s → SeenSeeking t (record { kept = s .run .state; since = 0; limit = 1 }) 0
+    unfolding leastOf iter
+    seen-start t e = record {
+      least = seeking-start step meets next (λ s. s .run) (λ s. s .least) leastOf moves adds-least loop (s .run) (λ r. r .state) n t (ap (λ (s : Seen). s .run) e) (ap (λ (s : Seen). s .least) e);
+      stray = held-none step strays next (λ s. s .run) (λ s. s .stray) (strayIn (s .stray)) moves (adds-stray (s .stray)) loop (s .run) t 0 (ap (λ (s : Seen). s .run) e) (ap (λ (s : Seen). s .stray) e ∙ sym (or-false (s .stray)));
+    }
+
+    module _ (t : Seen) (w : Watch) (round : ℕ) (h : SeenSeeking t w round) where
+      strays-next : (t′ : Seen) → t′ ≡ seenAfter letters targets priorities loop t → Stray-held t′ (round + 1)
+      strays-next t′ e = held-next step strays next (λ s. s .run) (λ s. s .stray) (strayIn (s .stray)) moves (adds-stray (s .stray)) loop (s .run) t t′ 0 round (h .stray) e
+
+      pub seen-next : round < rowStates letters targets priorities → (t′ : Seen) → t′ ≡ seenAfter letters targets priorities loop t → (w′ : Watch) → w′ ≡ watchNext w (t′ .run .state)
+          → (u : Seen) → u ≡ seenSince t′ (w′ .since) → SeenSeeking u w′ (round + 1)
+      unfolding leastOf seenSince
+      seen-next l t′ e w′ we u ue = record {
+        least = subst (λ (m : Seen). Least-seeking m w′ (round + 1)) (sym ue)
+            (subst (λ (x : Watch). Least-seeking (seenSince t′ (x .since)) x (round + 1)) (sym we)
+            (seeking-next step meets next (λ s. s .run) (λ s. s .least) leastOf moves adds-least loop (s .run) (λ r. r .state) n seenAnew (λ m. refl) (λ m. refl) t w round (h .least) l t′ e));
+        stray = stray-same t′ u (round + 1) (ap (λ (s : Seen). s .run) ue ∙ since-run t′ (w′ .since)) (ap (λ (s : Seen). s .stray) ue ∙ since-stray t′ (w′ .since)) (strays-next t′ e);
+      }
+
+      pub seen-found : s .run .state < rowStates letters targets priorities → (t′ : Seen) → t′ ≡ seenAfter letters targets priorities loop t → t′ .run .state ≡ w .kept
+          → (t′ .least ≡ leastRecurring letters targets priorities (s .run) [] loop) × (t′ .stray ≡ s .stray || everStray letters targets priorities (s .run) [] loop)
+      unfolding leastRecurring everStray window after met
+      seen-found l t′ e q = (
+        seeking-found step meets next (λ s. s .run) (λ s. s .least) leastOf moves adds-least loop (s .run) (λ r. r .state) n
+            least-same (λ n. record { state = n }) (λ r. refl) (λ n. refl) stays l t w round (h .least) t′ e q,
+        first-back step strays next (λ s. s .run) (λ s. s .stray) (strayIn (s .stray)) moves (adds-stray (s .stray)) loop (s .run) (λ r. r .state) n
+            (λ l r same. ap (λ (b : Bool). s .stray || b) (nonEmpty-same l r same)) (λ n. record { state = n }) (λ r. refl) (λ n. refl) stays l t′ (round + 1) (strays-next t′ e)
+            (h .least .from) (omega (arith, h .least .now))
+            (q ∙ h .least .kept ∙ ap (λ (r : Run). r .state) (iter-any (after step meets loop) (after step strays loop) (λ x. after-any step meets strays loop x) (h .least .from) (s .run))),
+      )
+
+      pub seen-end : s .run .state < rowStates letters targets priorities → rowStates letters targets priorities ≤ round → (u : Seen) → u ≡ iter (seenAfter letters targets priorities loop) (rowStates letters targets priorities) (seenAnew t)
+          → (u .least ≡ leastRecurring letters targets priorities (s .run) [] loop) × (u .stray ≡ s .stray || everStray letters targets priorities (s .run) [] loop)
+      unfolding leastRecurring everStray window after met leastOf
+      seen-end lt l u e = (
+        ap (λ (m : Seen). m .least) e
+            ∙ seeking-end step meets next (λ s. s .run) (λ s. s .least) leastOf moves adds-least loop (s .run) (λ r. r .state) n seenAnew (λ m. refl) (λ m. refl) t w round (h .least) l .holds,
+        ap (λ (m : Seen). m .stray) e
+            ∙ first-all step strays next (λ s. s .run) (λ s. s .stray) (strayIn (s .stray)) moves (adds-stray (s .stray)) loop (s .run) (λ r. r .state) n
+            (λ l r same. ap (λ (b : Bool). s .stray || b) (nonEmpty-same l r same)) (λ n. record { state = n }) (λ r. refl) (λ n. refl) stays lt (iter (seenAfter letters targets priorities loop) n (seenAnew t)) (round + n)
+            (held-rounds step strays next (λ s. s .run) (λ s. s .stray) (strayIn (s .stray)) moves (adds-stray (s .stray)) loop (s .run) (seenAnew t) 0 round (stray-same t (seenAnew t) round refl refl (h .stray)) n)
+            (omega arith),
+      )
+
+  pub seen-within : (r : Run) (stem : List ℕ) → r .state < rowStates letters targets priorities
+      → (s : Seen) → s ≡ seenAfter letters targets priorities stem (record { run = r; least = 255; stray = false }) → s .run .state < rowStates letters targets priorities
+  seen-within r stem l s e =
+      subst (λ (x : Run). x .state < n) (sym (ap (λ (s : Seen). s .run) e ∙ through-run step meets next (λ s. s .run) (λ s. s .least) leastOf moves adds-least stem (record { run = r; least = 255; stray = false })))
+      (after-keeps step meets (λ r. r .state < n) stays stem r l)
+
   module _ (r : Run) (stem loop : List ℕ) where
-    -- before the stem, and after it
-    abbrev begin : Seen
-    begin = record { run = r; least = 255; stray = false }
+    -- the stem leads to where the rounds begin
+    module _ (s : Seen) (e : s ≡ seenAfter letters targets priorities stem (record { run = r; least = 255; stray = false })) where
+      pub least-after : leastRecurring letters targets priorities (s .run) [] loop ≡ leastRecurring letters targets priorities r stem loop
+      unfolding leastRecurring window after
+      least-after = ap (λ (x : Run). leastOf (window step meets n [] loop x)) (ap (λ (s : Seen). s .run) e
+          ∙ through-run step meets next (λ s. s .run) (λ s. s .least) leastOf moves adds-least stem (record { run = r; least = 255; stray = false }))
 
-    abbrev stemmed : Seen
-    stemmed = seenAfter letters targets priorities stem begin
-
-    module _ (lt : r .state < rowStates letters targets priorities) (s t : Seen) (k : ℕ) (e : s ≡ stemmed)
-        (c : Comes (seenAfter letters targets priorities loop) seenState (rowStates letters targets priorities) s t k) where
-      in-states : (meets : Run → ℕ → List ℕ) → after (rowStep letters targets priorities) meets stem r .state < rowStates letters targets priorities
-      in-states meets = after-keeps (rowStep letters targets priorities) meets (λ r. r .state < rowStates letters targets priorities) stays stem r lt
-
-      -- what the stem and the search read tells whether a row is ever read whose target is no state
-      pub seen-strays : t .stray ≡ everStray letters targets priorities r stem loop
-      unfolding everStray
-      seen-strays =
-          first-value step stray (seenStep letters targets priorities) (λ s. s .run) (λ s. s .stray) nonEmpty moves adds-stray loop nonEmpty-same
-          (λ r. r .state) (λ n. record { state = n }) (λ r. refl) (λ n. refl) n stays s t (subst (λ (r : Run). r .state < n) (sym run-is) (in-states stray)) k c
-          (met step stray stem r) (ap (λ (s : Seen). s .stray) e ∙ through-value step stray (seenStep letters targets priorities) (λ s. s .run) (λ s. s .stray) nonEmpty moves adds-stray stem begin [] refl)
-          ∙ ap (λ (x : Run). nonEmpty (met step stray stem r ++ rounds (after step stray loop) (met step stray loop) x 0 n)) run-is
-          ∙ nonEmpty-append (met step stray stem r) (rounds (after step stray loop) (met step stray loop) (after step stray stem r) 0 n)
-        where
-          n : ℕ
-          n = rowStates letters targets priorities
-
-          step : Run → ℕ → Run
-          step = rowStep letters targets priorities
-
-          stray : Run → ℕ → List ℕ
-          stray = strayMeets letters targets priorities
-
-          run-is : s .run ≡ after (rowStep letters targets priorities) (strayMeets letters targets priorities) stem r
-          run-is = ap (λ (s : Seen). s .run) e ∙ through-run step stray (seenStep letters targets priorities) (λ s. s .run) (λ s. s .stray) nonEmpty moves adds-stray stem begin
-
-      -- the rounds read after the search meet what recurs
-      pub seen-recurs : (again : Seen) → again .run ≡ t .run → again .least ≡ 255
-          → iter (seenAfter letters targets priorities loop) k again .least ≡ leastRecurring letters targets priorities r stem loop
-      unfolding leastRecurring window leastOf
-      seen-recurs again same none =
-          window-value step meets (seenStep letters targets priorities) (λ s. s .run) (λ s. s .least) leastOf moves adds-least loop least-same
-          (λ r. r .state) (λ n. record { state = n }) (λ r. refl) (λ n. refl) n stays s t (subst (λ (r : Run). r .state < n) (sym run-is) (in-states meets)) k c again same none
-          ∙ ap (λ (x : Run). leastOf (rounds (after step meets loop) (met step meets loop) x n n)) run-is
-        where
-          n : ℕ
-          n = rowStates letters targets priorities
-
-          step : Run → ℕ → Run
-          step = rowStep letters targets priorities
-
-          meets : Run → ℕ → List ℕ
-          meets = rowMeets letters targets priorities
-
-          run-is : s .run ≡ after (rowStep letters targets priorities) (rowMeets letters targets priorities) stem r
-          run-is = ap (λ (s : Seen). s .run) e ∙ through-run step meets (seenStep letters targets priorities) (λ s. s .run) (λ s. s .least) leastOf moves adds-least stem begin
+      pub stray-after : s .stray || everStray letters targets priorities (s .run) [] loop ≡ everStray letters targets priorities r stem loop
+      unfolding everStray after met
+      stray-after = ap₂ (λ (b : Bool) (x : Run). b || everStray letters targets priorities x [] loop)
+          (ap (λ (s : Seen). s .stray) e ∙ through-value step strays next (λ s. s .run) (λ s. s .stray) (strayIn false) moves (adds-stray false) stem (record { run = r; least = 255; stray = false }) [] refl)
+          (ap (λ (s : Seen). s .run) e ∙ through-run step strays next (λ s. s .run) (λ s. s .stray) (strayIn false) moves (adds-stray false) stem (record { run = r; least = 255; stray = false }))
 
     -- ---- the answers, by the questions in their order
     pub rows-8 : shaped letters targets priorities ≡ false → rowsVerdict letters targets priorities r stem loop ≡ RefusedRows 8

@@ -1,12 +1,9 @@
 -- What the loops of judging hold: the watch for a repeat, and what a run has come to after some letters.
-use Prim.Native.Nat.{ℕ, _+_, _*_, _<_}
-use mathlib.Core.Path.{_≡_}
-use mathlib.Core.Logic.{_⊎_}
+use Prim.Native.Nat.{ℕ, _+_, _*_}
 use mathlib.Core.Bool.{_||_, cond}
 use mathlib.Core.List.{List, [], _∷_}
 use lib.Bits.{bitOr}
 use lib.Dec.{eqb, ltb}
-use Rattle.recurrence.specs.Recurs.{iter}
 use Rattle.policy.specs.declared.Policy.{Policy}
 use Rattle.running.specs.declared.Reading.{Reading}
 use Rattle.running.specs.declared.Reading.the-variants.{Moved, Refused}
@@ -29,20 +26,18 @@ watchNext w s =
     (record { kept = s; since = 0; limit = w .limit * 2 })
     (record { kept = w .kept; since = w .since + 1; limit = w .limit })
 
--- the search for a repeat ends in t, so that k rounds more will do: it read n rounds and k is n, or the state in which it ends was there k rounds before
-pub record Comes {A : Type 0} (f : A → A) (state : A → ℕ) (n : ℕ) (s t : A) (k : ℕ) : Type 0 where
-  pub round : ℕ
-  pub is : t ≡ iter f round s
-  pub back : ((round ≡ n) × (k ≡ n)) ⊎ ((i : ℕ) × (0 < k) × (round ≡ i + k) × (state (iter f i s) ≡ state t))
-
 -- ---- rows
-abbrev pub seenState : Seen → ℕ
-seenState s = s .run .state
-
 -- after a reading more
 abbrev pub seenWith : Seen → Reading → Seen
 seenWith s (Moved r k) = record { run = r; least = cond (ltb k (s .least)) k (s .least); stray = s .stray }
 seenWith s (Refused n r) = record { run = r; least = s .least; stray = s .stray || eqb n 13 }
+
+-- with no priority met yet; so taken up where the kept state was kept 0 rounds ago
+abbrev pub seenAnew : Seen → Seen
+seenAnew s = record { run = s .run; least = 255; stray = s .stray }
+
+unfoldable pub seenSince : Seen → ℕ → Seen
+seenSince s since = cond (eqb since 0) (seenAnew s) s
 
 module _ (letters : ℕ) (targets priorities : List ℕ) where
   unfoldable pub seenStep : Seen → ℕ → Seen
@@ -53,8 +48,12 @@ module _ (letters : ℕ) (targets priorities : List ℕ) where
   seenAfter w = through seenStep w
 
 -- ---- policies
-abbrev pub colouredState : Coloured → ℕ
-colouredState m = m .state
+-- with no colour met yet; so taken up where the kept state was kept 0 rounds ago
+abbrev pub colouredAnew : Coloured → Coloured
+colouredAnew m = record { state = m .state; colours = 0 }
+
+unfoldable pub colouredSince : Coloured → ℕ → Coloured
+colouredSince m since = cond (eqb since 0) (colouredAnew m) m
 
 module _ (p : Policy) where
   -- after a letter more

@@ -1,11 +1,13 @@
 // Judging a stem and a loop repeated without end, on a policy and on the rows of a built automaton. A round is one reading of the loop.
 ghost use mathlib.Core.Path.{_≡_};
-ghost use mathlib.Core.Bool.{true};
+ghost use mathlib.Core.Bool.{true, _||_};
+ghost use mathlib.Core.List.{[]};
 ghost use Prim.Native.Nat.{_<_};
 ghost use Rattle.recurrence.specs.Recurs.{iter};
 ghost use Rattle.policy.specs.Policies.{legal};
-ghost use Rattle.judging.specs.Judging.{inRange, policyVerdict, rowsVerdict};
-ghost use Rattle.judging.specs.Rounds.{watchNext, Comes, seenState, seenWith, seenAfter, colouredState, colouredStep, colouredAfter};
+ghost use Rattle.running.specs.Running.{rowStates};
+ghost use Rattle.judging.specs.Judging.{inRange, recurringColours, everStray, leastRecurring, policyVerdict, rowsVerdict};
+ghost use Rattle.judging.specs.Rounds.{watchNext, seenWith, seenAfter, seenSince, colouredStep, colouredAfter, colouredSince};
 use policy::Policy;
 use running::Reading;
 use running::Run;
@@ -129,26 +131,36 @@ fn seen_rounds(
     t
 }
 
-// Where the search for a repeat ends: what the run has come to, and how many rounds from there meet exactly what recurs.
-struct Found {
-    pub seen: Seen,
-    pub rounds: usize,
+// With nothing met yet, where the watch has just taken its state.
+fn seen_since(s: Seen, since: usize) -> Seen
+    ensures { λ r. ⌜ r ≡ seenSince s since ⌝ }
+{
+    if since == 0 {
+        let run = s.run;
+        return Seen {
+            run: run,
+            least: 255,
+            stray: s.stray,
+        };
+    }
+    s
 }
 
-// Reads rounds until the run comes back to the state that is watched for, or for n rounds.
-fn seen_repeat(
+// The least priority that recurs in the rounds from here, among n states: what is met from the state that is watched for until the run comes back to it; or, where
+// n rounds do not come back, in n rounds more.
+fn seen_recurring(
     s: Seen,
     n: usize,
     cycle: &[u8],
     letters: u8,
     targets: &[u16],
     priorities: &[u8],
-) -> Found
-    requires { ⌜ n < 65536 ⌝ }
-    ensures { λ r. ⌜ Comes (seenAfter letters (now (targets .entry)) (now (priorities .entry)) (now (cycle .entry))) seenState n s (r .seen) (r .rounds) ⌝ }
+) -> Seen
+    requires { ⌜ (n ≡ rowStates letters (now targets) (now priorities)) × (n < 65536) × (s .run .state < n) ⌝ }
+    ensures { λ r. ⌜ (r .least ≡ leastRecurring letters (now (targets .entry)) (now (priorities .entry)) (s .run) [] (now (cycle .entry))) × (r .stray ≡ s .stray || everStray letters (now (targets .entry)) (now (priorities .entry)) (s .run) [] (now (cycle .entry))) ⌝ }
 {
     let first = s.run;
-    let mut t = s;
+    let mut t = seen_since(s, 0);
     let mut w = Watch {
         kept: first.state,
         since: 0,
@@ -159,15 +171,13 @@ fn seen_repeat(
         t = seen_word(t, cycle, letters, targets, priorities);
         let run = t.run;
         if run.state == w.kept {
-            return Found {
-                seen: t,
-                rounds: w.since + 1,
-            };
+            return t;
         }
         w = watch_next(w, run.state);
+        t = seen_since(t, w.since);
         round += 1;
     }
-    Found { seen: t, rounds: n }
+    seen_rounds(seen_since(t, 0), n, cycle, letters, targets, priorities)
 }
 
 // The least priority that the run over the rows meets again and again, from a state over the stem and then the loop without end.
@@ -200,18 +210,10 @@ pub fn judge_rows(
         stray: false,
     };
     let before = seen_word(start, stem, letters, targets, priorities);
-    let found = seen_repeat(before, n, cycle, letters, targets, priorities);
-    let seen = found.seen;
-    if seen.stray {
+    let all = seen_recurring(before, n, cycle, letters, targets, priorities);
+    if all.stray {
         return RowsVerdict::Refused(13);
     }
-    let run = seen.run;
-    let again = Seen {
-        run: run,
-        least: 255,
-        stray: false,
-    };
-    let all = seen_rounds(again, found.rounds, cycle, letters, targets, priorities);
     RowsVerdict::Least(all.least)
 }
 
@@ -244,14 +246,20 @@ fn coloured_with<'a>(
 }
 
 // After a list of letters.
-fn coloured_word(p: Policy, m: Coloured, word: &[u8]) -> Coloured
-    requires { ⌜ (legal p ≡ true) × (m .state < p .states) ⌝ }
+fn coloured_word<'a>(
+    p: Policy,
+    heads: &'a [u8; 64],
+    colours: &'a [u8; 64],
+    m: Coloured,
+    word: &[u8],
+) -> Coloured
+    requires { ⌜ (legal p ≡ true) × (m .state < p .states) × (now heads ≡ p .target) × (now colours ≡ p .colour) ⌝ }
     ensures { λ r. ⌜ r ≡ colouredAfter p (now (word .entry)) m ⌝ }
 {
     let mut t = m;
     let mut i = 0;
     while i < word.len() {
-        t = coloured_with(p, &p.target, &p.colour, t, word[i]);
+        t = coloured_with(p, heads, colours, t, word[i]);
         i += 1;
     }
     t
@@ -265,25 +273,33 @@ fn coloured_rounds(p: Policy, m: Coloured, k: usize, cycle: &[u8]) -> Coloured
     let mut t = m;
     let mut i = 0;
     while i < k {
-        t = coloured_word(p, t, cycle);
+        t = coloured_word(p, &p.target, &p.colour, t, cycle);
         i += 1;
     }
     t
 }
 
-// Where the search for a repeat ends: what the run has come to, and how many rounds from there meet exactly what recurs.
-struct FoundColoured {
-    pub coloured: Coloured,
-    pub rounds: usize,
+// With nothing met yet, where the watch has just taken its state.
+fn coloured_since(m: Coloured, since: usize) -> Coloured
+    ensures { λ r. ⌜ r ≡ colouredSince m since ⌝ }
+{
+    if since == 0 {
+        return Coloured {
+            state: m.state,
+            colours: 0,
+        };
+    }
+    m
 }
 
-// Reads rounds until the run comes back to the state that is watched for, or for as many rounds as the policy has states.
-fn coloured_repeat(p: Policy, m: Coloured, cycle: &[u8]) -> FoundColoured
+// The colours that recur in the rounds from here: what is met from the state that is watched for until the run comes back to it; or, where as many rounds as the
+// policy has states do not come back, in as many rounds more.
+fn coloured_recurring(p: Policy, m: Coloured, cycle: &[u8]) -> Coloured
     requires { ⌜ (legal p ≡ true) × (m .state < p .states) ⌝ }
-    ensures { λ r. ⌜ Comes (colouredAfter p (now (cycle .entry))) colouredState (p .states) m (r .coloured) (r .rounds) ⌝ }
+    ensures { λ r. ⌜ r .colours ≡ recurringColours p (m .state) [] (now (cycle .entry)) ⌝ }
 {
     let n = p.states as usize;
-    let mut t = m;
+    let mut t = coloured_since(m, 0);
     let mut w = Watch {
         kept: m.state as u16,
         since: 0,
@@ -291,21 +307,16 @@ fn coloured_repeat(p: Policy, m: Coloured, cycle: &[u8]) -> FoundColoured
     };
     let mut round = 0;
     while round < n {
-        t = coloured_word(p, t, cycle);
+        t = coloured_word(p, &p.target, &p.colour, t, cycle);
         let state = t.state as u16;
         if state == w.kept {
-            return FoundColoured {
-                coloured: t,
-                rounds: w.since + 1,
-            };
+            return t;
         }
         w = watch_next(w, state);
+        t = coloured_since(t, w.since);
         round += 1;
     }
-    FoundColoured {
-        coloured: t,
-        rounds: n,
-    }
+    coloured_rounds(p, coloured_since(t, 0), n, cycle)
 }
 
 // The colours that the policy's run meets again and again, from a state over the stem and then the loop without end, and their verdict.
@@ -328,13 +339,7 @@ pub fn judge_policy(p: Policy, state: u8, stem: &[u8], cycle: &[u8]) -> PolicyVe
         state: state,
         colours: 0,
     };
-    let before = coloured_word(p, start, stem);
-    let found = coloured_repeat(p, before, cycle);
-    let end = found.coloured;
-    let again = Coloured {
-        state: end.state,
-        colours: 0,
-    };
-    let all = coloured_rounds(p, again, found.rounds, cycle);
+    let before = coloured_word(p, &p.target, &p.colour, start, stem);
+    let all = coloured_recurring(p, before, cycle);
     PolicyVerdict::Judged(all.colours, policy::in_family(p, all.colours))
 }

@@ -11,34 +11,34 @@ use Rattle.judging.proofs.coloured_word.Statement.{statement}
 use Rattle.judging.proofs.coloured_word.Tie as tie
 
 abbrev Inv-loop : tie.InvT-loop
-Inv-loop word p t₀ i₀ t i = (i ≤ length word) × (t .state < p .states) × (colouredAfter p (drop i word) t ≡ colouredAfter p word t₀)
+Inv-loop p heads colours word t₀ i₀ t i = (i ≤ length word) × (t .state < p .states) × (colouredAfter p (drop i word) t ≡ colouredAfter p word t₀)
 
 abbrev μ-loop : tie.MeasureT-loop
-μ-loop word p t₀ i₀ t i = length word - i
+μ-loop p heads colours word t₀ i₀ t i = length word - i
 
 loop-holds : tie.Need-loop-holds Inv-loop μ-loop
 loop-holds c = (omega arith, c .before .pre .1, refl)
 
 shared-slice-read-coloured-with : tie.Need-shared-slice-read-coloured-with Inv-loop μ-loop
-shared-slice-read-coloured-with c = omega (arith, c .before .before .before .before .loop-test .taken)
+shared-slice-read-coloured-with c = omega (arith, c .before .loop-test .taken)
 
 coloured-with-requires : tie.Need-coloured-with-requires Inv-loop μ-loop
-coloured-with-requires c κs = (c .before .before .before .before .before .before .before .pre .0, c .before .before .before .before .before .loop .inv .1, refl, refl)
+coloured-with-requires c κs = let d = c .before .before in let h = d .before .before .pre in (h .0, d .loop .inv .1, h .2, h .3)
 
 add-i : tie.Need-add-i Inv-loop μ-loop
 add-i c = omega arith
 
 loop-less : tie.Need-loop-less Inv-loop μ-loop
-loop-less c = omega (arith, c .before .before .before .before .before .loop-test .taken)
+loop-less c = omega (arith, c .before .before .loop-test .taken)
 
 loop-again : tie.Need-loop-again Inv-loop μ-loop
 loop-again c =
-    let d = c .before .before .before .before .before .before in
+    let d = c .before .before .before in
     let a = d .before .before .args in (
-      omega (arith, c .before .before .before .before .before .loop-test .taken),
-      subst (λ (m : Coloured). m .state < a .t1 .states) (sym (c .coloured-with .ensures)) (step-within (a .t1) (d .before .before .pre .0) (d .loop .t) _ (d .loop .inv .1)),
-      ap (colouredAfter (a .t1) (drop (d .loop .i + 1) (a .word .now))) (c .coloured-with .ensures)
-          ∙ sym (through-turn (colouredStep (a .t1)) (a .word .now) (d .loop .i) (d .loop .t) (c .before .before .before .before .before .loop-test .taken))
+      omega (arith, c .before .before .loop-test .taken),
+      subst (λ (m : Coloured). m .state < a .p .states) (sym (c .coloured-with .ensures)) (step-within (a .p) (d .before .before .pre .0) (d .loop .t) _ (d .loop .inv .1)),
+      ap (colouredAfter (a .p) (drop (d .loop .i + 1) (a .word .now))) (c .coloured-with .ensures)
+          ∙ sym (through-turn (colouredStep (a .p)) (a .word .now) (d .loop .i) (d .loop .t) (c .before .before .loop-test .taken))
           ∙ d .loop .inv .2,
     )
 
@@ -46,7 +46,7 @@ returns : tie.Need-returns Inv-loop μ-loop
 returns c =
     let d = c .before in
     let a = d .before .before .args in
-    sym (through-end (colouredStep (a .t1)) (a .word .now) (d .loop .i) (d .loop .t) (c .loop-test .left)) ∙ d .loop .inv .2
+    sym (through-end (colouredStep (a .p)) (a .word .now) (d .loop .i) (d .loop .t) (c .loop-test .left)) ∙ d .loop .inv .2
 
 pub coloured-word-spec : {M : Type 1} → statement M
 coloured-word-spec =

@@ -1,4 +1,4 @@
--- Each answer is the definition's by the questions that led there; what is read after the repeat is what the definition's window holds. Assumes nothing.
+-- Each answer is the definition's by the questions that led there; what the search holds is what the definition's window holds. Assumes nothing.
 use Prim.Native.Nat.{_<_}
 use mathlib.Core.Path.{_≡_, refl, sym, ap, ap₂, _∙_, subst}
 use mathlib.Core.Bool.{true, _&&_}
@@ -6,7 +6,7 @@ use borrow.Author.Tests.{not-true, not-false}
 use Rattle.policy.specs.Policies.{legal, inFamily}
 use Rattle.judging.specs.declared.PolicyVerdict.the-variants.{Judged}
 use Rattle.judging.specs.declared.Coloured.{Coloured}
-use Rattle.judging.proofs.Colours.{word-within, rounds-within, colours-recur, policy-7, policy-11, policy-14, policy-12, policy-judged}
+use Rattle.judging.proofs.Colours.{word-within, colours-after, policy-7, policy-11, policy-14, policy-12, policy-judged}
 use borrow.Author.Needs.{needs}
 use Rattle.judging.proofs.judge_policy.Statement.{statement}
 use Rattle.judging.proofs.judge_policy.Tie as tie
@@ -17,21 +17,21 @@ is-legal-requires c κs = search needs
 returns : tie.Need-returns
 returns c =
     let a = c .before .before .before .before .args in
-    sym (policy-7 (a .p) (a .state) (a .stem .now) (a .cycle .now) (sym (c .before .is-legal .ensures) ∙ not-true _ (c .if1 .taken)))
+    sym (policy-7 (a .t1) (a .state) (a .stem .now) (a .cycle .now) (sym (c .before .is-legal .ensures) ∙ not-true _ (c .if1 .taken)))
 
 -- past question 7
-ok : (c : tie.Else1) → legal (c .before .before .before .before .args .p) ≡ true
+ok : (c : tie.Else1) → legal (c .before .before .before .before .args .t1) ≡ true
 ok c = sym (c .before .is-legal .ensures) ∙ not-false _ (c .if1 .left)
 
 returns-2 : tie.Need-returns-2
 returns-2 c =
-    let a = c .before .before .before .before .before .before .args in
-    sym (policy-11 (a .p) (a .state) (a .stem .now) (a .cycle .now) (ok (c .before .before)) (c .if2 .taken))
+    let a = c .before .before .before .before .before .args in
+    sym (policy-11 (a .t1) (a .state) (a .stem .now) (a .cycle .now) (ok (c .before)) (c .if2 .taken))
 
 returns-3 : tie.Need-returns-3
 returns-3 c =
-    let a = c .before .before .before .before .before .before .before .args in
-    sym (policy-14 (a .p) (a .state) (a .stem .now) (a .cycle .now) (ok (c .before .before .before)) (c .before .if2 .left) (c .if3 .taken))
+    let a = c .before .before .before .before .before .before .args in
+    sym (policy-14 (a .t1) (a .state) (a .stem .now) (a .cycle .now) (ok (c .before .before)) (c .before .if2 .left) (c .if3 .taken))
 
 in-range-requires : tie.Need-in-range-requires
 in-range-requires c κs = search needs
@@ -41,42 +41,32 @@ in-range-requires-2 c κs = search needs
 
 returns-4 : tie.Need-returns-4
 returns-4 c =
-    let a = c .before .before .before .before .before .before .before .before .before .before .args in
-    let d = c .before .before .before in
-    sym (policy-12 (a .p) (a .state) (a .stem .now) (a .cycle .now) (ok (d .before .before .before)) (d .before .if2 .left) (d .if3 .left)
+    let e = c .before .before .before in
+    let a = e .before .before .before .before .before .before .args in
+    sym (policy-12 (a .t1) (a .state) (a .stem .now) (a .cycle .now) (ok (e .before .before)) (e .before .if2 .left) (e .if3 .left)
     (sym (ap₂ _&&_ (c .before .before .in-range .ensures) (c .before .in-range2 .ensures)) ∙ not-true _ (c .if4 .taken)))
 
 coloured-word-requires : tie.Need-coloured-word-requires
-coloured-word-requires c κs = let d = c .before .before .before .before in (ok (d .before .before), d .if2 .left)
+coloured-word-requires c κs = let e = c .before .before .before .before .before .before in (ok (e .before .before), e .before .if2 .left, refl, refl)
 
-coloured-repeat-requires : tie.Need-coloured-repeat-requires
-coloured-repeat-requires c κs =
-    let a = c .before .before .before .before .before .before .before .before .before .before .before .args in
-    let d = c .before .before .before .before .before in
-    (ok (d .before .before), subst (λ (m : Coloured). m .state < a .p .states) (sym (c .coloured-word .ensures)) (word-within (a .p) (ok (d .before .before)) (a .stem .now) _ (d .if2 .left)))
-
-coloured-rounds-requires : tie.Need-coloured-rounds-requires
-coloured-rounds-requires c κs =
-    let a = c .before .before .before .before .before .before .before .before .before .before .before .before .before .args in
-    let d = c .before .before .before .before .before .before .before in
-    let f = c .before in
-    let s = f .before .coloured-word in
-    let low : s .result .state < a .p .states = subst (λ (m : Coloured). m .state < a .p .states) (sym (s .ensures)) (word-within (a .p) (ok (d .before .before)) (a .stem .now) _ (d .if2 .left)) in
-    (ok (d .before .before), subst (λ (m : Coloured). m .state < a .p .states) (sym (f .coloured-repeat .ensures .is)) (rounds-within (a .p) (ok (d .before .before)) (a .cycle .now) _ _ low))
+coloured-recurring-requires : tie.Need-coloured-recurring-requires
+coloured-recurring-requires c κs =
+    let e = c .before .before .before .before .before .before .before in
+    let a = e .before .before .before .before .before .before .args in
+    (ok (e .before .before), subst (λ (m : Coloured). m .state < a .t1 .states) (sym (c .coloured-word .ensures)) (word-within (a .t1) (ok (e .before .before)) (a .stem .now) _ (e .before .if2 .left)))
 
 in-family-requires : tie.Need-in-family-requires
 in-family-requires c κs = search needs
 
 returns-5 : tie.Need-returns-5
 returns-5 c =
-    let a = c .before .before .before .before .before .before .before .before .before .before .before .before .before .before .before .args in
-    let f = c .before .before .before in
-    let d = f .before .before in
+    let f = c .before .before in
+    let d = f .before .before .before .before in
     let e = d .before .before .before in
-    let is = ap (λ (m : Coloured). m .colours) (c .before .coloured-rounds .ensures)
-    ∙ colours-recur (a .p) (a .state) (a .stem .now) (a .cycle .now) (ok (e .before .before .before)) (e .before .if2 .left) _ _ _ (f .before .coloured-word .ensures) (f .coloured-repeat .ensures) _ refl refl in
-    ap₂ Judged is (c .in-family .ensures ∙ ap (inFamily (a .p)) is)
-    ∙ sym (policy-judged (a .p) (a .state) (a .stem .now) (a .cycle .now) (ok (e .before .before .before)) (e .before .if2 .left) (e .if3 .left)
+    let a = e .before .before .before .before .before .before .args in
+    let is = c .before .coloured-recurring .ensures ∙ colours-after (a .t1) (a .state) (a .stem .now) (a .cycle .now) _ (f .coloured-word .ensures) in
+    ap₂ Judged is (c .in-family .ensures ∙ ap (inFamily (a .t1)) is)
+    ∙ sym (policy-judged (a .t1) (a .state) (a .stem .now) (a .cycle .now) (ok (e .before .before)) (e .before .if2 .left) (e .if3 .left)
     (sym (ap₂ _&&_ (d .before .before .in-range .ensures) (d .before .in-range2 .ensures)) ∙ not-false _ (d .if4 .left)))
 
 pub judge-policy-spec : {M : Type 1} → statement M
@@ -91,7 +81,6 @@ judge-policy-spec =
     in-range-requires-2
     returns-4
     coloured-word-requires
-    coloured-repeat-requires
-    coloured-rounds-requires
+    coloured-recurring-requires
     in-family-requires
     returns-5)

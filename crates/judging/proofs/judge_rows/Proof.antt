@@ -1,4 +1,4 @@
--- Each answer is the definition's by the questions that led there; what is read until the repeat and after it is what the definition's window holds. Assumes nothing.
+-- Each answer is the definition's by the questions that led there; what the search holds is what the definition's window holds. Assumes nothing.
 use native.Mathlib.Omega.{arith}
 use mathlib.Core.Path.{_≡_, refl, sym, ap, ap₂, _∙_}
 use mathlib.Core.Bool.{true, _&&_}
@@ -7,9 +7,8 @@ use Rattle.running.specs.declared.Run.{Run}
 use Rattle.running.specs.Running.{rowStates, shaped}
 use Rattle.running.proofs.Laws.{shaped-facts}
 use Rattle.judging.specs.declared.RowsVerdict.the-variants.{Least}
-use Rattle.judging.specs.declared.Seen.{Seen}
 use Rattle.judging.specs.Judging.{inRange}
-use Rattle.judging.proofs.Rows.{seen-strays, seen-recurs, rows-8, rows-11, rows-14, rows-12, rows-13, rows-least}
+use Rattle.judging.proofs.Rows.{seen-within, least-after, stray-after, rows-8, rows-11, rows-14, rows-12, rows-13, rows-least}
 use borrow.Author.Needs.{needs}
 use Rattle.judging.proofs.judge_rows.Statement.{statement}
 use Rattle.judging.proofs.judge_rows.Tie as tie
@@ -62,36 +61,35 @@ range c = sym (ap₂ _&&_ (c .before .before .in-range .ensures) (c .before .in-
 seen-word-requires : tie.Need-seen-word-requires
 seen-word-requires c κs = search needs
 
-seen-repeat-requires : tie.Need-seen-repeat-requires
-seen-repeat-requires c κs = omega (arith, shaped-facts _ _ _ (shape (c .before .before .before .before .before .before)) .few)
+seen-recurring-requires : tie.Need-seen-recurring-requires
+unfolding rowStates
+seen-recurring-requires c κs =
+    let e = c .before .before .before .before in
+    let a = e .before .before .before .before .before .before .before .before .args in
+    (refl, omega (arith, shaped-facts _ _ _ (shape (e .before .before)) .few), seen-within (a .letters) (a .targets .now) (a .priorities .now) (record { state = a .state }) (a .stem .now) (e .before .if2 .left) _ (c .seen-word .ensures))
 
 returns-5 : tie.Need-returns-5
 unfolding rowStates
 returns-5 c =
-    let a = c .before .before .before .before .before .before .before .before .before .before .before .before .before .before .before .args in
     let f = c .before .before in
-    let d = f .before .before in
+    let d = f .before in
     let e = d .before .before .before in
+    let a = e .before .before .before .before .before .before .before .before .args in
     let r : Run = record { state = a .state } in
     sym (rows-13 (a .letters) (a .targets .now) (a .priorities .now) r (a .stem .now) (a .cycle .now) (shape (e .before .before)) (e .before .if2 .left) (e .if3 .left) (range d)
-    (sym (seen-strays (a .letters) (a .targets .now) (a .priorities .now) r (a .stem .now) (a .cycle .now) (e .before .if2 .left) _ _ _ (f .before .seen-word .ensures) (f .seen-repeat .ensures)) ∙ c .if5 .taken))
-
-seen-rounds-requires : tie.Need-seen-rounds-requires
-seen-rounds-requires c κs = search needs
+    (sym (c .before .seen-recurring .ensures .1 ∙ stray-after (a .letters) (a .targets .now) (a .priorities .now) r (a .stem .now) (a .cycle .now) _ (f .seen-word .ensures)) ∙ c .if5 .taken))
 
 returns-6 : tie.Need-returns-6
 unfolding rowStates
 returns-6 c =
-    let a = c .before .before .before .before .before .before .before .before .before .before .before .before .before .before .before .before .before .args in
-    let g = c .before .before in
-    let f = g .before .before in
-    let d = f .before .before in
+    let f = c .before .before in
+    let d = f .before in
     let e = d .before .before .before in
+    let a = e .before .before .before .before .before .before .before .before .args in
     let r : Run = record { state = a .state } in
-    ap Least (ap (λ (s : Seen). s .least) (c .seen-rounds .ensures)
-    ∙ seen-recurs (a .letters) (a .targets .now) (a .priorities .now) r (a .stem .now) (a .cycle .now) (e .before .if2 .left) _ _ _ (f .before .seen-word .ensures) (f .seen-repeat .ensures) _ refl refl)
+    ap Least (c .before .seen-recurring .ensures .0 ∙ least-after (a .letters) (a .targets .now) (a .priorities .now) r (a .stem .now) (a .cycle .now) _ (f .seen-word .ensures))
     ∙ sym (rows-least (a .letters) (a .targets .now) (a .priorities .now) r (a .stem .now) (a .cycle .now) (shape (e .before .before)) (e .before .if2 .left) (e .if3 .left) (range d)
-    (sym (seen-strays (a .letters) (a .targets .now) (a .priorities .now) r (a .stem .now) (a .cycle .now) (e .before .if2 .left) _ _ _ (f .before .seen-word .ensures) (f .seen-repeat .ensures)) ∙ g .if5 .left))
+    (sym (c .before .seen-recurring .ensures .1 ∙ stray-after (a .letters) (a .targets .now) (a .priorities .now) r (a .stem .now) (a .cycle .now) _ (f .seen-word .ensures)) ∙ c .if5 .left))
 
 pub judge-rows-spec : {M : Type 1} → statement M
 judge-rows-spec =
@@ -106,7 +104,6 @@ judge-rows-spec =
     in-range-requires-2
     returns-4
     seen-word-requires
-    seen-repeat-requires
+    seen-recurring-requires
     returns-5
-    seen-rounds-requires
     returns-6)
