@@ -81,18 +81,18 @@ module _ (letters : ℕ) (targets priorities : List ℕ) where
 
   -- ---- the search for a repeat, from s
   module _ (loop : List ℕ) (s : Seen) where
-    abbrev Least-seeking : Seen → Watch → ℕ → Type 0
-    Least-seeking t w round = Seeking step meets next (λ s. s .run) (λ s. s .least) leastOf moves adds-least loop (s .run) (λ r. r .state) n t w round
+    abbrev pub LeastSeeking : Seen → Watch → ℕ → Type 0
+    LeastSeeking t w round = Seeking step meets next (λ s. s .run) (λ s. s .least) leastOf moves adds-least loop (s .run) (λ r. r .state) n t w round
 
-    abbrev Stray-held : Seen → ℕ → Type 0
-    Stray-held t round = Held step strays next (λ s. s .run) (λ s. s .stray) (strayIn (s .stray)) moves (adds-stray (s .stray)) loop (s .run) t 0 round
+    abbrev pub StrayHeld : Seen → ℕ → Type 0
+    StrayHeld t round = Held step strays next (λ s. s .run) (λ s. s .stray) (strayIn (s .stray)) moves (adds-stray (s .stray)) loop (s .run) t 0 round
 
     -- the least since the kept state was kept, and whether there was a stray since the first round
     pub record SeenSeeking (t : Seen) (w : Watch) (round : ℕ) : Type 0 where
-      pub least : Seeking (rowStep letters targets priorities) (rowMeets letters targets priorities) (seenStep letters targets priorities) (λ s. s .run) (λ s. s .least) leastOf moves adds-least loop (s .run) (λ r. r .state) (rowStates letters targets priorities) t w round
-      pub stray : Held (rowStep letters targets priorities) (strayMeets letters targets priorities) (seenStep letters targets priorities) (λ s. s .run) (λ s. s .stray) (strayIn (s .stray)) moves (adds-stray (s .stray)) loop (s .run) t 0 round
+      pub least : LeastSeeking t w round
+      pub stray : StrayHeld t round
 
-    stray-same : (t u : Seen) (round : ℕ) → u .run ≡ t .run → u .stray ≡ t .stray → Stray-held t round → Stray-held u round
+    stray-same : (t u : Seen) (round : ℕ) → u .run ≡ t .run → u .stray ≡ t .stray → StrayHeld t round → StrayHeld u round
     stray-same t u round r e h = record { at = r ∙ h .at; holds = e ∙ h .holds }
 
     since-run : (t : Seen) (k : ℕ) → seenSince t k .run ≡ t .run
@@ -119,15 +119,15 @@ module _ (letters : ℕ) (targets priorities : List ℕ) where
     }
 
     module _ (t : Seen) (w : Watch) (round : ℕ) (h : SeenSeeking t w round) where
-      strays-next : (t′ : Seen) → t′ ≡ seenAfter letters targets priorities loop t → Stray-held t′ (round + 1)
+      strays-next : (t′ : Seen) → t′ ≡ seenAfter letters targets priorities loop t → StrayHeld t′ (round + 1)
       strays-next t′ e = held-next step strays next (λ s. s .run) (λ s. s .stray) (strayIn (s .stray)) moves (adds-stray (s .stray)) loop (s .run) t t′ 0 round (h .stray) e
 
       pub seen-next : round < rowStates letters targets priorities → (t′ : Seen) → t′ ≡ seenAfter letters targets priorities loop t → (w′ : Watch) → w′ ≡ watchNext w (t′ .run .state)
           → (u : Seen) → u ≡ seenSince t′ (w′ .since) → SeenSeeking u w′ (round + 1)
       unfolding leastOf seenSince
       seen-next l t′ e w′ we u ue = record {
-        least = subst (λ (m : Seen). Least-seeking m w′ (round + 1)) (sym ue)
-            (subst (λ (x : Watch). Least-seeking (seenSince t′ (x .since)) x (round + 1)) (sym we)
+        least = subst (λ (m : Seen). LeastSeeking m w′ (round + 1)) (sym ue)
+            (subst (λ (x : Watch). LeastSeeking (seenSince t′ (x .since)) x (round + 1)) (sym we)
             (seeking-next step meets next (λ s. s .run) (λ s. s .least) leastOf moves adds-least loop (s .run) (λ r. r .state) n seenAnew (λ m. refl) (λ m. refl) t w round (h .least) l t′ e));
         stray = stray-same t′ u (round + 1) (ap (λ (s : Seen). s .run) ue ∙ since-run t′ (w′ .since)) (ap (λ (s : Seen). s .stray) ue ∙ since-stray t′ (w′ .since)) (strays-next t′ e);
       }
