@@ -448,98 +448,19 @@ fn empty_set() {
     empty_set_policy(0, &NONE[..0], b"\x00");
 }
 
+// Once with nothing else to refuse, and once with 11, 14 and 12 as well.
+fn shape(name: &[u8], letters: u8, targets: &[u16], priorities: &[u8]) {
+    rows_line(name, letters, targets, priorities, 0, &NONE[..0], b"\x00");
+    rows_line(name, letters, targets, priorities, 9, b"\x09", &NONE[..0]);
+}
+
 // Question 8, before 11, 14 and 12.
 fn shapes() {
-    rows_line(
-        b"letters 0",
-        0,
-        &A_TARGETS,
-        &A_PRIORITIES,
-        0,
-        &NONE[..0],
-        b"\x00",
-    );
-    rows_line(
-        b"letters 0",
-        0,
-        &A_TARGETS,
-        &A_PRIORITIES,
-        9,
-        b"\x09",
-        &NONE[..0],
-    );
-    rows_line(
-        b"letters 9",
-        9,
-        &A_TARGETS,
-        &A_PRIORITIES,
-        0,
-        &NONE[..0],
-        b"\x00",
-    );
-    rows_line(
-        b"letters 9",
-        9,
-        &A_TARGETS,
-        &A_PRIORITIES,
-        9,
-        b"\x09",
-        &NONE[..0],
-    );
-    rows_line(
-        b"unequal lengths",
-        3,
-        &A_TARGETS,
-        &A_PRIORITIES[..6],
-        0,
-        &NONE[..0],
-        b"\x00",
-    );
-    rows_line(
-        b"unequal lengths",
-        3,
-        &A_TARGETS,
-        &A_PRIORITIES[..6],
-        9,
-        b"\x09",
-        &NONE[..0],
-    );
-    rows_line(
-        b"not a multiple",
-        2,
-        &A_TARGETS,
-        &A_PRIORITIES,
-        0,
-        &NONE[..0],
-        b"\x00",
-    );
-    rows_line(
-        b"not a multiple",
-        2,
-        &A_TARGETS,
-        &A_PRIORITIES,
-        9,
-        b"\x09",
-        &NONE[..0],
-    );
-    rows_line(
-        b"part of the rows",
-        3,
-        &A_TARGETS[..6],
-        &A_PRIORITIES[..6],
-        0,
-        &NONE[..0],
-        b"\x00",
-    );
-    rows_line(
-        b"part of the rows",
-        3,
-        &A_TARGETS[..6],
-        &A_PRIORITIES[..6],
-        9,
-        b"\x09",
-        &NONE[..0],
-    );
+    shape(b"letters 0", 0, &A_TARGETS, &A_PRIORITIES);
+    shape(b"letters 9", 9, &A_TARGETS, &A_PRIORITIES);
+    shape(b"unequal lengths", 3, &A_TARGETS, &A_PRIORITIES[..6]);
+    shape(b"not a multiple", 2, &A_TARGETS, &A_PRIORITIES);
+    shape(b"part of the rows", 3, &A_TARGETS[..6], &A_PRIORITIES[..6]);
 }
 
 fn main() {
