@@ -99,6 +99,14 @@ pub fn set_with(s: u8, c: u8) -> u8
     s | (1 << c)
 }
 
+// The colour set s, with c where b holds; without a branch.
+pub fn set_with_if(s: u8, c: u8, b: bool) -> u8
+    requires { ⌜ c < 8 ⌝ }
+    ensures { λ r. ⌜ r ≡ cond b (insert s c) s ⌝ }
+{
+    s | ((b as u8) << c)
+}
+
 // Whether every colour of a is one of b.
 pub fn set_inside(a: u8, b: u8) -> bool
     ensures { λ r. ⌜ r ≡ inside a b ⌝ }

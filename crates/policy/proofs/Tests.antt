@@ -70,11 +70,7 @@ module _ (p : Policy) where
   unfolding coloursBelow
   colours-none m = refl
 
-  -- with edge n, or without it
-  pub colours-in : (n m : ℕ) → has m n ≡ true → coloursBelow p (n + 1) m ≡ insert (coloursBelow p n m) (colourOf p n)
+  -- with edge n, where m has it
+  pub colours-next : (n m : ℕ) → coloursBelow p (n + 1) m ≡ cond (has m n) (insert (coloursBelow p n m) (colourOf p n)) (coloursBelow p n m)
   unfolding coloursBelow
-  colours-in n m h = rw add-one (ap (λ (b : Bool). cond b (insert (coloursBelow p n m) (colourOf p n)) (coloursBelow p n m)) h)
-
-  pub colours-out : (n m : ℕ) → has m n ≡ false → coloursBelow p (n + 1) m ≡ coloursBelow p n m
-  unfolding coloursBelow
-  colours-out n m h = rw add-one (ap (λ (b : Bool). cond b (insert (coloursBelow p n m) (colourOf p n)) (coloursBelow p n m)) h)
+  colours-next n m = rw add-one refl

@@ -55,9 +55,7 @@ pub fn colours_of(p: Policy, m: u64) -> u8
     let mut s: u8 = 0;
     let n = edges(p);
     for e in 0..n {
-        if masks::has(m, e) {
-            s = masks::set_with(s, p.colour[e]);
-        }
+        s = masks::set_with_if(s, p.colour[e], masks::has(m, e));
     }
     s
 }
