@@ -3,7 +3,7 @@ use Prim.Native.Nat.{ℕ, zero, suc, _+_, _^_, _<_}
 use native.Mathlib.Omega.{arith}
 use native.Mathlib.Decide.{ℕ-discrete, decLt}
 use native.Mathlib.Numerals.{add-one}
-use mathlib.Core.Path.{_≡_, refl, sym, ap, _∙_, subst}
+use mathlib.Core.Path.{_≡_, refl, sym, ap, ap₂, _∙_, subst}
 use mathlib.Core.Logic.{_⊎_, inl, inr, _≢_}
 use mathlib.Core.Bool.{Bool, true, false, _&&_, cond, true≢false, false≢true, and-true}
 use mathlib.Core.List.{List, List·Memᴰ·head, List·Memᴰ·eq-of-singleton}
@@ -18,7 +18,7 @@ use Rattle.masks.specs.Masks.{has, insert, gather}
 use Rattle.masks.proofs.Bits.{has-and, has-or, has-none, has-insert, has-high, mask-ext}
 use Rattle.masks.proofs.Gather.{gather-lt, has-gather, gather-in, gather-out}
 use Rattle.policy.specs.declared.Policy.{Policy}
-use Rattle.policy.specs.Policies.{edges, colourOf, edgeColours, coloursOf, legal}
+use Rattle.policy.specs.Policies.{edges, colourOf, edgeColours, coloursOf, inFamily, accepting, legal}
 use Rattle.policy.specs.ByColour.{hasColour, edgesIn, byColourTo, byColour, tableEdgesTo, tableEdges, tableColoursTo, tableColours}
 use Rattle.policy.proofs.Laws.{legal-counts, legal-colour, colours-some, some-colours}
 
@@ -113,55 +113,57 @@ some-colours-to t (suc n) m c l h = go (ℕ-discrete n c) (test (eqb (bitAnd m (
     go (no q) (inl u) ih = rw u (ih (omega arith) h)
     go (no q) (inr u) ih = rw u (has-insert (tableColoursTo t n m) n c ∙ or-left (has (tableColoursTo t n m) c) (eqb n c) (ih (omega arith) h))
 
-module _ (p : Policy) where
-  of-colour : (c e : ℕ) → colourOf p e ≡ c → hasColour p c e ≡ true
+-- ---- one turn of the loop that fills the table
+module _ (hues : List ℕ) where
+  of-colour : (c e : ℕ) → getD hues e 0 ≡ c → hasColour hues c e ≡ true
   unfolding hasColour
-  of-colour c e q = ≡eqb (colourOf p e) c q
+  of-colour c e q = ≡eqb (getD hues e 0) c q
 
-  not-colour : (c e : ℕ) → colourOf p e ≢ c → hasColour p c e ≡ false
+  not-colour : (c e : ℕ) → getD hues e 0 ≢ c → hasColour hues c e ≡ false
   unfolding hasColour
-  not-colour c e q = neqb (colourOf p e) c q
+  not-colour c e q = neqb (getD hues e 0) c q
 
-  is-colour : (c e : ℕ) → hasColour p c e ≡ true → colourOf p e ≡ c
+  is-colour : (c e : ℕ) → hasColour hues c e ≡ true → getD hues e 0 ≡ c
   unfolding hasColour
-  is-colour c e t = eqb≡ (colourOf p e) c t
+  is-colour c e t = eqb≡ (getD hues e 0) c t
 
-  -- ---- one turn of the loop that fills the table
-  pub by-none : replicate 8 0 ≡ byColourTo p 0
+  pub by-none : replicate 8 0 ≡ byColourTo hues 0
   unfolding byColourTo gather
   by-none = refl
 
-  by-long : (n : ℕ) → length (byColourTo p n) ≡ 8
+  by-long : (n : ℕ) → length (byColourTo hues n) ≡ 8
   unfolding byColourTo
   by-long n = refl
 
-  by-at : (n c : ℕ) → c < 8 → getD (byColourTo p n) c 0 ≡ gather (hasColour p c) n
+  by-at : (n c : ℕ) → c < 8 → getD (byColourTo hues n) c 0 ≡ gather (hasColour hues c) n
   unfolding byColourTo
-  by-at n c l = getD-map-below (λ (c : ℕ). gather (hasColour p c) n) 8 c 0 l
+  by-at n c l = getD-map-below (λ (c : ℕ). gather (hasColour hues c) n) 8 c 0 l
 
-  pub by-more : (n : ℕ) → colourOf p n < 8 → set (byColourTo p n) (colourOf p n) (insert (getD (byColourTo p n) (colourOf p n) 0) n) ≡ byColourTo p (n + 1)
-  by-more n l = ext-getD 0 after (byColourTo p (n + 1)) (long ∙ sym (by-long (n + 1))) (λ c h. at c (subst (λ (k : ℕ). c < k) long h) (ℕ-discrete c k))
+  pub by-more : (n : ℕ) → getD hues n 0 < 8 → set (byColourTo hues n) (getD hues n 0) (insert (getD (byColourTo hues n) (getD hues n 0) 0) n) ≡ byColourTo hues (n + 1)
+  by-more n l = ext-getD 0 after (byColourTo hues (n + 1)) (long ∙ sym (by-long (n + 1))) (λ c h. at c (subst (λ (k : ℕ). c < k) long h) (ℕ-discrete c k))
     where
       k : ℕ
-      k = colourOf p n
+      k = getD hues n 0
 
       after : List ℕ
-      after = set (byColourTo p n) k (insert (getD (byColourTo p n) k 0) n)
+      after = set (byColourTo hues n) k (insert (getD (byColourTo hues n) k 0) n)
 
       long : length after ≡ 8
-      long = length-set (byColourTo p n) k (insert (getD (byColourTo p n) k 0) n) ∙ by-long n
+      long = length-set (byColourTo hues n) k (insert (getD (byColourTo hues n) k 0) n) ∙ by-long n
 
-      at : (c : ℕ) → c < 8 → Dec (c ≡ k) → getD after c 0 ≡ getD (byColourTo p (n + 1)) c 0
+      at : (c : ℕ) → c < 8 → Dec (c ≡ k) → getD after c 0 ≡ getD (byColourTo hues (n + 1)) c 0
       at c h (yes q) =
-          ap (λ (c : ℕ). getD after c 0) q ∙ getD-set-same (byColourTo p n) k (insert (getD (byColourTo p n) k 0) n) 0 (subst (λ (z : ℕ). k < z) (sym (by-long n)) l)
-          ∙ ap (λ (x : ℕ). insert x n) (by-at n k l) ∙ sym (gather-in (hasColour p k) n (of-colour k n refl)) ∙ sym (by-at (n + 1) k l) ∙ ap (λ (c : ℕ). getD (byColourTo p (n + 1)) c 0) (sym q)
+          ap (λ (c : ℕ). getD after c 0) q ∙ getD-set-same (byColourTo hues n) k (insert (getD (byColourTo hues n) k 0) n) 0 (subst (λ (z : ℕ). k < z) (sym (by-long n)) l)
+          ∙ ap (λ (x : ℕ). insert x n) (by-at n k l)
+          ∙ sym (gather-in (hasColour hues k) n (of-colour k n refl)) ∙ sym (by-at (n + 1) k l) ∙ ap (λ (c : ℕ). getD (byColourTo hues (n + 1)) c 0) (sym q)
       at c h (no q) =
-          getD-set-other (byColourTo p n) k c (insert (getD (byColourTo p n) k 0) n) 0 q
-          ∙ by-at n c h ∙ sym (gather-out (hasColour p c) n (not-colour c n (λ e. q (sym e)))) ∙ sym (by-at (n + 1) c h)
+          getD-set-other (byColourTo hues n) k c (insert (getD (byColourTo hues n) k 0) n) 0 q
+          ∙ by-at n c h ∙ sym (gather-out (hasColour hues c) n (not-colour c n (λ e. q (sym e)))) ∙ sym (by-at (n + 1) c h)
 
-  pub by-all : (n : ℕ) → n ≡ edges p → byColourTo p n ≡ byColour p
+module _ (p : Policy) where
+  pub by-all : (hues : List ℕ) (n : ℕ) → hues ≡ p .colour → n ≡ edges p → byColourTo hues n ≡ byColour p
   unfolding byColour
-  by-all n q = ap (byColourTo p) q
+  by-all hues n h q = ap₂ byColourTo h q
 
   -- ---- the table, by its edges
   bit-lt : (n m e : ℕ) → m < 2 ^ n → has m e ≡ true → e < n
@@ -175,14 +177,14 @@ module _ (p : Policy) where
   gathered t n e h = let l = bit-lt n (gather t n) e (gather-lt t n) h in (l, sym (has-gather t n e l) ∙ h)
 
   table-some : (c e : ℕ) → c < 8 → has (getD (byColour p) c 0) e ≡ true → (e < edges p) × (colourOf p e ≡ c)
-  unfolding byColour
+  unfolding byColour colourOf
   table-some c e l h =
-      let r = gathered (hasColour p c) (edges p) e (ap (λ (m : ℕ). has m e) (sym (by-at (edges p) c l)) ∙ h) in
-      (r .0, is-colour c e (r .1))
+      let r = gathered (hasColour (p .colour) c) (edges p) e (ap (λ (m : ℕ). has m e) (sym (by-at (p .colour) (edges p) c l)) ∙ h) in
+      (r .0, is-colour (p .colour) c e (r .1))
 
   some-table : (c e : ℕ) → c < 8 → e < edges p → colourOf p e ≡ c → has (getD (byColour p) c 0) e ≡ true
-  unfolding byColour
-  some-table c e l h q = ap (λ (m : ℕ). has m e) (by-at (edges p) c l) ∙ has-gather (hasColour p c) (edges p) e h ∙ of-colour c e q
+  unfolding byColour colourOf
+  some-table c e l h q = ap (λ (m : ℕ). has m e) (by-at (p .colour) (edges p) c l) ∙ has-gather (hasColour (p .colour) c) (edges p) e h ∙ of-colour (p .colour) c e q
 
   -- ---- the edges of a colour set
   pub edges-in-some : (c e : ℕ) → has (edgesIn p c) e ≡ true → (e < edges p) × (all (has c) (edgeColours p e) ≡ true)
@@ -251,3 +253,8 @@ module _ (p : Policy) where
             false≢true
             (sym (ap (λ (x : ℕ). has x (r .0)) z ∙ has-none (r .0))
             ∙ has-and (r .0) m (getD (byColour p) c 0) ∙ both (has m (r .0)) (has (getD (byColour p) c 0) (r .0)) (r .2) (some-table c (r .0) few (r .1) (sym is))))
+
+    -- and the verdict, by the family
+    pub table-accepts : (t : List ℕ) (f : List Bool) (m c : ℕ) → t ≡ byColour p → f ≡ p .family → c ≡ tableColours t m → getD f c false ≡ accepting p m
+    unfolding accepting inFamily
+    table-accepts t f m c h g q = ap₂ (λ (f : List Bool) (c : ℕ). getD f c false) g (q ∙ ap (λ (t : List ℕ). tableColours t m) h ∙ table-colours-are m)

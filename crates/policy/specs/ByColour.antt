@@ -8,25 +8,25 @@ use lib.ListN.{getD}
 use Rattle.lists.specs.Lists.{all, below}
 use Rattle.masks.specs.Masks.{has, insert, gather}
 use Rattle.policy.specs.declared.Policy.{Policy}
-use Rattle.policy.specs.Policies.{edges, colourOf, edgeColours}
+use Rattle.policy.specs.Policies.{edges, edgeColours}
+
+-- ---- of the colours of the edges, in a list
+-- e has colour c
+unfoldable pub hasColour : List ℕ → ℕ → ℕ → Bool
+hasColour hues c e = eqb (getD hues e 0) c
+
+-- entry c: the edges below n with colour c
+unfoldable pub byColourTo : List ℕ → ℕ → List ℕ
+byColourTo hues n = map (λ c. gather (hasColour hues c) n) (below 8)
 
 module _ (p : Policy) where
-  -- e has colour c
-  unfoldable pub hasColour : ℕ → ℕ → Bool
-  hasColour c e = eqb (colourOf p e) c
-
   -- the edges whose colours lie in the colour set c
   unfoldable pub edgesIn : ℕ → ℕ
   edgesIn c = gather (λ e. all (has c) (edgeColours p e)) (edges p)
 
-  -- ---- the table
-  -- entry c: the edges below n with colour c
-  unfoldable pub byColourTo : ℕ → List ℕ
-  byColourTo n = map (λ c. gather (hasColour c) n) (below 8)
-
-  -- entry c: the edges with colour c
+  -- the table: entry c has the edges with colour c
   unfoldable pub byColour : List ℕ
-  byColour = byColourTo (edges p)
+  byColour = byColourTo (p .colour) (edges p)
 
 -- ---- of a table t of edge sets
 -- the edges of the entries of the colour set c, below entry n

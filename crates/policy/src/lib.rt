@@ -71,14 +71,14 @@ pub fn is_accepting(p: Policy, m: u64) -> bool
 // ---- the edges by colour
 
 // The edges of each colour.
-pub fn by_colour(p: Policy) -> [u64; 8]
-    requires { ⌜ legal p ≡ true ⌝ }
+pub fn by_colour(p: Policy, hues: &[u8; 64]) -> [u64; 8]
+    requires { ⌜ (legal p ≡ true) × (now hues ≡ p .colour) ⌝ }
     ensures { λ r. ⌜ r ≡ byColour p ⌝ }
 {
     let mut t = [0u64; 8];
     let n = edges(p);
     for e in 0..n {
-        let c = p.colour[e] as usize;
+        let c = hues[e] as usize;
         t[c] = masks::with(t[c], e);
     }
     t
@@ -108,6 +108,15 @@ pub fn colours_in(t: &[u64; 8], m: u64) -> u8
         }
     }
     s
+}
+
+// The verdict of an edge set, by such a table and the family.
+pub fn accepts(p: Policy, by: &[u64; 8], family: &[bool; 256], m: u64) -> bool
+    requires { ⌜ (legal p ≡ true) × (now by ≡ byColour p) × (now family ≡ p .family) ⌝ }
+    ensures { λ r. ⌜ r ≡ accepting p m ⌝ }
+{
+    let c = colours_in(by, m) as usize;
+    family[c]
 }
 
 // ---- legal policies

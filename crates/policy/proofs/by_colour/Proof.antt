@@ -1,10 +1,12 @@
 -- `by_colour` meets its contract: t has the edges passed, by colour. Assumes nothing.
-use Prim.Native.Nat.{_-_, _≤_, _<_}
+use Prim.Native.Nat.{ℕ, _-_, _≤_, _<_}
 use native.Mathlib.Omega.{arith}
 use native.Mathlib.Nat.{le-antisymm}
-use mathlib.Core.Path.{_≡_, _∙_}
+use mathlib.Core.Path.{_≡_, sym, _∙_, subst}
+use mathlib.Core.List.{List}
+use lib.ListN.{getD}
 use borrow.Author.Needs.{needs}
-use Rattle.policy.specs.Policies.{edges, colourOf}
+use Rattle.policy.specs.Policies.{colourOf}
 use Rattle.policy.specs.ByColour.{byColourTo}
 use Rattle.policy.proofs.Laws.{edges-le}
 use Rattle.policy.proofs.ByColour.{by-none, by-more, by-all, colour-few}
@@ -12,46 +14,44 @@ use Rattle.policy.proofs.by_colour.Statement.{statement}
 use Rattle.policy.proofs.by_colour.Tie as tie
 
 abbrev Inv-loop : tie.InvT-loop
-Inv-loop p t₀ n e₀ t e = (e ≤ n) × (t ≡ byColourTo p e)
+Inv-loop hues t₀ n e₀ t e = (e ≤ n) × (t ≡ byColourTo hues e)
 
 abbrev μ-loop : tie.MeasureT-loop
-μ-loop p t₀ n e₀ t e = n - e
+μ-loop hues t₀ n e₀ t e = n - e
 
 edges-requires : tie.Need-edges-requires Inv-loop μ-loop
 edges-requires c κs = search needs
 
 loop-holds : tie.Need-loop-holds Inv-loop μ-loop
-loop-holds c = (omega arith, by-none (c .before .args .t1))
+loop-holds c = (omega arith, by-none (c .before .args .hues .now))
 
 element-copy-out-c : tie.Need-element-copy-out-c Inv-loop μ-loop
-element-copy-out-c c = omega (arith, edges-le (c .before .before .before .args .t1) (c .before .before .before .pre))
-
-cast-c : tie.Need-cast-c Inv-loop μ-loop
-cast-c c = search needs
+element-copy-out-c c = let s = c .before .before .before in omega (arith, edges-le (s .args .p) (s .pre .0))
 
 -- in the loop e is an edge, and its colour stands in the table
-few : (c : tie.In-loop Inv-loop μ-loop) → colourOf (c .before .before .before .args .t1) (c .before .loop .e) < 8
+few : (c : tie.In-loop Inv-loop μ-loop) → getD (c .before .before .before .args .hues .now) (c .before .loop .e) 0 < 8
+unfolding colourOf
 few c =
     let s = c .before .before .before in
-    colour-few (s .args .t1) (s .pre) (c .before .loop .e) (omega (arith, c .before .before .edges .ensures, c .loop-test .taken))
+    let e = c .before .loop .e in
+    subst (λ (l : List ℕ). getD l e 0 < 8) (sym (s .pre .1)) (colour-few (s .args .p) (s .pre .0) e (omega (arith, c .before .before .edges .ensures, c .loop-test .taken)))
+
+cast-c : tie.Need-cast-c Inv-loop μ-loop
+cast-c c = omega (arith, few (c .before))
 
 mul-with : tie.Need-mul-with Inv-loop μ-loop
-unfolding colourOf
 mul-with c = omega (arith, few (c .before))
 
 array-read-with : tie.Need-array-read-with Inv-loop μ-loop
-unfolding colourOf
 array-read-with c = few (c .before)
 
 with-requires : tie.Need-with-requires Inv-loop μ-loop
-with-requires c κs = let s = c .before .before .before .before in omega (arith, edges-le (s .args .t1) (s .pre))
+with-requires c κs = let s = c .before .before .before .before in omega (arith, edges-le (s .args .p) (s .pre .0))
 
 mul-t : tie.Need-mul-t Inv-loop μ-loop
-unfolding colourOf
 mul-t c = omega (arith, few (c .before .before))
 
 array-write-t : tie.Need-array-write-t Inv-loop μ-loop
-unfolding colourOf
 array-write-t c = few (c .before .before)
 
 add-e : tie.Need-add-e Inv-loop μ-loop
@@ -61,11 +61,12 @@ loop-less : tie.Need-loop-less Inv-loop μ-loop
 loop-less c = omega arith
 
 loop-again : tie.Need-loop-again Inv-loop μ-loop
-unfolding colourOf
-loop-again c = (omega arith, cc (by-more (c .before .before .before .before .before .args .t1) (c .before .before .before .loop .e) (few (c .before .before))))
+loop-again c = (omega arith, cc (by-more (c .before .before .before .before .before .args .hues .now) (c .before .before .before .loop .e) (few (c .before .before))))
 
 returns : tie.Need-returns Inv-loop μ-loop
-returns c = cc (by-all (c .before .before .before .args .t1) (c .before .loop .e) (le-antisymm (c .before .loop .inv .0) (c .loop-test .left) ∙ c .before .before .edges .ensures))
+returns c =
+    let s = c .before .before .before in
+    cc (by-all (s .args .p) (s .args .hues .now) (c .before .loop .e) (s .pre .1) (le-antisymm (c .before .loop .inv .0) (c .loop-test .left) ∙ c .before .before .edges .ensures))
 
 pub by-colour-spec : {M : Type 1} → statement M
 by-colour-spec =
