@@ -12,7 +12,7 @@ use mathlib.Core.Bool.{Bool, true, false, _&&_, cond, and-true, and-false, false
 use mathlib.Core.List.{List, [], _∷_, List·Memᴰ}
 use lib.Dec.{eqb}
 use lib.Bits.{bitOr}
-use lib.ListN.{length, getD, set, replicate, length-set, length-replicate}
+use lib.ListN.{length, getD, set, length-set}
 use lib.Seq.{getD-set-same, getD-set-other}
 use Rattle.lists.proofs.Bools.{test, or-cases, or-left, or-right, and-l, and-r, both, eqb≡, ≡eqb, bool-ext}
 use Rattle.masks.specs.Masks.{has, insert, gather, members}
@@ -151,23 +151,27 @@ joined-next : (rows : List ℕ) (n : ℕ) → n ≤ length rows → (k u : ℕ) 
 unfolding joinedRows
 joined-next rows n l k u lu = join-at (joinedRows rows n k) k (getD (joinedRows rows n k) k 0) n u (omega (arith, joined-length rows n k)) lu
 
-module _ (p : Policy) (m : ℕ) where
-  edge-rows-length : (n : ℕ) → length (edgeRows (p .target) (p .letters) m n) ≡ 16
+module _ (rows t : List ℕ) (l m : ℕ) where
+  edge-rows-length : (n : ℕ) → length (edgeRows rows t l m n) ≡ length rows
   unfolding edgeRows
-  edge-rows-length zero = length-replicate {A = ℕ} 16 0
+  edge-rows-length zero = refl
   edge-rows-length (suc n) = simp length-set (edge-rows-length n)
 
-  edge-rows-at : (n v : ℕ) → n ≤ 16 → v < n → getD (edgeRows (p .target) (p .letters) m n) v 0 ≡ edgeRow (p .target) (p .letters) m v (p .letters)
+  edge-rows-at : (n v : ℕ) → n ≤ length rows → v < n → getD (edgeRows rows t l m n) v 0 ≡ edgeRow t l m v l
   unfolding edgeRows
-  edge-rows-at zero v l lv = absurd (omega arith)
-  edge-rows-at (suc n) v l lv = go (ℕ-discrete v n) (edge-rows-at n v (omega arith))
+  edge-rows-at zero v k lv = absurd (omega arith)
+  edge-rows-at (suc n) v k lv = go (ℕ-discrete v n) (edge-rows-at n v (omega arith))
     where
-      go : Dec (v ≡ n) → (v < n → getD (edgeRows (p .target) (p .letters) m n) v 0 ≡ edgeRow (p .target) (p .letters) m v (p .letters)) → getD (edgeRows (p .target) (p .letters) m (suc n)) v 0 ≡ edgeRow (p .target) (p .letters) m v (p .letters)
+      go : Dec (v ≡ n) → (v < n → getD (edgeRows rows t l m n) v 0 ≡ edgeRow t l m v l) → getD (edgeRows rows t l m (suc n)) v 0 ≡ edgeRow t l m v l
       go (yes q) ih =
-          ap (λ (z : ℕ). getD (edgeRows (p .target) (p .letters) m (suc n)) z 0) q ∙ getD-set-same (edgeRows (p .target) (p .letters) m n) n (edgeRow (p .target) (p .letters) m n (p .letters)) 0 (omega (arith, edge-rows-length n))
-          ∙ ap (λ (z : ℕ). edgeRow (p .target) (p .letters) m z (p .letters)) (sym q)
-      go (no q) ih = getD-set-other (edgeRows (p .target) (p .letters) m n) n v (edgeRow (p .target) (p .letters) m n (p .letters)) 0 q ∙ ih (omega arith)
+          ap (λ (z : ℕ). getD (edgeRows rows t l m (suc n)) z 0) q ∙ getD-set-same (edgeRows rows t l m n) n (edgeRow t l m n l) 0 (omega (arith, edge-rows-length n))
+          ∙ ap (λ (z : ℕ). edgeRow t l m z l) (sym q)
+      go (no q) ih = getD-set-other (edgeRows rows t l m n) n v (edgeRow t l m n l) 0 q ∙ ih (omega arith)
 
+pub rows-long : (rows t : List ℕ) (l m i n k : ℕ) → length (joinedRows (edgeRows rows t l m i) n k) ≡ length rows
+rows-long rows t l m i n k = joined-length (edgeRows rows t l m i) n k ∙ edge-rows-length rows t l m i
+
+module _ (p : Policy) (m : ℕ) where
   -- ---- a first row: the state, and the targets of its edges in m
   edge-row-self : (v a : ℕ) → has (edgeRow (p .target) (p .letters) m v a) v ≡ true
   unfolding edgeRow withEdge edgeOf targetOf
@@ -219,18 +223,18 @@ module _ (p : Policy) (m : ℕ) where
       go (inr k) ih = up (ih (rw k at h))
 
   -- ---- the rows joined at every state are what each state reaches
-  module _ (ok : legal p ≡ true) where
+  module _ (ok : legal p ≡ true) (rows : List ℕ) (room : p .states ≤ length rows) where
     -- row u, joined at the states below k
     row : ℕ → ℕ → ℕ
-    row k u = getD (joinedRows (edgeRows (p .target) (p .letters) m (p .states)) (p .states) k) u 0
+    row k u = getD (joinedRows (edgeRows rows (p .target) (p .letters) m (p .states)) (p .states) k) u 0
 
     next : (k u : ℕ) → k < p .states → u < p .states → row (suc k) u ≡ joinRow (row k u) k (row k k)
     unfolding row
-    next k u lk lu = joined-next (edgeRows (p .target) (p .letters) m (p .states)) (p .states) (omega (arith, edge-rows-length (p .states), legal-counts p ok .states-few)) k u lu
+    next k u lk lu = joined-next (edgeRows rows (p .target) (p .letters) m (p .states)) (p .states) (omega (arith, edge-rows-length rows (p .target) (p .letters) m (p .states))) k u lu
 
     first-is : (u : ℕ) → u < p .states → row 0 u ≡ edgeRow (p .target) (p .letters) m u (p .letters)
     unfolding row joinedRows
-    first-is u l = edge-rows-at (p .states) u (legal-counts p ok .states-few) l
+    first-is u l = edge-rows-at rows (p .target) (p .letters) m (p .states) u room l
 
     first-sound : (u x : ℕ) → u < p .states → has (row 0 u) x ≡ true → Leads p m u x
     first-sound u x l h = go (edge-row-cases u (p .letters) x (sym (ap (λ (r : ℕ). has r x) (first-is u l)) ∙ h))
@@ -263,7 +267,7 @@ module _ (p : Policy) (m : ℕ) where
         (turns-keep (p .states) row next (p .states) (source p e) (targetOf p e) (omega arith) ls (first-edge e ls (members-has (edges p) m e (a .1)))) in
         turns-closed (p .states) row next (p .states) (targetOf p e) u x (omega arith) lt l one (last-path (targetOf p e) w x lt (a .2))
 
-    pub rows-reach : Rows p m (joinedRows (edgeRows (p .target) (p .letters) m (p .states)) (p .states) (p .states))
+    pub rows-reach : Rows p m (joinedRows (edgeRows rows (p .target) (p .letters) m (p .states)) (p .states) (p .states))
     unfolding row
     rows-reach v l = mask-ext (row (p .states) v) (reach p (members (edges p) m) v) (λ x. bool-ext (has (row (p .states) v) x) (has (reach p (members (edges p) m) v) x) (sound x) (complete x))
       where
@@ -307,13 +311,13 @@ pub edge-row-more : (t : List ℕ) (l m v a : ℕ) → edgeRow t l m v (a + 1) �
 unfolding edgeRow
 edge-row-more t l m v a = rw add-one
 
-pub edge-rows-none : (t : List ℕ) (l m : ℕ) → edgeRows t l m 0 ≡ replicate 16 0
+pub edge-rows-none : (rows t : List ℕ) (l m : ℕ) → edgeRows rows t l m 0 ≡ rows
 unfolding edgeRows
-edge-rows-none t l m = refl
+edge-rows-none rows t l m = refl
 
-pub edge-rows-more : (t : List ℕ) (l m n : ℕ) → edgeRows t l m (n + 1) ≡ set (edgeRows t l m n) n (edgeRow t l m n l)
+pub edge-rows-more : (rows t : List ℕ) (l m n : ℕ) → edgeRows rows t l m (n + 1) ≡ set (edgeRows rows t l m n) n (edgeRow t l m n l)
 unfolding edgeRows
-edge-rows-more t l m n = rw add-one
+edge-rows-more rows t l m n = rw add-one
 
 pub join-none : (rows : List ℕ) (k pivot : ℕ) → joinRows rows k pivot 0 ≡ rows
 unfolding joinRows

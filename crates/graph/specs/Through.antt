@@ -4,7 +4,7 @@ use Prim.Native.Nat.{ℕ, zero, suc, _+_, _*_, _<_}
 use mathlib.Core.Path.{_≡_}
 use mathlib.Core.Bool.{_&&_, cond}
 use mathlib.Core.List.{List}
-use lib.ListN.{getD, set, replicate}
+use lib.ListN.{getD, set}
 use lib.Bits.{bitOr}
 use Rattle.masks.specs.Masks.{has, insert, gather, members}
 use Rattle.policy.specs.declared.Policy.{Policy}
@@ -31,10 +31,10 @@ unfoldable pub edgeRow : List ℕ → ℕ → ℕ → ℕ → ℕ → ℕ
 edgeRow t l m v zero = insert 0 v
 edgeRow t l m v (suc a) = withEdge t m (edgeRow t l m v a) (v * l + a)
 
--- these rows for the states below n
-unfoldable pub edgeRows : List ℕ → ℕ → ℕ → ℕ → List ℕ
-edgeRows t l m zero = replicate 16 0
-edgeRows t l m (suc n) = set (edgeRows t l m n) n (edgeRow t l m n l)
+-- the rows, with these for the states below n
+unfoldable pub edgeRows : List ℕ → List ℕ → ℕ → ℕ → ℕ → List ℕ
+edgeRows rows t l m zero = rows
+edgeRows rows t l m (suc n) = set (edgeRows rows t l m n) n (edgeRow t l m n l)
 
 -- the first n entries of a list are states
 abbrev pub States : List ℕ → ℕ → Type 0

@@ -3,7 +3,7 @@
 ghost use mathlib.Core.Path.{_≡_};
 ghost use mathlib.Core.Bool.{true, _&&_};
 ghost use Prim.Native.Nat.{_+_, _*_, _<_, _≤_};
-ghost use lib.ListN.{getD};
+ghost use lib.ListN.{length, getD};
 ghost use Rattle.masks.specs.Masks.{has};
 ghost use Rattle.policy.specs.Policies.{legal};
 ghost use Rattle.graph.specs.Through.{cycleThrough, Rows, withEdge, edgeRow, edgeRows, States, joinRow, joinRows, mutualTo, inner};
@@ -31,17 +31,15 @@ fn edge_row(t: &[u8; 64], letters: usize, m: u64, v: usize) -> u64
 }
 
 // The rows of single edges.
-fn edge_rows(p: Policy, heads: &[u8; 64], m: u64) -> [u64; 16]
+fn edge_rows(p: Policy, heads: &[u8; 64], m: u64, rows: &mut [u64; 16])
     requires { ⌜ (legal p ≡ true) × (now heads ≡ p .target) ⌝ }
-    ensures { λ r. ⌜ r ≡ edgeRows (p .target) (p .letters) m (p .states) ⌝ }
+    ensures { λ _. ⌜ now (rows .exit) ≡ edgeRows (now (rows .entry)) (p .target) (p .letters) m (p .states) ⌝ }
 {
     let n = p.states as usize;
     let letters = p.letters as usize;
-    let mut rows = [0u64; 16];
     for v in 0..n {
         rows[v] = edge_row(heads, letters, m, v);
     }
-    rows
 }
 
 // A row that has k, with the row of k.
@@ -66,17 +64,16 @@ fn join_rows(rows: &mut [u64; 16], k: usize, n: usize)
     }
 }
 
-// The states that each state reaches inside m. The heads are the targets of p's edges, lent, since p's own would be copied at each call.
-pub fn reach_all(p: Policy, heads: &[u8; 64], m: u64) -> [u64; 16]
-    requires { ⌜ (legal p ≡ true) × (now heads ≡ p .target) ⌝ }
-    ensures { λ r. ⌜ Rows p m r ⌝ }
+// The states that each state reaches inside m, whatever the rows held before. The heads are the targets of p's edges, lent, since p's own would be copied at each call.
+pub fn reach_all(p: Policy, heads: &[u8; 64], m: u64, rows: &mut [u64; 16])
+    requires { ⌜ (legal p ≡ true) × (now heads ≡ p .target) × (length (now rows) ≡ 16) ⌝ }
+    ensures { λ _. ⌜ Rows p m (now (rows .exit)) × (length (now (rows .exit)) ≡ 16) ⌝ }
 {
     let n = p.states as usize;
-    let mut rows = edge_rows(p, heads, m);
+    edge_rows(p, heads, m, rows);
     for k in 0..n {
-        join_rows(&mut rows, k, n);
+        join_rows(rows, k, n);
     }
-    rows
 }
 
 // Whether w is in v's row, and v in w's.

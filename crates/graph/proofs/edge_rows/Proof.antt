@@ -5,17 +5,16 @@ use Prim.Native.Nat.{ℕ, _+_, _*_, _-_, _≤_}
 use native.Mathlib.Nat.{le-antisymm}
 use native.Mathlib.Omega.{arith}
 use borrow.Author.Needs.{needs}
-use Rattle.policy.proofs.Laws.{legal-counts}
 use Rattle.graph.specs.Through.{edgeRows, States}
 use Rattle.graph.proofs.CodeLaws.{state-few, row-few, row-states, edge-rows-none, edge-rows-more}
 use Rattle.graph.proofs.edge_rows.Statement.{statement}
 use Rattle.graph.proofs.edge_rows.Tie as tie
 
 abbrev Inv-loop : tie.InvT-loop
-Inv-loop heads m n letters rows₀ v₀ rows v = (v ≤ n) × (rows ≡ edgeRows heads letters m v)
+Inv-loop heads m rows₀ n letters v₀ rows v = (v ≤ n) × (rows ≡ edgeRows rows₀ heads letters m v)
 
 abbrev μ-loop : tie.MeasureT-loop
-μ-loop heads m n letters rows₀ v₀ rows v = n - v
+μ-loop heads m rows₀ n letters v₀ rows v = n - v
 
 cast-n : tie.Need-cast-n Inv-loop μ-loop
 cast-n c = search needs
@@ -24,7 +23,7 @@ cast-letters : tie.Need-cast-letters Inv-loop μ-loop
 cast-letters c = search needs
 
 loop-holds : tie.Need-loop-holds Inv-loop μ-loop
-loop-holds c = (omega arith, sym (edge-rows-none _ _ _))
+loop-holds c = (omega arith, sym (edge-rows-none _ _ _ _))
 
 edge-row-requires : tie.Need-edge-row-requires Inv-loop μ-loop
 edge-row-requires c κs =
@@ -39,8 +38,8 @@ mul-rows c =
     let s = c .before .before .before .before .before in
     omega (arith, state-few (s .args .p) (s .pre .0) (c .before .before .loop .v) (c .before .loop-test .taken))
 
-array-write-rows : tie.Need-array-write-rows Inv-loop μ-loop
-array-write-rows c =
+element-write-rows : tie.Need-element-write-rows Inv-loop μ-loop
+element-write-rows c =
     let s = c .before .before .before .before .before in
     state-few (s .args .p) (s .pre .0) (c .before .before .loop .v) (c .before .loop-test .taken)
 
@@ -51,7 +50,7 @@ loop-less : tie.Need-loop-less Inv-loop μ-loop
 loop-less c = omega arith
 
 loop-again : tie.Need-loop-again Inv-loop μ-loop
-loop-again c = (omega arith, cc (edge-rows-more _ _ _ _))
+loop-again c = (omega arith, cc (edge-rows-more _ _ _ _ _))
 
 returns : tie.Need-returns Inv-loop μ-loop
 returns c = cc (le-antisymm (c .before .loop .inv .0) (c .loop-test .left), c .before .before .before .before .pre .1)
@@ -67,7 +66,7 @@ edge-rows-spec =
     loop-holds
     edge-row-requires
     mul-rows
-    array-write-rows
+    element-write-rows
     add-v
     loop-less
     loop-again
