@@ -3,14 +3,14 @@
 use Prim.Native.Nat.{ℕ, zero, suc, _+_, _-_, _^_, _<_}
 use native.Mathlib.Omega.{arith}
 use native.Mathlib.Decide.{ℕ-discrete}
-use mathlib.Core.Path.{_≡_, refl, sym, _∙_, subst}
-use mathlib.Core.Logic.{_⊎_, inl, inr}
+use mathlib.Core.Path.{_≡_, refl, sym, ap, _∙_, subst}
+use mathlib.Core.Logic.{_⊎_, inl, inr, _≢_}
 use mathlib.Core.Bool.{Bool, true, false, _&&_, _||_, true≢false, false≢true}
 use mathlib.Core.List.{List}
 use lib.Dec.{eqb, ltb}
 use lib.ListN.{length, getD, set, replicate, length-set}
 use lib.Seq.{getD-set-same, getD-set-other}
-use borrow.Author.Tests.{lt-ltb, ltb-true, ltb-false, eq-eqb, eqb-true}
+use borrow.Author.Tests.{lt-ltb, ltb-true, ltb-false, eq-eqb, eqb-true, eqb-false}
 use Rattle.lists.specs.Lists.{all, below}
 use Rattle.lists.proofs.Bools.{test, and-l, and-r, both, or-cases, or-right}
 use Rattle.lists.proofs.Lists.{all-each, each-all, mem-below}
@@ -24,7 +24,7 @@ use Rattle.reading.specs.declared.Outcome.{Outcome}
 use Rattle.reading.specs.declared.Outcome.the-variants.{Read, Refused}
 use Rattle.reading.specs.declared.Command.{Command}
 use Rattle.reading.specs.declared.Command.the-variants.{End, Shape, Edge, Accept}
-use Rattle.reading.specs.Reading.{after, allGiven, commandAt, completeAtEnd, counted, emptyDraft, inPlace, isEnd, isShape, nextOffset, readMost, readUpTo, readingFrom, readingOf, refusalOf, refusedAt, withEdge, withSet, withinLimits, zeroPolicy}
+use Rattle.reading.specs.Reading.{after, allGiven, commandAt, completeAtEnd, counted, emptyDraft, inPlace, isEnd, isShape, nextOffset, numberOf, readMost, readUpTo, readingFrom, readingOf, refusalOf, refusedAt, withEdge, withSet, withinLimits, zeroPolicy}
 use Rattle.reading.proofs.Questions.{passed}
 
 -- the entries of given edges are in range, all others are 0, and each set of the family is in range
@@ -172,18 +172,22 @@ legal-at-end at d (Accept x) s t e g = absurd (false≢true e)
 
 abbrev Kept : Outcome → Policy → Type 0
 Kept (Read end) p = legal p ≡ true
-Kept (Refused number at) p = p ≡ zeroPolicy
+Kept (Refused number at) p = (p ≡ zeroPolicy) × (number ≢ 0)
+
+zero-illegal : legal zeroPolicy ≡ false
+unfolding legal zeroPolicy counted legalCounts
+zero-illegal = refl
 
 module _ (b : List ℕ) where
   most-kept : (n at : ℕ) (d : Draft) → Stage at d → Kept (readMost n b at d .outcome) (readMost n b at d .policy)
   unfolding readMost refusedAt readUpTo
-  most-kept zero at d s = refl
+  most-kept zero at d s = (refl, λ e. absurd (omega (arith, e)))
   most-kept (suc n) at d s = go (test (eqb (refusalOf b at d) 0)) (test (isEnd (commandAt b at))) (most-kept n (nextOffset b at) (after d (commandAt b at)))
     where
       go : (eqb (refusalOf b at d) 0 ≡ true) ⊎ (eqb (refusalOf b at d) 0 ≡ false) → (isEnd (commandAt b at) ≡ true) ⊎ (isEnd (commandAt b at) ≡ false)
           → (Stage (nextOffset b at) (after d (commandAt b at)) → Kept (readMost n b (nextOffset b at) (after d (commandAt b at)) .outcome) (readMost n b (nextOffset b at) (after d (commandAt b at)) .policy))
           → Kept (readMost (suc n) b at d .outcome) (readMost (suc n) b at d .policy)
-      go (inr f) e ih = rw f refl
+      go (inr f) e ih = rw f (refl, eqb-false (refusalOf b at d) 0 f)
       go (inl t) (inl e) ih =
           let w = passed (eqb-true (refusalOf b at d) 0 t) in
           rw (t, e) (legal-at-end at d (commandAt b at) s (w .place) e (w .complete))
@@ -199,4 +203,19 @@ module _ (b : List ℕ) where
   read-legal e = subst (λ (o : Outcome). Kept o (readingOf b .policy)) e reading-kept
 
   pub refused-zero : {number at : ℕ} → readingOf b .outcome ≡ Refused number at → readingOf b .policy ≡ zeroPolicy
-  refused-zero e = subst (λ (o : Outcome). Kept o (readingOf b .policy)) e reading-kept
+  refused-zero e = subst (λ (o : Outcome). Kept o (readingOf b .policy)) e reading-kept .0
+
+  -- the same by the number
+  pub number-legal : numberOf (readingOf b .outcome) ≡ 0 → legal (readingOf b .policy) ≡ true
+  number-legal = go (readingOf b .outcome) reading-kept
+    where
+      go : (o : Outcome) → Kept o (readingOf b .policy) → numberOf o ≡ 0 → legal (readingOf b .policy) ≡ true
+      go (Read end) k e = k
+      go (Refused number at) k e = absurd (k .1 e)
+
+  pub number-illegal : numberOf (readingOf b .outcome) ≢ 0 → legal (readingOf b .policy) ≡ false
+  number-illegal = go (readingOf b .outcome) reading-kept
+    where
+      go : (o : Outcome) → Kept o (readingOf b .policy) → numberOf o ≢ 0 → legal (readingOf b .policy) ≡ false
+      go (Read end) k e = absurd (e refl)
+      go (Refused number at) k e = ap legal (k .0) ∙ zero-illegal

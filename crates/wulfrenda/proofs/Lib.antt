@@ -1,2 +1,3 @@
+pub mod Bytes
 pub mod Copies
 pub mod Packing

@@ -35,3 +35,7 @@ policyOf b = record {
 
 unfoldable pub recordOf : Policy → List ℕ
 recordOf p = p .states ∷ p .letters ∷ p .colours ∷ p .initial ∷ (p .target ++ p .colour ++ map flag (p .family))
+
+-- of two numbers of refusals, one after the other: the first that is not 0
+unfoldable pub firstOf : ℕ → ℕ → ℕ
+firstOf first second = cond (eqb first 0) second first

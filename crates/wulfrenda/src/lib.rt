@@ -11,7 +11,7 @@ ghost use Rattle.builder.specs.Tables.{countsOf, translationOf, tablesAfter, Ho
 ghost use Rattle.running.specs.Running.{runAfter, priorityOf, numberOf as runNumberOf, readingOf as runReadingOf};
 ghost use Rattle.judging.specs.Judging.{policyNumberOf, policyColoursOf, policyAcceptedOf, policyVerdict, rowsNumberOf, rowsLeastOf, rowsVerdict};
 ghost use Rattle.comparing.specs.Comparing.{sameOf, comparison, numberOf as compareNumberOf};
-ghost use Rattle.wulfrenda.specs.Records.{flag, policyOf, recordOf};
+ghost use Rattle.wulfrenda.specs.Records.{flag, policyOf, recordOf, firstOf};
 
 // The colour set at a position of the fixed order.
 #[no_mangle]
@@ -54,6 +54,48 @@ pub extern "C" fn wulfrenda_translate(
     ensures tables { λ _. ⌜ Hold (tablesAfter (policyOf (now (packed .entry))) (tables (now (masks .entry)) (now (parents .entry)) (now (ranks .entry)) (now (sources .entry)) (now (leaves .entry)) (now (targets .entry)) (now (priorities .entry)))) (now (masks .exit)) (now (parents .exit)) (now (ranks .exit)) (now (sources .exit)) (now (leaves .exit)) (now (targets .exit)) (now (priorities .exit)) ⌝ }
 {
     let p = records::policy_of(packed);
+    let t = builder::translating::translate(
+        p,
+        masks,
+        parents,
+        ranks,
+        sources,
+        leaves,
+        targets,
+        priorities,
+    );
+    *counts = answers::translate_counts(t);
+    answers::translate_number(t)
+}
+
+// The two in one: the command bytes are read, and the policy that they give is translated. What was read is legal, so it is not asked again.
+#[no_mangle]
+pub extern "C" fn wulfrenda_translate_bytes(
+    bytes: &[u8],
+    masks: &mut [u64],
+    parents: &mut [u16],
+    ranks: &mut [u8],
+    sources: &mut [u8],
+    leaves: &mut [u16],
+    targets: &mut [u16],
+    priorities: &mut [u8],
+    counts: &mut [u16; 3],
+    offset: &mut usize,
+) -> u8
+    ensures number { λ r. ⌜ r ≡ firstOf (readNumberOf (readingOf (now (bytes .entry)) .outcome)) (translateNumberOf (translationOf (readingOf (now (bytes .entry)) .policy) (tables (now (masks .entry)) (now (parents .entry)) (now (ranks .entry)) (now (sources .entry)) (now (leaves .entry)) (now (targets .entry)) (now (priorities .entry))))) ⌝ }
+    ensures counts { λ _. ⌜ now (counts .exit) ≡ countsOf (translationOf (readingOf (now (bytes .entry)) .policy) (tables (now (masks .entry)) (now (parents .entry)) (now (ranks .entry)) (now (sources .entry)) (now (leaves .entry)) (now (targets .entry)) (now (priorities .entry)))) ⌝ }
+    ensures tables { λ _. ⌜ Hold (tablesAfter (readingOf (now (bytes .entry)) .policy) (tables (now (masks .entry)) (now (parents .entry)) (now (ranks .entry)) (now (sources .entry)) (now (leaves .entry)) (now (targets .entry)) (now (priorities .entry)))) (now (masks .exit)) (now (parents .exit)) (now (ranks .exit)) (now (sources .exit)) (now (leaves .exit)) (now (targets .exit)) (now (priorities .exit)) ⌝ }
+    ensures offset { λ _. ⌜ now (offset .exit) ≡ offsetOf (readingOf (now (bytes .entry)) .outcome) ⌝ }
+{
+    let answer = reading::read(bytes);
+    let p = answer.policy;
+    let outcome = answer.outcome;
+    *offset = answers::read_offset(outcome);
+    let number = answers::read_number(outcome);
+    if number != 0 {
+        *counts = [0, 0, 0];
+        return number;
+    }
     let t = builder::translating::translate(
         p,
         masks,
