@@ -3,24 +3,28 @@
 use Prim.Native.Nat.{ℕ}
 use native.Mathlib.Omega.{arith}
 use mathlib.Core.Path.{_≡_, refl, sym, ap, _∙_, subst, fun-ext}
+use mathlib.Core.Logic.{_⊎_, inl, inr}
 use mathlib.Core.Bool.{Bool, true, false, cond}
 use mathlib.Core.List.{List, [], _∷_}
 use lib.Dec.{eqb, ltb}
 use lib.ListN.{length, getD}
+use borrow.Author.Tests.{eqb-false}
+use Rattle.lists.proofs.Bools.{test}
 use Rattle.policy.specs.declared.Policy.{Policy}
 use Rattle.policy.specs.Policies.{legal}
 use Rattle.decomposition.specs.Forest.{forest}
 use Rattle.builder.specs.Automaton.{built, start}
-use Rattle.builder.specs.Tables.{Tables, countsOf, lengthsFit, nodesFit, statesFit, translationOf, numberOf as translateNumberOf}
+use Rattle.reading.specs.Reading.{readingOf as bytesReadingOf}
+use Rattle.builder.specs.Tables.{Tables, Hold, tablesAfter, countsOf, lengthsFit, nodesFit, statesFit, translationOf, numberOf as translateNumberOf}
 use Rattle.builder.specs.declared.Translation.{Translation}
 use Rattle.builder.specs.declared.Translation.the-variants.{Translated, Refused}
 use Rattle.running.specs.declared.Run.{Run}
 use Rattle.running.specs.declared.Reading.{Reading}
 use Rattle.running.specs.declared.Reading.the-variants.{Moved, Refused as NotRead}
 use Rattle.running.specs.Running.{rowOf, rowStates, shaped, readingOf, priorityOf, prioritiesOf, numberOf as runNumberOf}
-use Rattle.wulfrenda.specs.Records.{policyOf}
+use Rattle.wulfrenda.specs.Records.{policyOf, firstOf}
 use Rattle.correctness.specs.Contracts.{letterAt, prioritiesMet, Agreement}
-use Rattle.correctness.specs.Library.{statesIn, callsMeet, Demand3Library}
+use Rattle.correctness.specs.Library.{statesIn, callsMeet, CallsAgree, Demand3Library, Demand3Bytes}
 use Rattle.correctness.proofs.Contracts.{demand3-contracts}
 
 -- ---- 0 is returned: the policy was translated, and the counts are those answered
@@ -63,18 +67,16 @@ meets letters targets priorities r a =
     go true false z w = refl
     go false y z w = refl
 
--- ---- the claim
-pub demand3-library : Demand3Library
+-- ---- the claim, of any policy that the tables are those of
+agree : (p : Policy) (entry exit : Tables) (counts : List ℕ) → 0 ≡ translateNumberOf (translationOf p entry) → counts ≡ countsOf (translationOf p entry)
+    → Hold (tablesAfter p entry) (exit .masks) (exit .parents) (exit .ranks) (exit .sources) (exit .leaves) (exit .targets) (exit .priorities) → CallsAgree p exit counts
 unfolding counted
-demand3-library packed entry exit number counts call returned targets priorities b stem loop state numbers given calls h v e =
+agree p entry exit counts returned counts-are tables-are targets priorities b stem loop state numbers given calls h v e =
     subst (λ (met : ℕ → List ℕ). Agreement p stem loop met v (statesIn counts) (exit .sources) state) (sym met-is)
     (demand3-contracts p entry exit (translationOf p entry) (getD counts 0 0) (statesIn counts) (getD counts 2 0)
-    (record { answer-is = refl; exit-is = call .tables-are; success = done }) targets priorities b stem loop runs answers
+    (record { answer-is = refl; exit-is = tables-are; success = done }) targets priorities b stem loop runs answers
     (record { answer-is = λ i. refl; goes-on = λ i. ap run (calls i .state-is) }) h v e)
   where
-    p : Policy
-    p = policyOf packed
-
     run : ℕ → Run
     run s = record { state = s }
 
@@ -85,7 +87,23 @@ demand3-library packed entry exit number counts call returned targets priorities
     answers i = readingOf (p .letters) targets priorities (runs i) (letterAt stem loop i)
 
     done : translationOf p entry ≡ counted counts
-    done = translated p entry (sym returned ∙ call .number-is) ∙ ap counted (sym (call .counts-are))
+    done = translated p entry returned ∙ ap counted (sym counts-are)
 
     met-is : callsMeet numbers given ≡ prioritiesMet answers
     met-is = fun-ext (λ i. rw (calls i .number-is, calls i .priority-is) (meets (p .letters) targets priorities (runs i) (letterAt stem loop i)))
+
+pub demand3-library : Demand3Library
+demand3-library packed entry exit number counts call returned = agree (policyOf packed) entry exit counts (sym returned ∙ call .number-is) (call .counts-are) (call .tables-are)
+
+-- ---- the first of two numbers that is not 0 is 0: both are
+second-none : (a b : ℕ) → 0 ≡ firstOf a b → 0 ≡ b
+unfolding firstOf
+second-none a b e = go (test (eqb a 0))
+  where
+    go : (eqb a 0 ≡ true) ⊎ (eqb a 0 ≡ false) → 0 ≡ b
+    go (inl t) = rw t at e
+    go (inr f) = absurd (eqb-false a 0 f (sym (rw f at e)))
+
+pub demand3-bytes : Demand3Bytes
+demand3-bytes bytes entry exit number counts call returned =
+    agree (bytesReadingOf bytes .policy) entry exit counts (second-none _ _ (sym returned ∙ call .number-is)) (call .counts-are) (call .tables-are)

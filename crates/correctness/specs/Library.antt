@@ -1,14 +1,16 @@
--- Demand 3 over what the functions of the static library promise (crates/wulfrenda/src/lib.rt): a call of wulfrenda_translate, and calls of wulfrenda_run, one
--- for each letter of a stem and then a loop without end. If the first returned 0, the claim of Contracts.antt (Agreement) holds.
+-- Demand 3 over what the functions of the static library promise (crates/wulfrenda/src/lib.rt): a call of wulfrenda_translate or of wulfrenda_translate_bytes, and calls
+-- of wulfrenda_run, one for each letter of a stem and then a loop without end. If the first returned 0, the claim of Contracts.antt (Agreement) holds.
 use Prim.Native.Nat.{ℕ, suc, _<_}
 use mathlib.Core.Path.{_≡_}
 use mathlib.Core.Bool.{cond}
 use mathlib.Core.List.{List, [], _∷_}
 use lib.Dec.{eqb}
 use lib.ListN.{getD}
+use Rattle.policy.specs.declared.Policy.{Policy}
+use Rattle.reading.specs.Reading.{numberOf as readNumberOf, readingOf as bytesReadingOf}
 use Rattle.builder.specs.Tables.{Tables, Hold, countsOf, translationOf, tablesAfter, numberOf as translateNumberOf}
 use Rattle.running.specs.Running.{runAfter, priorityOf, readingOf, numberOf as runNumberOf}
-use Rattle.wulfrenda.specs.Records.{policyOf}
+use Rattle.wulfrenda.specs.Records.{policyOf, firstOf}
 use Rattle.correctness.specs.Contracts.{letterAt, Beginning, Agreement}
 
 -- ---- wulfrenda_translate: the record's bytes, the seven tables at entry and at exit, what is returned, and what the counts hold
@@ -16,6 +18,12 @@ pub record TranslateCall (packed : List ℕ) (entry exit : Tables) (number : ℕ
   pub number-is : number ≡ translateNumberOf (translationOf (policyOf packed) entry)
   pub counts-are : counts ≡ countsOf (translationOf (policyOf packed) entry)
   pub tables-are : Hold (tablesAfter (policyOf packed) entry) (exit .masks) (exit .parents) (exit .ranks) (exit .sources) (exit .leaves) (exit .targets) (exit .priorities)
+
+-- ---- wulfrenda_translate_bytes: the command bytes in place of the record
+pub record TranslateBytesCall (bytes : List ℕ) (entry exit : Tables) (number : ℕ) (counts : List ℕ) : Type 0 where
+  pub number-is : number ≡ firstOf (readNumberOf (bytesReadingOf bytes .outcome)) (translateNumberOf (translationOf (bytesReadingOf bytes .policy) entry))
+  pub counts-are : counts ≡ countsOf (translationOf (bytesReadingOf bytes .policy) entry)
+  pub tables-are : Hold (tablesAfter (bytesReadingOf bytes .policy) entry) (exit .masks) (exit .parents) (exit .ranks) (exit .sources) (exit .leaves) (exit .targets) (exit .priorities)
 
 -- how many built states the counts say
 abbrev pub statesIn : List ℕ → ℕ
@@ -37,10 +45,19 @@ abbrev pub callsMeet : (ℕ → ℕ) → (ℕ → ℕ) → ℕ → List ℕ
 callsMeet numbers given i = cond (eqb (numbers i) 0) (given i ∷ []) []
 
 -- ---- the claim: the calls begin in any built state, and the policy's run in the state under it
+abbrev pub CallsAgree : Policy → Tables → List ℕ → Type 0
+CallsAgree p exit counts =
+    (targets priorities : List ℕ) → Beginning (p .letters) (statesIn counts) exit targets priorities
+    → (stem loop : List ℕ) (state numbers given : ℕ → ℕ) → RunCalls (p .letters) targets priorities stem loop state numbers given
+    → state 0 < statesIn counts → (v : ℕ) → v ≡ getD (exit .sources) (state 0) 0
+    → Agreement p stem loop (callsMeet numbers given) v (statesIn counts) (exit .sources) state
+
 abbrev pub Demand3Library : Type 0
 Demand3Library =
     (packed : List ℕ) (entry exit : Tables) (number : ℕ) (counts : List ℕ) → TranslateCall packed entry exit number counts → number ≡ 0
-    → (targets priorities : List ℕ) → Beginning (policyOf packed .letters) (statesIn counts) exit targets priorities
-    → (stem loop : List ℕ) (state numbers given : ℕ → ℕ) → RunCalls (policyOf packed .letters) targets priorities stem loop state numbers given
-    → state 0 < statesIn counts → (v : ℕ) → v ≡ getD (exit .sources) (state 0) 0
-    → Agreement (policyOf packed) stem loop (callsMeet numbers given) v (statesIn counts) (exit .sources) state
+    → CallsAgree (policyOf packed) exit counts
+
+abbrev pub Demand3Bytes : Type 0
+Demand3Bytes =
+    (bytes : List ℕ) (entry exit : Tables) (number : ℕ) (counts : List ℕ) → TranslateBytesCall bytes entry exit number counts → number ≡ 0
+    → CallsAgree (bytesReadingOf bytes .policy) exit counts
