@@ -5,7 +5,7 @@ use native.Mathlib.Decide.{ℕ-discrete, decLt}
 use native.Mathlib.Numerals.{add-one}
 use mathlib.Core.Path.{_≡_, refl, sym, ap, ap₂, _∙_, subst}
 use mathlib.Core.Logic.{_⊎_, inl, inr, _≢_}
-use mathlib.Core.Bool.{Bool, true, false, _&&_, cond, true≢false, false≢true, and-true}
+use mathlib.Core.Bool.{Bool, true, false, not, _&&_, cond, true≢false, false≢true, and-true}
 use mathlib.Core.List.{List, List·Memᴰ·head, List·Memᴰ·eq-of-singleton}
 use lib.Bits.{bitAnd, bitOr}
 use lib.Dec.{eqb}
@@ -39,13 +39,14 @@ pub colours-to-none : (t : List ℕ) (m : ℕ) → tableColoursTo t 0 m ≡ 0
 unfolding tableColoursTo
 colours-to-none t m = refl
 
-pub colours-with : (t : List ℕ) (n m : ℕ) → bitAnd m (getD t n 0) ≢ 0 → tableColoursTo t (n + 1) m ≡ insert (tableColoursTo t n m) n
+-- with entry n, where it has an edge of m
+pub colours-to-next : (t : List ℕ) (n m : ℕ) → tableColoursTo t (n + 1) m ≡ cond (not (eqb (bitAnd m (getD t n 0)) 0)) (insert (tableColoursTo t n m) n) (tableColoursTo t n m)
 unfolding tableColoursTo
-colours-with t n m h = rw add-one (ap (λ (b : Bool). cond b (tableColoursTo t n m) (insert (tableColoursTo t n m) n)) (neqb (bitAnd m (getD t n 0)) 0 h))
-
-pub colours-without : (t : List ℕ) (n m : ℕ) → bitAnd m (getD t n 0) ≡ 0 → tableColoursTo t (n + 1) m ≡ tableColoursTo t n m
-unfolding tableColoursTo
-colours-without t n m h = rw add-one (ap (λ (b : Bool). cond b (tableColoursTo t n m) (insert (tableColoursTo t n m) n)) (≡eqb (bitAnd m (getD t n 0)) 0 h))
+colours-to-next t n m = rw add-one (go (eqb (bitAnd m (getD t n 0)) 0))
+  where
+    go : (b : Bool) → cond b (tableColoursTo t n m) (insert (tableColoursTo t n m) n) ≡ cond (not b) (insert (tableColoursTo t n m) n) (tableColoursTo t n m)
+    go true = refl
+    go false = refl
 
 -- ---- the bits of what they give
 -- a set without a member is empty

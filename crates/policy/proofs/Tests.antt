@@ -1,14 +1,17 @@
 -- One turn of the loops that test every number below n, and of the one that collects the colours of an edge set. Assumes nothing.
 use Prim.Native.Nat.{ℕ, zero, suc, _+_, _-_, _^_, _≤_, _<_}
 use native.Mathlib.Omega.{arith}
+use native.Mathlib.Decide.{ℕ-discrete}
 use native.Mathlib.Numerals.{add-one}
 use mathlib.Core.Path.{_≡_, refl, sym, ap, ap₂, _∙_}
+use mathlib.Core.Logic.{_⊎_, inl, inr}
 use mathlib.Core.Bool.{Bool, true, false, not, _&&_, _||_, cond, and-true, or-true, or-false}
 use mathlib.Core.List.{List, [], _∷_, _++_}
 use lib.Dec.{eqb, ltb}
 use lib.Pow.{pow-pos}
 use borrow.Author.Tests.{lt-ltb, le-ltb}
 use Rattle.lists.specs.Lists.{all, below}
+use Rattle.lists.proofs.Bools.{≡eqb, neqb}
 use Rattle.masks.specs.Masks.{has, insert}
 use Rattle.policy.specs.declared.Policy.{Policy}
 use Rattle.policy.specs.Policies.{edges, targetOf, colourOf, coloursBelow, inFamily, legalCounts, legalEdge, legalSet, legal}
@@ -26,15 +29,34 @@ all-snoc t (y ∷ l) x = ap (λ (b : Bool). t y && b) (all-snoc t l x) ∙ go (t
 pub all-turn : (t : ℕ → Bool) (n : ℕ) (a b : Bool) → a ≡ all t (below n) → b ≡ t n → a && b ≡ all t (below (n + 1))
 all-turn t n a b p q = ap₂ _&&_ p q ∙ sym (all-snoc t (below n) n) ∙ ap (λ (k : ℕ). all t (below k)) (sym (add-one n))
 
+-- and two tests of it
+pub all-turn-both : (t : ℕ → Bool) (n : ℕ) (a b c : Bool) → a ≡ all t (below n) → b && c ≡ t n → a && b && c ≡ all t (below (n + 1))
+all-turn-both t n a b c p q = go a b c ∙ all-turn t n a (b && c) p q
+  where
+    go : (a b c : Bool) → a && b && c ≡ a && (b && c)
+    go true b c = refl
+    go false b c = refl
+
+-- below 1 is 0
+below-one : (x : ℕ) → ltb x 1 ≡ eqb x 0
+below-one x = go (ℕ-discrete x 0)
+  where
+    go : Dec (x ≡ 0) → ltb x 1 ≡ eqb x 0
+    go (yes q) = lt-ltb x 1 (omega arith) ∙ sym (≡eqb x 0 q)
+    go (no q) = le-ltb x 1 (omega arith) ∙ sym (neqb x 0 q)
+
 module _ (p : Policy) where
   -- ---- the parts of the test for a legal policy
-  pub legal-edge-in : (e n : ℕ) → n ≡ edges p → e < n → legalEdge p e ≡ ltb (targetOf p e) (p .states) && ltb (colourOf p e) (p .colours)
-  unfolding legalEdge
-  legal-edge-in e n q h = rw (lt-ltb e (edges p) (omega arith))
+  -- entry e of a list by bound k: the number of states, or of colours, at an edge, and 1 past the last one
+  abbrev pub Bound : ℕ → ℕ → ℕ → ℕ → Type 0
+  Bound e n count k = ((e < n) × (k ≡ count)) ⊎ ((n ≤ e) × (k ≡ 1))
 
-  pub legal-edge-out : (e n : ℕ) → n ≡ edges p → n ≤ e → legalEdge p e ≡ eqb (targetOf p e) 0 && eqb (colourOf p e) 0
+  pub legal-edge-by : (e n h k : ℕ) → n ≡ edges p → Bound e n (p .states) h → Bound e n (p .colours) k → ltb (targetOf p e) h && ltb (colourOf p e) k ≡ legalEdge p e
   unfolding legalEdge
-  legal-edge-out e n q h = rw (le-ltb e (edges p) (omega arith))
+  legal-edge-by e n h k q (inl a) (inl b) = rw (lt-ltb e (edges p) (omega (arith, a .0)), a .1, b .1)
+  legal-edge-by e n h k q (inl a) (inr b) = absurd (omega (arith, a .0, b .0))
+  legal-edge-by e n h k q (inr a) (inl b) = absurd (omega (arith, a .0, b .0))
+  legal-edge-by e n h k q (inr a) (inr b) = rw (le-ltb e (edges p) (omega (arith, a .0)), a .1, b .1) (ap₂ _&&_ (below-one (targetOf p e)) (below-one (colourOf p e)))
 
   -- a set of the colours, and one that is not
   legal-set-within : (s : ℕ) → 0 < s → s < 2 ^ p .colours → legalSet p s ≡ true

@@ -103,9 +103,7 @@ pub fn colours_in(t: &[u64; 8], m: u64) -> u8
 {
     let mut s: u8 = 0;
     for k in 0..8u8 {
-        if masks::both(m, t[k as usize]) != 0 {
-            s = masks::set_with(s, k);
-        }
+        s = masks::set_with_if(s, k, masks::both(m, t[k as usize]) != 0);
     }
     s
 }
@@ -135,30 +133,33 @@ fn has_legal_counts(p: Policy) -> bool
         & (p.initial < p.states)
 }
 
-// Whether every edge leads to a state and has a colour, and every entry past the last edge is 0.
+// Whether every edge leads to a state and has a colour, and every entry past the last edge is 0. Numbers of one byte throughout, so that many edges are looked at together.
 fn has_legal_edges(p: Policy) -> bool
+    requires { ⌜ edges p ≤ 64 ⌝ }
     ensures { λ r. ⌜ r ≡ all (legalEdge p) (below 64) ⌝ }
 {
-    let n = edges(p);
+    let n = edges(p) as u8;
     let mut b = true;
-    for e in 0..64 {
-        if e < n {
-            b = b & ((p.target[e] < p.states) & (p.colour[e] < p.colours));
-        } else {
-            b = b & ((p.target[e] == 0) & (p.colour[e] == 0));
-        }
+    for e in 0..64u8 {
+        let heads = if e < n { p.states } else { 1 };
+        let hues = if e < n { p.colours } else { 1 };
+        b = b & (p.target[e as usize] < heads) & (p.colour[e as usize] < hues);
     }
     b
 }
 
-// Whether the family has neither the empty set nor one outside the colours.
+// Whether the family has neither the empty set nor one outside the colours. In two parts, so that what is looked at together was written together.
 fn has_legal_sets(p: Policy) -> bool
     requires { ⌜ p .colours ≤ 8 ⌝ }
     ensures { λ r. ⌜ r ≡ all (legalSet p) (below 256) ⌝ }
 {
     let top: usize = 1 << p.colours;
     let mut b = !p.family[0];
-    for s in top..256 {
+    let from = if top < 16 { 16 } else { top };
+    for s in top..from {
+        b = b & !p.family[s];
+    }
+    for s in from..256 {
         b = b & !p.family[s];
     }
     b

@@ -1,12 +1,16 @@
 -- `colours_in` meets its contract: s has those of the colours passed that have an edge of m. Assumes nothing.
-use Prim.Native.Nat.{_-_, _≤_}
+use Prim.Native.Nat.{ℕ, _-_, _≤_}
 use native.Mathlib.Omega.{arith}
 use native.Mathlib.Nat.{le-antisymm}
-use mathlib.Core.Path.{_≡_, sym, _∙_}
-use mathlib.Core.Logic.{⊎-elim}
+use mathlib.Core.Path.{_≡_, sym, ap, _∙_}
+use mathlib.Core.Bool.{Bool, not, cond}
+use lib.Dec.{eqb}
+use lib.ListN.{getD}
 use borrow.Author.Needs.{needs}
+use lib.Bits.{bitAnd}
+use Rattle.masks.specs.Masks.{insert}
 use Rattle.policy.specs.ByColour.{tableColoursTo, tableColours}
-use Rattle.policy.proofs.ByColour.{colours-to-none, colours-with, colours-without}
+use Rattle.policy.proofs.ByColour.{colours-to-none, colours-to-next}
 use Rattle.policy.proofs.colours_in.Statement.{statement}
 use Rattle.policy.proofs.colours_in.Tie as tie
 
@@ -31,8 +35,8 @@ element-copy-out-both c = omega arith
 both-requires : tie.Need-both-requires Inv-loop μ-loop
 both-requires c κs = search needs
 
-set-with-requires : tie.Need-set-with-requires Inv-loop μ-loop
-set-with-requires c κs = omega arith
+set-with-if-requires : tie.Need-set-with-if-requires Inv-loop μ-loop
+set-with-if-requires c κs = omega arith
 
 add-k : tie.Need-add-k Inv-loop μ-loop
 add-k c = omega arith
@@ -45,9 +49,13 @@ loop-again c =
     let d = c .before .before .before in
     let t = d .before .before .args .t .now in
     let m = d .before .before .args .m in
-    let k = d .before .loop .k in
-    let h = c .before .both .ensures in
-    (omega arith, ⊎-elim (λ w. cc (colours-with t k m (λ z. w .0 .taken (h ∙ z)))) (λ w. cc (colours-without t k m (sym h ∙ w .0 .left))) (c .if1 .came))
+    let at = d .before .loop in (
+      omega arith,
+      c .set-with-if .ensures
+          ∙ ap (λ (x : ℕ). cond (not (eqb x 0)) (insert (at .s) (at .k)) (at .s)) (c .before .both .ensures)
+          ∙ ap (λ (x : ℕ). cond (not (eqb (bitAnd m (getD t (at .k) 0)) 0)) (insert x (at .k)) x) (at .inv .1)
+          ∙ sym (colours-to-next t (at .k) m),
+    )
 
 returns : tie.Need-returns Inv-loop μ-loop
 unfolding tableColours
@@ -64,7 +72,7 @@ colours-in-spec =
     mul-both
     element-copy-out-both
     both-requires
-    set-with-requires
+    set-with-if-requires
     add-k
     loop-less
     loop-again

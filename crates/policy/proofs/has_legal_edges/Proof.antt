@@ -2,12 +2,12 @@
 use Prim.Native.Nat.{_-_, _≤_}
 use native.Mathlib.Omega.{arith}
 use native.Mathlib.Nat.{le-antisymm}
-use mathlib.Core.Path.{_≡_, refl, sym, _∙_}
-use mathlib.Core.Logic.{⊎-elim}
+use mathlib.Core.Path.{_≡_, refl, _∙_}
+use mathlib.Core.Logic.{⊎-elim, inl, inr}
 use borrow.Author.Needs.{needs}
 use Rattle.lists.specs.Lists.{all, below}
-use Rattle.policy.specs.Policies.{targetOf, colourOf, legalEdge}
-use Rattle.policy.proofs.Tests.{all-turn, legal-edge-in, legal-edge-out}
+use Rattle.policy.specs.Policies.{edges, targetOf, colourOf, legalEdge}
+use Rattle.policy.proofs.Tests.{all-turn-both, legal-edge-by}
 use Rattle.policy.proofs.has_legal_edges.Statement.{statement}
 use Rattle.policy.proofs.has_legal_edges.Tie as tie
 
@@ -20,20 +20,23 @@ abbrev μ-loop : tie.MeasureT-loop
 edges-requires : tie.Need-edges-requires Inv-loop μ-loop
 edges-requires c κs = search needs
 
+cast-n : tie.Need-cast-n Inv-loop μ-loop
+cast-n c = omega (arith, c .edges .ensures, c .before .pre)
+
 loop-holds : tie.Need-loop-holds Inv-loop μ-loop
 loop-holds c = (omega arith, refl)
+
+cast-b : tie.Need-cast-b Inv-loop μ-loop
+cast-b c = omega arith
 
 element-copy-out-b : tie.Need-element-copy-out-b Inv-loop μ-loop
 element-copy-out-b c = omega arith
 
+cast-b-2 : tie.Need-cast-b-2 Inv-loop μ-loop
+cast-b-2 c = omega arith
+
 element-copy-out-b-2 : tie.Need-element-copy-out-b-2 Inv-loop μ-loop
 element-copy-out-b-2 c = omega arith
-
-element-copy-out-b-3 : tie.Need-element-copy-out-b-3 Inv-loop μ-loop
-element-copy-out-b-3 c = omega arith
-
-element-copy-out-b-4 : tie.Need-element-copy-out-b-4 Inv-loop μ-loop
-element-copy-out-b-4 c = omega arith
 
 add-e : tie.Need-add-e Inv-loop μ-loop
 add-e c = omega arith
@@ -44,13 +47,15 @@ loop-less c = omega arith
 loop-again : tie.Need-loop-again Inv-loop μ-loop
 unfolding targetOf colourOf
 loop-again c =
-    let d = c .before .before in
+    let j = c .before .before in
+    let d = j .before .before .before in
     let p = d .before .before .args .t1 in
     let e = d .loop .e in (
       omega arith,
-      ⊎-elim (λ w. w .3 ∙ all-turn (legalEdge p) e _ _ (d .loop .inv .1) (sym (legal-edge-in p e _ (d .before .edges .ensures) (w .0 .taken))))
-          (λ w. w .3 ∙ all-turn (legalEdge p) e _ _ (d .loop .inv .1) (sym (legal-edge-out p e _ (d .before .edges .ensures) (w .0 .left))))
-          (c .if1 .came),
+      all-turn-both (legalEdge p) e _ _ _ (d .loop .inv .1)
+          (legal-edge-by p e _ _ _ (d .before .edges .ensures)
+          (⊎-elim (λ w. inl (w .0 .taken, w .1)) (λ w. inr (w .0 .left, w .1)) (j .before .if1 .came))
+          (⊎-elim (λ w. inl (w .0 .taken, w .1)) (λ w. inr (w .0 .left, w .1)) (j .if2 .came))),
     )
 
 returns : tie.Need-returns Inv-loop μ-loop
@@ -63,11 +68,12 @@ has-legal-edges-spec =
     Inv-loop
     μ-loop
     edges-requires
+    cast-n
     loop-holds
+    cast-b
     element-copy-out-b
+    cast-b-2
     element-copy-out-b-2
-    element-copy-out-b-3
-    element-copy-out-b-4
     add-e
     loop-less
     loop-again

@@ -1,5 +1,6 @@
 use mathlib.Core.Path.{sym, _∙_}
 use borrow.Author.Needs.{needs}
+use Rattle.policy.specs.Policies.{edges}
 use Rattle.policy.proofs.Laws.{counts}
 use Rattle.policy.proofs.Tests.{legal-counted, legal-uncounted}
 use Rattle.policy.proofs.is_legal.Statement.{statement}
@@ -9,7 +10,9 @@ has-legal-counts-requires : tie.Need-has-legal-counts-requires
 has-legal-counts-requires c κs = search needs
 
 has-legal-edges-requires : tie.Need-has-legal-edges-requires
-has-legal-edges-requires c κs = search needs
+unfolding edges
+has-legal-edges-requires c κs =
+    counts (c .before .before .args .p) (sym (c .before .has-legal-counts .ensures) ∙ c .if1 .taken) .edges-few
 
 has-legal-sets-requires : tie.Need-has-legal-sets-requires
 has-legal-sets-requires c κs =
