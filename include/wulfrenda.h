@@ -127,6 +127,27 @@ uint8_t wulfrenda_translate(const uint8_t record[WULFRENDA_RECORD_BYTES],
                             uint16_t counts[3]);
 
 /*
+ * The two in one: reads a policy from command bytes and translates it, with no record between.
+ *
+ *   bytes, bytes_length   as for wulfrenda_read
+ *   the seven tables      as for wulfrenda_translate
+ *   counts                as for wulfrenda_translate
+ *   offset                as for wulfrenda_read
+ *
+ * The questions of wulfrenda_read, then 8, 9, 10: a policy that was read is legal. After 1 to 6 and 8 the seven tables are unchanged; after 9 and 10
+ * every place of all seven is 0. After any refusal the three counts are 0. After 8, 9 and 10 *offset is where what follows the end command begins.
+ */
+uint8_t wulfrenda_translate_bytes(const uint8_t *bytes, size_t bytes_length,
+                                  uint64_t *node_masks, size_t node_masks_length,
+                                  uint16_t *node_parents, size_t node_parents_length,
+                                  uint8_t *node_priorities, size_t node_priorities_length,
+                                  uint8_t *state_sources, size_t state_sources_length,
+                                  uint16_t *state_leaves, size_t state_leaves_length,
+                                  uint16_t *row_targets, size_t row_targets_length,
+                                  uint8_t *row_priorities, size_t row_priorities_length,
+                                  uint16_t counts[3], size_t *offset);
+
+/*
  * Reads one letter on a built automaton.
  *
  *   letters                      the policy's number of letters

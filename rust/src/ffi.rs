@@ -29,6 +29,27 @@ extern "C" {
         counts: *mut u16,
     ) -> u8;
 
+    pub fn wulfrenda_translate_bytes(
+        bytes: *const u8,
+        bytes_len: usize,
+        node_masks: *mut u64,
+        node_masks_len: usize,
+        node_parents: *mut u16,
+        node_parents_len: usize,
+        node_priorities: *mut u8,
+        node_priorities_len: usize,
+        state_sources: *mut u8,
+        state_sources_len: usize,
+        state_leaves: *mut u16,
+        state_leaves_len: usize,
+        row_targets: *mut u16,
+        row_targets_len: usize,
+        row_priorities: *mut u8,
+        row_priorities_len: usize,
+        counts: *mut u16,
+        offset: *mut usize,
+    ) -> u8;
+
     pub fn wulfrenda_run(
         letters: u8,
         row_targets: *const u16,

@@ -93,6 +93,51 @@ pub fn translate(policy: &Policy, tables: Tables<'_>) -> Result<Counts, Refusal>
     })
 }
 
+/// [`Policy::read`] and [`translate`] in one call: the tables of the policy that command bytes give, and the bytes that follow its end command. Refused with 1 to 6 as
+/// in reading, the tables unchanged, and with 8, 9 or 10 as in translating; the offset is then where what follows the end command begins.
+pub fn translate_bytes<'a>(
+    bytes: &'a [u8],
+    tables: Tables<'_>,
+) -> Result<(Counts, &'a [u8]), ReadError> {
+    let mut counts = [0; 3];
+    let mut offset = 0;
+    // SAFETY: each pointer is that of a slice or an array, with its length, or of a local; the mutable ones are exclusive.
+    let number = unsafe {
+        ffi::wulfrenda_translate_bytes(
+            bytes.as_ptr(),
+            bytes.len(),
+            tables.node_masks.as_mut_ptr(),
+            tables.node_masks.len(),
+            tables.node_parents.as_mut_ptr(),
+            tables.node_parents.len(),
+            tables.node_priorities.as_mut_ptr(),
+            tables.node_priorities.len(),
+            tables.state_sources.as_mut_ptr(),
+            tables.state_sources.len(),
+            tables.state_leaves.as_mut_ptr(),
+            tables.state_leaves.len(),
+            tables.row_targets.as_mut_ptr(),
+            tables.row_targets.len(),
+            tables.row_priorities.as_mut_ptr(),
+            tables.row_priorities.len(),
+            counts.as_mut_ptr(),
+            &mut offset,
+        )
+    };
+    let [nodes, states, start] = counts;
+    match Refusal::check(number) {
+        Ok(()) => Ok((
+            Counts {
+                nodes,
+                states,
+                start,
+            },
+            &bytes[offset..],
+        )),
+        Err(refusal) => Err(ReadError { refusal, offset }),
+    }
+}
+
 /// The rows of a built automaton: letters times the number of states, in both tables.
 #[derive(Clone, Copy, Debug)]
 pub struct Rows<'a> {

@@ -98,12 +98,12 @@ impl fmt::Display for Refusal {
 
 impl Error for Refusal {}
 
-/// Why command bytes were not read, and where.
+/// Why command bytes were not read or not translated, and where.
 #[derive(Clone, Copy, Debug, PartialEq, Eq, Hash)]
 pub struct ReadError {
     /// The question that was answered "no".
     pub refusal: Refusal,
-    /// Where the refused command begins; the number of bytes, if there is none.
+    /// Where the refused command begins; the number of bytes, if there is none; where the policy was read and not translated, what follows it begins there.
     pub offset: usize,
 }
 

@@ -1,8 +1,8 @@
 //! The known policies, the edges of the limits, what the tables hold after each refusal, runs, judgings and comparings, through the safe layer.
 
 use wulfrenda::{
-    colour_set_at, compare, judge_policy, judge_rows, translate, Counts, Policy, ReadError,
-    Refusal, Rows, Run, Tables, Verdict, NONE, RECORD_LEN, STACK_BYTES,
+    colour_set_at, compare, judge_policy, judge_rows, translate, translate_bytes, Counts, Policy,
+    ReadError, Refusal, Rows, Run, Tables, Verdict, NONE, RECORD_LEN, STACK_BYTES,
 };
 
 const B: [u8; 30] = [
@@ -50,19 +50,20 @@ impl Lent {
         Lent::filled(nodes, states, rows, 9)
     }
 
+    fn lend(&mut self) -> Tables<'_> {
+        Tables {
+            node_masks: &mut self.node_masks,
+            node_parents: &mut self.node_parents,
+            node_priorities: &mut self.node_priorities,
+            state_sources: &mut self.state_sources,
+            state_leaves: &mut self.state_leaves,
+            row_targets: &mut self.row_targets,
+            row_priorities: &mut self.row_priorities,
+        }
+    }
+
     fn translate(&mut self, policy: &Policy) -> Result<Counts, Refusal> {
-        translate(
-            policy,
-            Tables {
-                node_masks: &mut self.node_masks,
-                node_parents: &mut self.node_parents,
-                node_priorities: &mut self.node_priorities,
-                state_sources: &mut self.state_sources,
-                state_leaves: &mut self.state_leaves,
-                row_targets: &mut self.row_targets,
-                row_priorities: &mut self.row_priorities,
-            },
-        )
+        translate(policy, self.lend())
     }
 
     fn rows(&self, letters: u8, states: u16) -> Rows<'_> {
@@ -238,6 +239,43 @@ fn tables_of_other_lengths_are_unchanged() {
         assert_eq!(t.translate(&b), Err(Refusal::Lengths));
         assert_eq!(t, before);
     }
+}
+
+#[test]
+fn from_command_bytes_to_tables() {
+    let mut bytes = B.to_vec();
+    bytes.extend([7, 8]);
+    let (mut one, mut two) = (Lent::new(5, 5, 10), Lent::new(5, 5, 10));
+    let (found, rest) = translate_bytes(&bytes, one.lend()).unwrap();
+    assert_eq!(rest, [7, 8]);
+    assert_eq!(Ok(found), two.translate(&policy(&B)));
+    assert_eq!(one, two);
+
+    let refused = |mut tables: Lent, bytes: &[u8], refusal, offset, after| {
+        let answer = translate_bytes(bytes, tables.lend());
+        assert_eq!(answer, Err(ReadError { refusal, offset }));
+        assert_eq!(tables, after);
+    };
+    let (unread, whole) = (Lent::new(5, 5, 10), Lent::new(5, 5, 9));
+    refused(
+        unread.clone(),
+        &B[..29],
+        Refusal::Truncated,
+        29,
+        unread.clone(),
+    );
+    refused(unread.clone(), &[4], Refusal::UnknownCommand, 0, unread);
+    refused(whole.clone(), &bytes, Refusal::Lengths, 30, whole);
+    let cleared = |nodes, states| Lent::filled(nodes, states, 2 * states, 0);
+    let full = |nodes, states| Lent::new(nodes, states, 2 * states);
+    refused(full(2, 5), &bytes, Refusal::TooManyNodes, 30, cleared(2, 5));
+    refused(
+        full(3, 1),
+        &bytes,
+        Refusal::TooManyStates,
+        30,
+        cleared(3, 1),
+    );
 }
 
 #[test]

@@ -1,7 +1,8 @@
 //! What the comparisons and the benchmark share: tables to lend, and policies as hexadecimal text.
 
+use independent::fast::Translator;
 use independent::Automaton;
-use wulfrenda::{Counts, Policy, Refusal, Rows, Tables};
+use wulfrenda::{Counts, Policy, ReadError, Refusal, Rows};
 
 /// The seven tables.
 #[derive(Clone, Debug, PartialEq, Eq)]
@@ -29,28 +30,21 @@ impl Lent {
         }
     }
 
-    /// The tables of so many places that hold an automaton, and 0 past it.
-    pub fn holding(a: &Automaton, nodes: usize, states: usize, rows: usize) -> Self {
-        let mut t = Lent::new(nodes, states, rows, 0);
-        for (i, n) in a.nodes.iter().enumerate() {
-            t.node_masks[i] = n.mask;
-            t.node_parents[i] = n.parent;
-            t.node_priorities[i] = n.priority;
-        }
-        for (i, s) in a.states.iter().enumerate() {
-            t.state_sources[i] = s.0;
-            t.state_leaves[i] = s.1;
-        }
-        for (i, r) in a.rows.iter().enumerate() {
-            t.row_targets[i] = r.0;
-            t.row_priorities[i] = r.1;
-        }
-        t
-    }
-
     /// Lends the tables to the proved translator.
     pub fn translate(&mut self, p: &Policy) -> Result<Counts, Refusal> {
-        let tables = Tables {
+        wulfrenda::translate(p, self.lend())
+    }
+
+    /// Lends them to it with the command bytes of a policy.
+    pub fn translate_bytes<'a>(
+        &mut self,
+        bytes: &'a [u8],
+    ) -> Result<(Counts, &'a [u8]), ReadError> {
+        wulfrenda::translate_bytes(bytes, self.lend())
+    }
+
+    fn lend(&mut self) -> wulfrenda::Tables<'_> {
+        wulfrenda::Tables {
             node_masks: &mut self.node_masks,
             node_parents: &mut self.node_parents,
             node_priorities: &mut self.node_priorities,
@@ -58,8 +52,27 @@ impl Lent {
             state_leaves: &mut self.state_leaves,
             row_targets: &mut self.row_targets,
             row_priorities: &mut self.row_priorities,
-        };
-        wulfrenda::translate(p, tables)
+        }
+    }
+
+    /// Lends them to the independent translator.
+    pub fn fill<'a>(
+        &mut self,
+        translator: &'a mut Translator,
+        p: &independent::policy::Policy,
+    ) -> Result<&'a Automaton, u8> {
+        translator.fill(
+            p,
+            independent::Tables {
+                node_masks: &mut self.node_masks,
+                node_parents: &mut self.node_parents,
+                node_priorities: &mut self.node_priorities,
+                state_sources: &mut self.state_sources,
+                state_leaves: &mut self.state_leaves,
+                row_targets: &mut self.row_targets,
+                row_priorities: &mut self.row_priorities,
+            },
+        )
     }
 
     pub fn rows(&self, letters: u8) -> Rows<'_> {

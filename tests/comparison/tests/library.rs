@@ -2,10 +2,11 @@
 //! SEED and POLICIES change the fixed seed and the number of policies, for a longer run by hand.
 
 use comparison::{hex, Lent};
+use independent::fast::{self, Translator};
 use independent::policy::{from_record, Policy};
 use independent::random::Random;
-use independent::{fast, judge, policy, Automaton};
-use wulfrenda::{Counts, Refusal, Rows, Run};
+use independent::{judge, policy, Automaton};
+use wulfrenda::{Counts, ReadError, Refusal, Rows, Run};
 
 fn number(name: &str, usual: u64) -> u64 {
     std::env::var(name).map_or(usual, |x| x.parse().expect("a number"))
@@ -73,56 +74,106 @@ fn reading() {
     read_alike(&[]);
 }
 
-fn translated_alike(p: &Policy, places: (usize, usize), theirs: Result<&Automaton, u8>) {
-    let (nodes, states) = places;
-    let rows = states * p.letters;
-    let mut tables = Lent::new(nodes, states, rows, 0xa5);
-    let ours = refusal(tables.translate(&proved(p)));
-    let expected = match theirs {
-        Ok(a) => Lent::holding(a, nodes, states, rows),
-        Err(_) => Lent::new(nodes, states, rows, 0),
-    };
-    let text = p.hex();
-    assert_eq!(ours, theirs.map(counts), "policy {text} in {places:?}");
-    assert!(tables == expected, "tables of policy {text} in {places:?}");
+/// Translates in tables with so many places for nodes and states on both sides, from the record and from the command bytes.
+fn translated_alike(
+    translator: &mut Translator,
+    p: &Policy,
+    (nodes, states): (usize, usize),
+) -> Result<(), u8> {
+    let mut expected = Lent::new(nodes, states, states * p.letters, 0xa5);
+    let (mut by_record, mut by_bytes) = (expected.clone(), expected.clone());
+    let theirs = expected.fill(translator, p).map(counts);
+    let text = format!("policy {} in {nodes} and {states}", p.hex());
+    assert_eq!(
+        refusal(by_record.translate(&proved(p))),
+        theirs,
+        "record of {text}"
+    );
+    let bytes = p.bytes();
+    let ours = by_bytes.translate_bytes(&bytes).map(|(counts, _)| counts);
+    assert_eq!(ours.map_err(ReadError::number), theirs, "bytes of {text}");
+    assert!(by_record == expected, "tables of {text}");
+    assert!(by_bytes == expected, "tables of the bytes of {text}");
+    theirs.map(|_| ())
 }
 
 #[test]
 fn translating() {
     let mut random = random(12);
-    let mut translator = fast::Translator::default();
+    let mut translator = Translator::default();
     let mut fitting = 0;
     for i in 0..policies(6_000) {
         let p = random.policy([4, 8, 16, 32, 64][i as usize % 5]);
         let most = 65_535;
-        let a = match translator.translate(&p, most, most) {
-            Ok(a) => a,
+        let (nodes, states) = match translator.translate(&p, most, most) {
+            Ok(a) => (a.nodes.len(), a.states.len()),
             Err(number) => {
-                translated_alike(&p, (most, most), Err(number));
-                translated_alike(&p, (most + 1, most + 1), Err(number));
+                for places in [most, most + 1] {
+                    let answer = translated_alike(&mut translator, &p, (places, places));
+                    assert_eq!(answer, Err(number));
+                }
                 continue;
             }
         };
         fitting += 1;
-        let (nodes, states) = (a.nodes.len(), a.states.len());
-        translated_alike(&p, (nodes, states), Ok(a));
-        translated_alike(
-            &p,
-            (nodes + random.below(9), states + random.below(9)),
-            Ok(a),
-        );
-        translated_alike(&p, (nodes, states - 1), Err(10));
+        let longer = (nodes + random.below(9), states + random.below(9));
+        let mut alike = |places, answer| {
+            assert_eq!(translated_alike(&mut translator, &p, places), answer);
+        };
+        alike((nodes, states), Ok(()));
+        alike(longer, Ok(()));
+        alike((nodes, states - 1), Err(10));
         if nodes > 0 {
-            translated_alike(&p, (nodes - 1, states), Err(9));
-            translated_alike(&p, (nodes - 1, states - 1), Err(9));
+            alike((nodes - 1, states), Err(9));
+            alike((nodes - 1, states - 1), Err(9));
         }
     }
     assert!(fitting > policies(6_000) / 2);
 }
 
+/// What becomes of command bytes in one call: the counts, or the number, and the offset.
+fn bytes_alike(translator: &mut Translator, bytes: &[u8], mut tables: Lent) -> u8 {
+    let mut expected = tables.clone();
+    let theirs = policy::read(bytes).and_then(|(p, end)| {
+        let answer = expected.fill(translator, &p);
+        answer.map(|a| (counts(a), end)).map_err(|n| (n, end))
+    });
+    let ours = tables.translate_bytes(bytes);
+    let ours = ours
+        .map(|(counts, rest)| (counts, bytes.len() - rest.len()))
+        .map_err(|e| (e.number(), e.offset));
+    assert_eq!(ours, theirs, "bytes {}", hex(bytes));
+    assert!(tables == expected, "tables of bytes {}", hex(bytes));
+    ours.map_or_else(|e| e.0, |_| 0)
+}
+
+#[test]
+fn from_command_bytes_to_tables() {
+    let mut random = random(17);
+    let mut translator = Translator::default();
+    let mut answers = [0; 11];
+    for i in 0..policies(6_000) {
+        let p = random.policy([4, 8, 16, 32, 64][i as usize % 5]);
+        let mut bytes = p.bytes();
+        bytes.extend((0..random.below(6)).map(|b| b as u8));
+        let (nodes, states) = (random.below(40), random.below(80));
+        // now and then row tables that do not belong to the others
+        let rows = states * p.letters + usize::from(random.chance(5));
+        let tables = Lent::new(nodes, states, rows, 0xa5);
+        for bytes in [damaged(&mut random, bytes.clone()), bytes] {
+            answers[bytes_alike(&mut translator, &bytes, tables.clone()) as usize] += 1;
+        }
+    }
+    // every answer came up but 7: what was read is legal
+    assert_eq!(answers[7], 0);
+    let others = answers.iter().enumerate().filter(|x| x.0 != 7);
+    assert!(others.clone().all(|x| *x.1 > 0), "{answers:?}");
+}
+
 #[test]
 fn lengths_that_do_not_belong_together() {
     let mut random = random(13);
+    let mut translator = Translator::default();
     for _ in 0..policies(1_000) {
         let p = random.policy(16);
         let mut tables = Lent::new(40, 40, 40 * p.letters, 0xa5);
@@ -136,13 +187,13 @@ fn lengths_that_do_not_belong_together() {
             _ => drop(tables.row_priorities.pop()),
         }
         let before = tables.clone();
-        assert_eq!(
-            refusal(tables.translate(&proved(&p))),
-            Err(8),
-            "{}",
-            p.hex()
-        );
-        assert_eq!(tables, before, "{}", p.hex());
+        let (bytes, text) = (p.bytes(), p.hex());
+        let theirs = before.clone().fill(&mut translator, &p).map(counts);
+        assert_eq!(theirs, Err(8), "{text}");
+        assert_eq!(refusal(tables.translate(&proved(&p))), Err(8), "{text}");
+        let ours = tables.translate_bytes(&bytes).map_err(ReadError::number);
+        assert_eq!(ours, Err(8), "{text}");
+        assert_eq!(tables, before, "{text}");
     }
 }
 
@@ -191,7 +242,7 @@ fn words(random: &mut Random, letters: usize) -> (Vec<u8>, Vec<u8>) {
 #[test]
 fn running_and_judging() {
     let mut random = random(15);
-    let mut translator = fast::Translator::default();
+    let mut translator = Translator::default();
     for i in 0..policies(4_000) {
         let p = random.policy([4, 8, 16, 32][i as usize % 4]);
         let Ok(a) = translator.translate(&p, 4096, 4096) else {
@@ -199,7 +250,9 @@ fn running_and_judging() {
         };
         let ours = proved(&p);
         let letters = p.letters;
-        let mut tables = Lent::holding(a, 4096, a.states.len(), a.rows.len());
+        let states = a.states.len();
+        let mut tables = Lent::new(4096, states, a.rows.len(), 0);
+        tables.fill(&mut translator, &p).unwrap();
         for _ in 0..8 {
             let (stem, cycle) = words(&mut random, letters);
             let text = format!("policy {} stem {stem:?} loop {cycle:?}", p.hex());
@@ -211,17 +264,17 @@ fn running_and_judging() {
                 judge::policy(&p, v, &stem, &cycle),
                 "{text}"
             );
-            let s = random.below(a.states.len() + 1);
+            let s = random.below(states + 1);
             let rows = tables.rows(letters as u8);
             judged_alike(&rows, s, &stem, &cycle, &text);
             ran_alike(&rows, s, &stem, &text);
         }
         // rows that lead nowhere, other numbers of letters, tables of two lengths
         let at = random.below(tables.row_targets.len());
-        tables.row_targets[at] = [a.states.len(), 65_535][random.below(2)] as u16;
+        tables.row_targets[at] = [states, 65_535][random.below(2)] as u16;
         let (stem, cycle) = words(&mut random, letters);
         let text = format!("policy {} row {at} stem {stem:?} loop {cycle:?}", p.hex());
-        let s = random.below(a.states.len());
+        let s = random.below(states);
         judged_alike(&tables.rows(letters as u8), s, &stem, &cycle, &text);
         ran_alike(&tables.rows(letters as u8), s, &stem, &text);
         let other = tables.rows(random.below(11) as u8);

@@ -2,7 +2,7 @@
 //! A [`Translator`] keeps its buffers from one policy to the next.
 
 use crate::policy::Policy;
-use crate::{Automaton, Node, Refusal, NONE};
+use crate::{Automaton, Node, Refusal, Tables, NONE};
 use std::collections::{HashMap, HashSet};
 use std::hash::{BuildHasherDefault, Hasher};
 
@@ -235,6 +235,23 @@ impl Translator {
         Ok(&self.out)
     }
 
+    /// The questions 7 to 10, and then the automaton in the tables; all 0 after 9 and 10.
+    pub fn fill(&mut self, p: &Policy, mut tables: Tables<'_>) -> Result<&Automaton, Refusal> {
+        if !p.is_legal() {
+            return Err(7);
+        }
+        if !tables.fit(p.letters) {
+            return Err(8);
+        }
+        let room = (tables.node_masks.len(), tables.state_sources.len());
+        let answer = self.translate(p, room.0, room.1);
+        match &answer {
+            Ok(a) => tables.store(a),
+            Err(_) => tables.clear(0, 0, 0),
+        }
+        answer
+    }
+
     fn grow(&mut self, mask: u64, parent: u16, priority: u8, room: usize) -> Result<u16, Refusal> {
         let number = self.out.nodes.len();
         if number == room {
@@ -342,6 +359,9 @@ pub fn translate(p: &Policy, node_room: usize, state_room: usize) -> Result<Auto
 
 /// Compares two policies: whether every cycle has the same verdict in both.
 pub fn compare(p: &Policy, q: &Policy) -> Result<bool, Refusal> {
+    if !(p.is_legal() && q.is_legal()) {
+        return Err(7);
+    }
     let targets = |p: &Policy| -> Vec<usize> { p.edges.iter().map(|e| e.0).collect() };
     if (p.states, p.letters) != (q.states, q.letters) || targets(p) != targets(q) {
         return Err(15);

@@ -13,6 +13,9 @@ pub fn policy(
     stem: &[u8],
     cycle: &[u8],
 ) -> Result<(usize, bool), Refusal> {
+    if !p.is_legal() {
+        return Err(7);
+    }
     if state >= p.states {
         return Err(11);
     }

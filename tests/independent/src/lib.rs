@@ -53,5 +53,56 @@ impl Automaton {
     }
 }
 
+/// The seven tables of a caller.
+pub struct Tables<'a> {
+    pub node_masks: &'a mut [u64],
+    pub node_parents: &'a mut [u16],
+    pub node_priorities: &'a mut [u8],
+    pub state_sources: &'a mut [u8],
+    pub state_leaves: &'a mut [u16],
+    pub row_targets: &'a mut [u16],
+    pub row_priorities: &'a mut [u8],
+}
+
+impl Tables<'_> {
+    /// Question 8.
+    fn fit(&self, letters: usize) -> bool {
+        let (nodes, states) = (self.node_masks.len(), self.state_sources.len());
+        let rows = states.checked_mul(letters);
+        self.node_parents.len() == nodes
+            && self.node_priorities.len() == nodes
+            && self.state_leaves.len() == states
+            && Some(self.row_targets.len()) == rows
+            && Some(self.row_priorities.len()) == rows
+    }
+
+    /// Stores an automaton for which there is room, and 0 past it.
+    fn store(&mut self, a: &Automaton) {
+        for (i, n) in a.nodes.iter().enumerate() {
+            self.node_masks[i] = n.mask;
+            self.node_parents[i] = n.parent;
+            self.node_priorities[i] = n.priority;
+        }
+        for (i, s) in a.states.iter().enumerate() {
+            (self.state_sources[i], self.state_leaves[i]) = *s;
+        }
+        for (i, r) in a.rows.iter().enumerate() {
+            (self.row_targets[i], self.row_priorities[i]) = *r;
+        }
+        self.clear(a.nodes.len(), a.states.len(), a.rows.len());
+    }
+
+    /// Stores 0 past so many nodes, states and rows.
+    fn clear(&mut self, nodes: usize, states: usize, rows: usize) {
+        self.node_masks[nodes..].fill(0);
+        self.node_parents[nodes..].fill(0);
+        self.node_priorities[nodes..].fill(0);
+        self.state_sources[states..].fill(0);
+        self.state_leaves[states..].fill(0);
+        self.row_targets[rows..].fill(0);
+        self.row_priorities[rows..].fill(0);
+    }
+}
+
 /// Why a translation was refused: document 01's number.
 pub type Refusal = u8;

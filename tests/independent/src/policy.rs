@@ -17,6 +17,22 @@ impl Policy {
         e / self.letters
     }
 
+    /// Question 7.
+    pub fn is_legal(&self) -> bool {
+        (1..=16).contains(&self.states)
+            && (1..=8).contains(&self.letters)
+            && (1..=8).contains(&self.colours)
+            && self.initial < self.states
+            && self.edges.len() == self.states * self.letters
+            && self.edges.len() <= 64
+            && self.family.len() == 1 << self.colours
+            && !self.family[0]
+            && self
+                .edges
+                .iter()
+                .all(|&(target, colour)| target < self.states && colour < self.colours)
+    }
+
     pub fn colours_of(&self, mask: u64) -> usize {
         let mut set = 0;
         for (e, edge) in self.edges.iter().enumerate() {

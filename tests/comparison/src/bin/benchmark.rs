@@ -35,12 +35,12 @@ fn time(ns: f64) -> String {
     }
 }
 
-/// Reading the command bytes and translating, for a list of policies: from bytes to tables on both sides.
+/// From command bytes to the seven tables, for a list of policies, with the same questions on both sides.
 fn translating(name: &str, policies: &[Policy]) {
     let mut translator = fast::Translator::default();
     let bytes: Vec<Vec<u8>> = policies.iter().map(Policy::bytes).collect();
     let (mut nodes, mut rows) = (0, 0);
-    let mut tables: Vec<Lent> = Vec::new();
+    let mut ours: Vec<Lent> = Vec::new();
     for p in policies {
         let room = match translator.translate(p, 65_535, 65_535) {
             Ok(a) => (a.nodes.len(), a.states.len()),
@@ -48,23 +48,23 @@ fn translating(name: &str, policies: &[Policy]) {
         };
         nodes += room.0;
         rows += room.1 * p.letters;
-        tables.push(Lent::new(room.0, room.1, room.1 * p.letters, 0));
+        ours.push(Lent::new(room.0, room.1, room.1 * p.letters, 0));
     }
+    let mut theirs = ours.clone();
     let rounds = (20_000 / (nodes + rows)).max(1);
     let (ours, theirs) = best(
         || {
             for _ in 0..rounds {
-                for (b, t) in bytes.iter().zip(&mut tables) {
-                    let (p, _) = wulfrenda::Policy::read(black_box(b)).unwrap();
-                    black_box(t.translate(&p)).ok();
+                for (b, t) in bytes.iter().zip(&mut ours) {
+                    black_box(t.translate_bytes(black_box(b))).ok();
                 }
             }
         },
         || {
             for _ in 0..rounds {
-                for b in &bytes {
+                for (b, t) in bytes.iter().zip(&mut theirs) {
                     let (p, _) = policy::read(black_box(b)).unwrap();
-                    black_box(translator.translate(&p, 65_535, 65_535)).ok();
+                    black_box(t.fill(&mut translator, &p)).ok();
                 }
             }
         },
@@ -203,7 +203,8 @@ fn main() {
     let p = &alternating[0];
     let ours = wulfrenda::Policy::from_record(p.record());
     let a = fast::translate(p, 65_535, 65_535).unwrap();
-    let t = Lent::holding(&a, a.nodes.len(), a.states.len(), a.rows.len());
+    let mut t = Lent::new(a.nodes.len(), a.states.len(), a.rows.len(), 0);
+    t.fill(&mut fast::Translator::default(), p).unwrap();
     let rows = t.rows(p.letters as u8);
     for length in [10, 1_000] {
         let cycle: Vec<u8> = (0..length).map(|_| random.below(p.letters) as u8).collect();
