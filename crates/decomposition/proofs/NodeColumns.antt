@@ -25,7 +25,7 @@ use Rattle.decomposition.specs.declared.nodes.Filled.the-variants.{Nodes
 use Rattle.decomposition.specs.Forest.{Node, differs, full, forest, node, priority}
 use Rattle.decomposition.specs.Laws.{ForestLaws, maskAt, parentAt, rootAt}
 use Rattle.decomposition.specs.Candidates.{lowestIs, candidateAt, candidatesOf, coloursAt, candidates, judged}
-use Rattle.decomposition.specs.NodeTables.{nodeMasks, nodeParents, nodeRanks, Sought, Cleared, Written, Lent, Spare, nodeTables, nodesFit, fillingOf, filledOf}
+use Rattle.decomposition.specs.NodeTables.{nodeMasks, nodeParents, nodeRanks, Sought, Cleared, Written, Lent, Spare, Space, nodeTables, nodesFit, fillingOf, filledOf}
 use Rattle.decomposition.specs.Growing.{Ground, Room, AllGrown}
 use Rattle.decomposition.proofs.Distinct.{length-below, flat-few}
 use Rattle.decomposition.proofs.CandidateLaws.{room-few}
@@ -293,12 +293,23 @@ none-seen zero i = refl
 none-seen (suc n) zero = refl
 none-seen (suc n) (suc i) = none-seen n i
 
--- space for so many candidates
-pub spare-of : (p : Policy) → legal p ≡ true → (k : ℕ) {a r seen kids : List ℕ} → p .states * 2 ^ p .colours ≤ k → length a ≡ k → length r ≡ k → seen ≡ replicate k 0 → length kids ≡ 8 * k → Spare p a r seen kids
-spare-of p lawful k {a} {r} {seen} {kids} h ea er es ek = record {
-  accepting-long = omega arith;
-  rejecting-long = omega arith;
-  seen-long = omega (arith, ap length es, length-replicate {A = ℕ} k 0);
-  seen-none = λ i. ap (λ (t : List ℕ). getD t i 0) es ∙ none-seen k i;
-  kids-long = omega (arith, mul-le-mul-left (p .colours) h, mul-le-mul-right k (legal-counts p lawful .colours-few));
+-- space for k candidates
+pub space-of : (k : ℕ) {a r seen kids : List ℕ} → length a ≡ k → length r ≡ k → seen ≡ replicate k 0 → length kids ≡ 8 * k → Space a r seen kids
+space-of k {a} {r} {seen} {kids} ea er es ek =
+    let long : length seen ≡ k = ap length es ∙ length-replicate {A = ℕ} k 0 in
+    record {
+      accepting-long = omega (arith, long);
+      rejecting-long = omega (arith, long);
+      seen-none = λ i. ap (λ (t : List ℕ). getD t i 0) es ∙ none-seen k i;
+      kids-long = omega (arith, long);
+    }
+
+-- it is enough where `seen` has a place for each candidate
+pub space-enough : (p : Policy) → legal p ≡ true → {a r seen kids : List ℕ} → Space a r seen kids → p .states * 2 ^ p .colours ≤ length seen → Spare p a r seen kids
+space-enough p lawful {a} {r} {seen} {kids} s h = record {
+  accepting-long = omega (arith, s .accepting-long);
+  rejecting-long = omega (arith, s .rejecting-long);
+  seen-long = h;
+  seen-none = s .seen-none;
+  kids-long = omega (arith, s .kids-long, mul-le-mul-left (p .colours) h, mul-le-mul-right (length seen) (legal-counts p lawful .colours-few));
 }

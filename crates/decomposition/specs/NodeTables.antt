@@ -62,6 +62,13 @@ pub record Spare (p : Policy) (accepting rejecting seen kids : List ℕ) : Type 
   pub seen-none : (i : ℕ) → getD seen i 0 ≡ 0
   pub kids-long : p .colours * (p .states * 2 ^ p .colours) ≤ length kids
 
+-- for as many candidates as `seen` has places
+pub record Space (accepting rejecting seen kids : List ℕ) : Type 0 where
+  pub accepting-long : length seen ≤ length accepting
+  pub rejecting-long : length seen ≤ length rejecting
+  pub seen-none : (i : ℕ) → getD seen i 0 ≡ 0
+  pub kids-long : 8 * length seen ≤ length kids
+
 -- ---- what filling the tables gives
 pub record NodeTables : Type 0 where
   pub masks : List ℕ

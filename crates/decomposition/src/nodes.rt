@@ -5,7 +5,7 @@ ghost use Prim.Native.Nat.{_+_, _*_, _^_, _<_, _≤_, min};
 ghost use lib.ListN.{length};
 ghost use Rattle.policy.specs.Policies.{accepting, legal};
 ghost use Rattle.tables.specs.Tables.{zeros, padded};
-ghost use Rattle.decomposition.specs.NodeTables.{nodeRanks, Sought, Cleared, Lent, Spare, Written, nodeTables, fillingOf, filledOf};
+ghost use Rattle.decomposition.specs.NodeTables.{nodeRanks, Sought, Cleared, Lent, Spare, Space, Written, nodeTables, fillingOf, filledOf};
 use policy::Policy;
 
 // What filling the node tables answers: how many nodes there are, or that they do not fit.
@@ -98,6 +98,9 @@ fn write_nodes(
 // The candidates are listed, and the nodes written, with space that is lent.
 fn list_and_write(
     p: Policy,
+    heads: &[u8; 64],
+    hues: &[u8; 64],
+    family: &[bool; 256],
     accepting: &mut [u64],
     rejecting: &mut [u64],
     seen: &mut [u32],
@@ -106,7 +109,8 @@ fn list_and_write(
     parents: &mut [u16],
     ranks: &mut [u8],
 ) -> Filled
-    requires { ⌜ (legal p ≡ true) × Cleared (now masks) (now parents) (now ranks) × Spare p (now accepting) (now rejecting) (now seen) (now kids) ⌝ }
+    requires lent { ⌜ (now heads ≡ p .target) × (now hues ≡ p .colour) × (now family ≡ p .family) ⌝ }
+    requires space { ⌜ (legal p ≡ true) × Cleared (now masks) (now parents) (now ranks) × Spare p (now accepting) (now rejecting) (now seen) (now kids) ⌝ }
     ensures answer { λ r. ⌜ r ≡ fillingOf p (nodeTables (now (masks .entry)) (now (parents .entry)) (now (ranks .entry))) ⌝ }
     ensures written { λ _. ⌜ nodeTables (now (masks .exit)) (now (parents .exit)) (now (ranks .exit)) ≡ filledOf p (nodeTables (now (masks .entry)) (now (parents .entry)) (now (ranks .entry))) ⌝ }
 {
@@ -136,51 +140,83 @@ fn most_candidates(p: Policy) -> usize
     p.states as usize * (1 << p.colours)
 }
 
-// Space of three sizes, so that a small policy clears little.
-fn fill_small(p: Policy, masks: &mut [u64], parents: &mut [u16], ranks: &mut [u8]) -> Filled
-    requires { ⌜ (legal p ≡ true) × Cleared (now masks) (now parents) (now ranks) × (p .states * 2 ^ p .colours ≤ 64) ⌝ }
+// With the space that is lent where it is enough, and otherwise with more. Space is had by a call, and only by a policy that needs it: a call with much space is slow to begin.
+fn fill_within(
+    p: Policy,
+    heads: &[u8; 64],
+    hues: &[u8; 64],
+    family: &[bool; 256],
+    accepting: &mut [u64],
+    rejecting: &mut [u64],
+    seen: &mut [u32],
+    kids: &mut [u16],
+    masks: &mut [u64],
+    parents: &mut [u16],
+    ranks: &mut [u8],
+) -> Filled
+    requires lent { ⌜ (now heads ≡ p .target) × (now hues ≡ p .colour) × (now family ≡ p .family) ⌝ }
+    requires space { ⌜ (legal p ≡ true) × Cleared (now masks) (now parents) (now ranks) × Space (now accepting) (now rejecting) (now seen) (now kids) ⌝ }
     ensures answer { λ r. ⌜ r ≡ fillingOf p (nodeTables (now (masks .entry)) (now (parents .entry)) (now (ranks .entry))) ⌝ }
     ensures written { λ _. ⌜ nodeTables (now (masks .exit)) (now (parents .exit)) (now (ranks .exit)) ≡ filledOf p (nodeTables (now (masks .entry)) (now (parents .entry)) (now (ranks .entry))) ⌝ }
 {
-    let mut accepting = [0u64; 64];
-    let mut rejecting = [0u64; 64];
-    let mut seen = [0u32; 64];
-    let mut kids = [0u16; 512];
-    list_and_write(
+    let most = most_candidates(p);
+    if most <= seen.len() {
+        return list_and_write(
+            p,
+            heads,
+            hues,
+            family,
+            accepting,
+            rejecting,
+            seen,
+            kids,
+            masks,
+            parents,
+            ranks,
+        );
+    }
+    if most <= 256 {
+        let mut more_accepting = [0u64; 256];
+        let mut more_rejecting = [0u64; 256];
+        let mut more_seen = [0u32; 256];
+        let mut more_kids = [0u16; 2048];
+        return fill_within(
+            p,
+            heads,
+            hues,
+            family,
+            &mut more_accepting,
+            &mut more_rejecting,
+            &mut more_seen,
+            &mut more_kids,
+            masks,
+            parents,
+            ranks,
+        );
+    }
+    fill_large(
         p,
-        &mut accepting,
-        &mut rejecting,
-        &mut seen,
-        &mut kids,
+        heads,
+        hues,
+        family,
         masks,
         parents,
         ranks,
     )
 }
 
-fn fill_middle(p: Policy, masks: &mut [u64], parents: &mut [u16], ranks: &mut [u8]) -> Filled
-    requires { ⌜ (legal p ≡ true) × Cleared (now masks) (now parents) (now ranks) × (p .states * 2 ^ p .colours ≤ 256) ⌝ }
-    ensures answer { λ r. ⌜ r ≡ fillingOf p (nodeTables (now (masks .entry)) (now (parents .entry)) (now (ranks .entry))) ⌝ }
-    ensures written { λ _. ⌜ nodeTables (now (masks .exit)) (now (parents .exit)) (now (ranks .exit)) ≡ filledOf p (nodeTables (now (masks .entry)) (now (parents .entry)) (now (ranks .entry))) ⌝ }
-{
-    let mut accepting = [0u64; 256];
-    let mut rejecting = [0u64; 256];
-    let mut seen = [0u32; 256];
-    let mut kids = [0u16; 2048];
-    list_and_write(
-        p,
-        &mut accepting,
-        &mut rejecting,
-        &mut seen,
-        &mut kids,
-        masks,
-        parents,
-        ranks,
-    )
-}
-
-fn fill_large(p: Policy, masks: &mut [u64], parents: &mut [u16], ranks: &mut [u8]) -> Filled
-    requires { ⌜ (legal p ≡ true) × Cleared (now masks) (now parents) (now ranks) ⌝ }
+// With space for any policy.
+fn fill_large(
+    p: Policy,
+    heads: &[u8; 64],
+    hues: &[u8; 64],
+    family: &[bool; 256],
+    masks: &mut [u64],
+    parents: &mut [u16],
+    ranks: &mut [u8],
+) -> Filled
+    requires lent { ⌜ (now heads ≡ p .target) × (now hues ≡ p .colour) × (now family ≡ p .family) ⌝ }
+    requires cleared { ⌜ (legal p ≡ true) × Cleared (now masks) (now parents) (now ranks) ⌝ }
     ensures answer { λ r. ⌜ r ≡ fillingOf p (nodeTables (now (masks .entry)) (now (parents .entry)) (now (ranks .entry))) ⌝ }
     ensures written { λ _. ⌜ nodeTables (now (masks .exit)) (now (parents .exit)) (now (ranks .exit)) ≡ filledOf p (nodeTables (now (masks .entry)) (now (parents .entry)) (now (ranks .entry))) ⌝ }
 {
@@ -188,8 +224,11 @@ fn fill_large(p: Policy, masks: &mut [u64], parents: &mut [u16], ranks: &mut [u8
     let mut rejecting = [0u64; 4096];
     let mut seen = [0u32; 4096];
     let mut kids = [0u16; 32768];
-    list_and_write(
+    fill_within(
         p,
+        heads,
+        hues,
+        family,
         &mut accepting,
         &mut rejecting,
         &mut seen,
@@ -201,18 +240,51 @@ fn fill_large(p: Policy, masks: &mut [u64], parents: &mut [u16], ranks: &mut [u8
 }
 
 // The nodes of the forest, in tables of one length. Where they do not fit, every place is 0.
-pub fn fill_nodes(p: Policy, masks: &mut [u64], parents: &mut [u16], ranks: &mut [u8]) -> Filled
-    requires { ⌜ (legal p ≡ true) × (length (now parents) ≡ length (now masks)) × (length (now ranks) ≡ length (now masks)) ⌝ }
+pub fn fill_nodes(
+    p: Policy,
+    heads: &[u8; 64],
+    hues: &[u8; 64],
+    family: &[bool; 256],
+    masks: &mut [u64],
+    parents: &mut [u16],
+    ranks: &mut [u8],
+) -> Filled
+    requires lent { ⌜ (now heads ≡ p .target) × (now hues ≡ p .colour) × (now family ≡ p .family) ⌝ }
+    requires tables { ⌜ (legal p ≡ true) × (length (now parents) ≡ length (now masks)) × (length (now ranks) ≡ length (now masks)) ⌝ }
     ensures answer { λ r. ⌜ r ≡ fillingOf p (nodeTables (now (masks .entry)) (now (parents .entry)) (now (ranks .entry))) ⌝ }
     ensures filled { λ _. ⌜ nodeTables (now (masks .exit)) (now (parents .exit)) (now (ranks .exit)) ≡ filledOf p (nodeTables (now (masks .entry)) (now (parents .entry)) (now (ranks .entry))) ⌝ }
 {
     clear_nodes(masks, parents, ranks);
-    let most = most_candidates(p);
-    if most <= 64 {
-        return fill_small(p, masks, parents, ranks);
+    let mut accepting = [0u64; 32];
+    let mut rejecting = [0u64; 32];
+    let mut seen = [0u32; 32];
+    let mut kids = [0u16; 256];
+    if most_candidates(p) <= 32 {
+        return list_and_write(
+            p,
+            heads,
+            hues,
+            family,
+            &mut accepting,
+            &mut rejecting,
+            &mut seen,
+            &mut kids,
+            masks,
+            parents,
+            ranks,
+        );
     }
-    if most <= 256 {
-        return fill_middle(p, masks, parents, ranks);
-    }
-    fill_large(p, masks, parents, ranks)
+    fill_within(
+        p,
+        heads,
+        hues,
+        family,
+        &mut accepting,
+        &mut rejecting,
+        &mut seen,
+        &mut kids,
+        masks,
+        parents,
+        ranks,
+    )
 }

@@ -19,13 +19,13 @@ slice-reshare-prefix-write-nodes : tie.Need-slice-reshare-prefix-write-nodes
 slice-reshare-prefix-write-nodes c = search needs
 
 slice-aggregate-write-nodes : tie.Need-slice-aggregate-write-nodes
-slice-aggregate-write-nodes c = simp length-take (omega (arith, c .before .before .before .before .before .before .before .before .fill-candidates .ensures .accepting-few, c .before .before .before .before .before .before .before .before .before .before .before .before .before .before .before .before .before .before .pre .2 .accepting-long, c .before .before .before .before .before .before .before .before .fill-candidates .ensures .accepting-long))
+slice-aggregate-write-nodes c = simp length-take (omega (arith, c .before .before .before .before .before .before .before .before .fill-candidates .ensures .accepting-few, c .before .before .before .before .before .before .before .before .before .before .before .before .before .before .before .before .before .before .pre .1 .2 .accepting-long, c .before .before .before .before .before .before .before .before .fill-candidates .ensures .accepting-long))
 
 slice-reshare-prefix-write-nodes-2 : tie.Need-slice-reshare-prefix-write-nodes-2
 slice-reshare-prefix-write-nodes-2 c = search needs
 
 slice-aggregate-write-nodes-2 : tie.Need-slice-aggregate-write-nodes-2
-slice-aggregate-write-nodes-2 c = simp length-take (omega (arith, c .before .before .before .before .before .before .before .before .before .fill-candidates .ensures .rejecting-few, c .before .before .before .before .before .before .before .before .before .before .before .before .before .before .before .before .before .before .before .pre .2 .rejecting-long, c .before .before .before .before .before .before .before .before .before .fill-candidates .ensures .rejecting-long))
+slice-aggregate-write-nodes-2 c = simp length-take (omega (arith, c .before .before .before .before .before .before .before .before .before .fill-candidates .ensures .rejecting-few, c .before .before .before .before .before .before .before .before .before .before .before .before .before .before .before .before .before .before .before .pre .1 .2 .rejecting-long, c .before .before .before .before .before .before .before .before .before .fill-candidates .ensures .rejecting-long))
 
 array-share-prefix-roots : tie.Need-array-share-prefix-roots
 array-share-prefix-roots c = search needs
@@ -37,7 +37,7 @@ write-nodes-requires : tie.Need-write-nodes-requires
 write-nodes-requires c κs =
     let s = c .before .before .before .before .before .before .before .before .before .before .before .before .before .before .before .before .before .before .before .before .before .before .before .before .before in
     let e = c .before .before .before .before .before .before .before .before .before .before .before .before .before .before .before .fill-candidates .ensures in
-    (s .pre .0, record { accepting-are = e .accepting-are; rejecting-are = e .rejecting-are; roots-are = c .before .before .before .before .before .before .before .before .before .fill-roots .ensures .roots-are }, s .pre .1, lent-lists (s .args .p) (s .pre .0) (s .pre .2) (e .accepting-are) (e .rejecting-are))
+    (s .pre .1 .0, record { accepting-are = e .accepting-are; rejecting-are = e .rejecting-are; roots-are = c .before .before .before .before .before .before .before .before .before .fill-roots .ensures .roots-are }, s .pre .1 .1, lent-lists (s .args .p) (s .pre .1 .0) (s .pre .1 .2) (e .accepting-are) (e .rejecting-are))
 
 same-length : tie.Need-same-length
 same-length c = search needs
