@@ -23,8 +23,8 @@ use Rattle.decomposition.specs.Siblings.{childrenIn, LargerFirst}
 use Rattle.decomposition.specs.Search.{masksAt, ChildrenFound}
 use Rattle.decomposition.specs.Subtrees.{treeMasks, treeParents, treeSize, rowMasks, rowParents}
 use Rattle.decomposition.specs.Stores.{part, moved}
-use Rattle.decomposition.specs.Growing.{Ground, Stands, Seen, Room, Seed, Grown}
-use Rattle.decomposition.proofs.Children.{child, child-colours}
+use Rattle.decomposition.specs.Growing.{Ground, Stands, Seen, Room, Seed, Growable, Grown}
+use Rattle.decomposition.proofs.Children.{child, child-fewer, child-colours}
 use Rattle.decomposition.proofs.Candidates.{candidate-cycle, judged-distinct, children-are, child-candidate}
 use Rattle.decomposition.proofs.LargerFirst.{larger-first}
 use Rattle.decomposition.proofs.Forest.{cycle-coloured}
@@ -118,10 +118,10 @@ module _ {p : Policy} {a r : List ℕ} (g : Ground p a r) where
         pub found-at : (first : ℕ) → first ≡ cond v (length a) 0 → (first + getD kids j 0 < length (a ++ r)) × (getD (a ++ r) (first + getD kids j 0) 0 ≡ getD (children p m) j 0)
         found-at first e = let o = other-at v (getD kids j 0) (f .each j h) in rw e (o .0, o .1 ∙ child-place)
 
-        pub found-fewer : (i : ℕ) → getD (a ++ r) i 0 ≡ getD (children p m) j 0 → ones (coloursOf p (getD (a ++ r) i 0)) < ones (coloursOf p m)
-        found-fewer i e = subst (λ (x : ℕ). ones (coloursOf p x) < ones (coloursOf p m)) (sym e) (child-colours p m (getD (children p m) j 0) child-mem)
+        pub found-fewer : (i : ℕ) → getD (a ++ r) i 0 ≡ getD (children p m) j 0 → ones (getD (a ++ r) i 0) < ones m
+        found-fewer i e = subst (λ (x : ℕ). ones x < ones m) (sym e) (child-fewer p m (getD (children p m) j 0) child-mem)
 
-        pub found-seed : (i : ℕ) (rest : List ℕ) → getD (a ++ r) i 0 ≡ getD (children p m) j 0 → length kids₀ ≤ length rest + count → Seed p a r (getD (a ++ r) i 0) (not v) rest
+        found-seed : (i : ℕ) (rest : List ℕ) → getD (a ++ r) i 0 ≡ getD (children p m) j 0 → length kids₀ ≤ length rest + count → Seed p a r (getD (a ++ r) i 0) (not v) rest
         found-seed i rest e l = record {
           candidate = subst (λ (x : ℕ). List·Memᴰ x (candidates p)) (sym e) (child-candidate p (g .lawful) m (getD (children p m) j 0) (s .candidate) child-mem);
           verdict-is = ap not (s .verdict-is) ∙ sym (child p m (getD (children p m) j 0) child-mem .turned) ∙ ap (accepting p) (sym e);
@@ -299,19 +299,38 @@ module _ {p : Policy} {list : List ℕ} {places q n : ℕ} {cs masks₀ parents�
     pub row-over : places < next′ → (next′ ≡ places + 1) × (places < n + length (rowMasks p cs))
     row-over l = (omega (arith, w .next-is), omega (arith, w .next-is, v .next-is, more-size, row-part p (j + 1) cs))
 
--- ---- a root and the trees of its children
-module _ {p : Policy} {a r : List ℕ} {m : ℕ} {verdict : Bool} {kids₀ : List ℕ} (g : Ground p a r) (s : Seed p a r m verdict kids₀) where
-  -- the root is written
-  pub room-root : {list masks parents seen : List ℕ} {places n : ℕ} (q : ℕ) → Room p list masks parents seen places n → n < places → Room p list (set masks n m) (set parents n q) seen places (n + 1)
-  room-root {list} {masks} {parents} {seen} {places} {n} q room h = record {
-    few = room .few;
-    at-most = omega arith;
-    masks-long = omega (arith, room .masks-long, length-set masks n m);
-    parents-long = omega (arith, room .parents-long, length-set parents n q);
-    seen-long = room .seen-long;
-    seen-are = seen-still (room .seen-are) n (n + 1) (m ∷ []) (q ∷ []) refl refl (omega arith) (omega arith);
+-- ---- a tree that can be grown
+module _ {p : Policy} {a r : List ℕ} {m : ℕ} {verdict : Bool} {places n : ℕ} {masks₀ parents₀ seen₀ kids₀ : List ℕ} (w : Growable p a r m verdict places n masks₀ parents₀ seen₀ kids₀) where
+  pub growable-is : {m′ : ℕ} → m′ ≡ m → Growable p a r m′ verdict places n masks₀ parents₀ seen₀ kids₀
+  growable-is {m′} e = subst (λ (x : ℕ). Growable p a r x verdict places n masks₀ parents₀ seen₀ kids₀) (sym e) w
+
+  -- its root is written, and the positions of the children are found
+  pub growable-root : {kids : List ℕ} (q : ℕ) → n < places → length kids ≡ length kids₀ → Growable p a r m verdict places (n + 1) (set masks₀ n m) (set parents₀ n q) seen₀ kids
+  growable-root q h l = record {
+    ground = w .ground;
+    room = record {
+      few = w .room .few;
+      at-most = omega arith;
+      masks-long = omega (arith, w .room .masks-long, length-set masks₀ n m);
+      parents-long = omega (arith, w .room .parents-long, length-set parents₀ n q);
+      seen-long = w .room .seen-long;
+      seen-are = seen-still (w .room .seen-are) n (n + 1) (m ∷ []) (q ∷ []) refl refl (omega arith) (omega arith);
+    };
+    seed = record { candidate = w .seed .candidate; verdict-is = w .seed .verdict-is; kids-long = omega (arith, w .seed .kids-long) };
   }
 
+  -- the trees of the first j children are written: the next one
+  pub growable-child : {q n₁ next j count first : ℕ} {masks parents seen kids rest : List ℕ} → Row p (a ++ r) places q n₁ (children p m) masks₀ parents₀ masks parents seen next j
+      → ChildrenFound (cond verdict r a) m kids count → j < count → count ≤ length kids → first ≡ cond verdict (length a) 0 → length kids₀ ≤ length rest + count
+      → Growable p a r (getD (a ++ r) (first + getD kids j 0) 0) (not verdict) places next masks parents seen rest
+  growable-child {j = j} {first = first} {kids = kids} {rest = rest} v f h long e l = record {
+    ground = w .ground;
+    room = v .room;
+    seed = found-seed (w .ground) (w .seed) f h long (first + getD kids j 0) rest (found-at (w .ground) (w .seed) f h long first e .1) l;
+  }
+
+-- ---- a root and the trees of its children
+module _ {p : Policy} {a r : List ℕ} {m : ℕ} {verdict : Bool} {kids₀ : List ℕ} (g : Ground p a r) (s : Seed p a r m verdict kids₀) where
   module _ {list masks₀ parents₀ : List ℕ} {places n next j : ℕ} (q : ℕ) {masks parents seen : List ℕ} (v : Row p list places n (n + 1) (children p m) (set masks₀ n m) (set parents₀ n q) masks parents seen next j) where
     -- and all of them
     pub grown-whole : length (children p m) ≤ j → Grown p list places m q n next masks₀ parents₀ masks parents seen
@@ -339,9 +358,6 @@ module _ {p : Policy} {a r : List ℕ} {m : ℕ} {verdict : Bool} {kids₀ : Lis
 pub grown-is : {p : Policy} {list : List ℕ} {places m m′ q n next : ℕ} {masks₀ parents₀ masks parents seen : List ℕ} → m ≡ m′
     → Grown p list places m q n next masks₀ parents₀ masks parents seen → Grown p list places m′ q n next masks₀ parents₀ masks parents seen
 grown-is {p} {list} {places} {m} {m′} {q} {n} {next} {masks₀} {parents₀} {masks} {parents} {seen} e w = subst (λ (x : ℕ). Grown p list places x q n next masks₀ parents₀ masks parents seen) e w
-
-pub seed-is : {p : Policy} {a r : List ℕ} {m m′ : ℕ} {v : Bool} {kids : List ℕ} → m′ ≡ m → Seed p a r m v kids → Seed p a r m′ v kids
-seed-is {p} {a} {r} {m} {m′} {v} {kids} e s = subst (λ (x : ℕ). Seed p a r x v kids) (sym e) s
 
 -- grown for the first time, and kept in mind
 pub grown-seen : {p : Policy} {list : List ℕ} (i : ℕ) {places q n next : ℕ} {masks₀ parents₀ masks parents seen seen₀ seen′ : List ℕ} → Room p list masks₀ parents₀ seen₀ places n → q < n → i < length seen

@@ -24,7 +24,7 @@ use Rattle.decomposition.specs.Candidates.{rootCandidates}
 use Rattle.decomposition.specs.Siblings.{nextIn}
 use Rattle.decomposition.specs.NodeTables.{nodeMasks}
 use Rattle.decomposition.specs.Subtrees.{treeSize, rowMasks, rowParents}
-use Rattle.decomposition.specs.Growing.{Ground, Room, Seed, Grown, AllGrown}
+use Rattle.decomposition.specs.Growing.{Ground, Room, Growable, Grown, AllGrown}
 use Rattle.decomposition.proofs.Order.{before-irreflexive, before-transitive}
 use Rattle.decomposition.proofs.Children.{root-cycle, root-few, ordered-roots}
 use Rattle.decomposition.proofs.Candidates.{root-candidate, roots-are, root-candidates-cycle, root-candidates-distinct}
@@ -89,11 +89,15 @@ module _ {p : Policy} {a r : List ℕ} (g : Ground p a r) {rs : List ℕ} (er : 
     root-mem z = subst (λ (x : ℕ). List·Memᴰ x (roots p)) (sym root-is) (getD-mem (roots p) (v .count) 0 (root-below z))
 
     -- the next root
-    pub root-seed : {verdict : Bool} {kids : List ℕ} → m ≢ 0 → verdict ≡ accepting p m → p .colours * max (length a) (length r) ≤ length kids → Seed p a r m verdict kids
-    root-seed {verdict} {kids} z e h = record {
-      candidate = root-candidate p (g .lawful) m (root-mem z);
-      verdict-is = e;
-      kids-long = omega (arith, mul-le-mul-right (max (length a) (length r)) (ones-le (p .colours) (coloursOf p m) (colours-lt p (g .lawful) m)));
+    pub root-growable : {verdict : Bool} {kids : List ℕ} → m ≢ 0 → verdict ≡ accepting p m → p .colours * max (length a) (length r) ≤ length kids → Growable p a r m verdict places next masks parents seen kids
+    root-growable z e h = record {
+      ground = g;
+      room = v .row .room;
+      seed = record {
+        candidate = root-candidate p (g .lawful) m (root-mem z);
+        verdict-is = e;
+        kids-long = omega (arith, mul-le-mul-right (max (length a) (length r)) (ones-le (p .colours) (coloursOf p m) (colours-lt p (g .lawful) m)));
+      };
     }
 
     module _ {next′ : ℕ} {masks′ parents′ seen′ : List ℕ} (z : m ≢ 0) (w : Grown p (a ++ r) places m 65535 next next′ masks parents masks′ parents′ seen′) where

@@ -51,6 +51,12 @@ pub record Seed (p : Policy) (accepting′ rejecting′ : List ℕ) (m : ℕ) (v
   pub verdict-is : verdict ≡ accepting p m
   pub kids-long : ones (coloursOf p m) * max (length accepting′) (length rejecting′) ≤ length kids
 
+-- what the growing of the tree of m asks of a policy
+pub record Growable (p : Policy) (accepting rejecting : List ℕ) (m : ℕ) (verdict : Bool) (places n : ℕ) (masks parents seen kids : List ℕ) : Type 0 where
+  pub ground : Ground p accepting rejecting
+  pub room : Room p (accepting ++ rejecting) masks parents seen places n
+  pub seed : Seed p accepting rejecting m verdict kids
+
 -- from masks₀ and parents₀: the tree of m, whose root has the parent q, is written from number n on, and `next` comes after it; or `next` is past the places, if it does not fit
 pub record Grown (p : Policy) (list : List ℕ) (places m q n next : ℕ) (masks₀ parents₀ masks parents seen : List ℕ) : Type 0 where
   pub next-is : next ≡ min (n + treeSize p m) (places + 1)

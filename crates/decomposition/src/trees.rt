@@ -6,11 +6,12 @@ ghost use Prim.Native.Nat.{ℕ, _+_, _-_, _*_, _/_, _%_, _<_, _≤_, max};
 ghost use lib.ListN.{length, getD, set};
 ghost use lib.Seq.{sets};
 ghost use Rattle.lists.specs.Lists.{Distinct};
+ghost use Rattle.policy.specs.declared.Policy.{Policy};
 ghost use Rattle.decomposition.specs.Candidates.{rootCandidates};
 ghost use Rattle.decomposition.specs.Siblings.{LargerFirst};
 ghost use Rattle.decomposition.specs.Search.{ChildrenFound};
 ghost use Rattle.decomposition.specs.Stores.{part, moved};
-ghost use Rattle.decomposition.specs.Growing.{Ground, Room, Seed, Grown, AllGrown};
+ghost use Rattle.decomposition.specs.Growing.{Ground, Room, Growable, Grown, AllGrown};
 use policy::Policy;
 
 // The masks of a tree, copied from its place `from` to `at`.
@@ -110,9 +111,8 @@ fn remember(seen: &mut [u32], i: usize, at: usize, next: usize)
     seen[i] = (at * 65536 + (next - at)) as u32;
 }
 
-// The tree of the mask at position i: copied where it stands in the tables, and otherwise grown.
+// The tree of the mask at position i: copied where it stands in the tables, and otherwise grown. Whatever policy the lists are of, its tree is written.
 fn plant(
-    p: Policy,
     accepting: &[u64],
     rejecting: &[u64],
     i: usize,
@@ -125,14 +125,13 @@ fn plant(
     seen: &mut [u32],
     kids: &mut [u16],
 ) -> usize
-    requires { ⌜ Ground p (now accepting) (now rejecting) × Room p (now accepting ++ now rejecting) (now masks) (now parents) (now seen) places at × (i < length (now accepting ++ now rejecting)) × Seed p (now accepting) (now rejecting) (getD (now accepting ++ now rejecting) i 0) verdict (now kids) × (parent < at) ⌝ }
-    ensures { λ r. ⌜ Grown p (now (accepting .entry) ++ now (rejecting .entry)) places (getD (now (accepting .entry) ++ now (rejecting .entry)) i 0) parent at r (now (masks .entry)) (now (parents .entry)) (now (masks .exit)) (now (parents .exit)) (now (seen .exit)) ⌝ }
+    requires { ⌜ (i < length (now accepting ++ now rejecting)) × (parent < at) × ((p : Policy) × Growable p (now accepting) (now rejecting) (getD (now accepting ++ now rejecting) i 0) verdict places at (now masks) (now parents) (now seen) (now kids)) ⌝ }
+    ensures { λ r. ⌜ ((p : Policy) → Growable p (now (accepting .entry)) (now (rejecting .entry)) (getD (now (accepting .entry) ++ now (rejecting .entry)) i 0) verdict places at (now (masks .entry)) (now (parents .entry)) (now (seen .entry)) (now (kids .entry)) → Grown p (now (accepting .entry) ++ now (rejecting .entry)) places (getD (now (accepting .entry) ++ now (rejecting .entry)) i 0) parent at r (now (masks .entry)) (now (parents .entry)) (now (masks .exit)) (now (parents .exit)) (now (seen .exit))) ⌝ }
 {
     let e = seen[i];
     if e == 0 {
         let m = mask_at(accepting, rejecting, i);
         let next = grow(
-            p,
             accepting,
             rejecting,
             m,
@@ -160,9 +159,8 @@ fn plant(
     at + size
 }
 
-// The tree of m, whose root is numbered `at`: the number after it, or one past the places where it does not fit.
+// The tree of m, whose root is numbered `at`: the number after it, or one past the places where it does not fit. Here too, for whatever policy the lists are of.
 fn grow(
-    p: Policy,
     accepting: &[u64],
     rejecting: &[u64],
     m: u64,
@@ -175,8 +173,8 @@ fn grow(
     seen: &mut [u32],
     kids: &mut [u16],
 ) -> usize
-    requires { ⌜ Ground p (now accepting) (now rejecting) × Room p (now accepting ++ now rejecting) (now masks) (now parents) (now seen) places at × Seed p (now accepting) (now rejecting) m verdict (now kids) ⌝ }
-    ensures { λ r. ⌜ Grown p (now (accepting .entry) ++ now (rejecting .entry)) places m parent at r (now (masks .entry)) (now (parents .entry)) (now (masks .exit)) (now (parents .exit)) (now (seen .exit)) ⌝ }
+    requires { ⌜ ((p : Policy) × Growable p (now accepting) (now rejecting) m verdict places at (now masks) (now parents) (now seen) (now kids)) ⌝ }
+    ensures { λ r. ⌜ ((p : Policy) → Growable p (now (accepting .entry)) (now (rejecting .entry)) m verdict places at (now (masks .entry)) (now (parents .entry)) (now (seen .entry)) (now (kids .entry)) → Grown p (now (accepting .entry) ++ now (rejecting .entry)) places m parent at r (now (masks .entry)) (now (parents .entry)) (now (masks .exit)) (now (parents .exit)) (now (seen .exit))) ⌝ }
 {
     if places <= at {
         return places + 1;
@@ -189,7 +187,6 @@ fn grow(
     for j in 0..count {
         let i = first + kids[j] as usize;
         next = plant(
-            p,
             accepting,
             rejecting,
             i,
@@ -233,7 +230,6 @@ pub fn grow_roots(
         }
         let verdict = policy::is_accepting(p, m);
         next = grow(
-            p,
             accepting,
             rejecting,
             m,
