@@ -4,7 +4,7 @@ use Prim.Native.Nat.{ℕ, zero, suc, _+_, _-_, _*_, _≤_, _<_}
 use native.Mathlib.Omega.{arith}
 use native.Mathlib.Nat.{zero-add, add-zero}
 use native.Mathlib.Numerals.{add-one}
-use mathlib.Core.Path.{_≡_, refl, sym, ap, _∙_, subst}
+use mathlib.Core.Path.{_≡_, refl, sym, ap, ap₂, _∙_, subst}
 use mathlib.Core.Logic.{_⊎_, inl, inr, _↔_}
 use mathlib.Core.Bool.{true, false, cond}
 use mathlib.Core.List.{List, [], _∷_, _++_, append-nil, append-assoc, List·Memᴰ}
@@ -68,6 +68,21 @@ module _ {S B T M : Type 0} (step : S → ℕ → S) (meets : S → ℕ → List
               ∙ ap val (sym (rounds-snoc f out s i k)) ∙ ap (λ (j : ℕ). val (rounds f out s i j)) (sym (add-one k));
         }
 
+    -- what t holds, and a round more that was collected by itself
+    pub held-join : (join : M → M → M) → ((l r : List B) → join (val l) (val r) ≡ val (l ++ r))
+        → (t one t′ : T) (i k : ℕ) → Held t i k → Held one (i + k) 1 → run t′ ≡ run one → value t′ ≡ join (value t) (value one) → Held t′ i (k + 1)
+    unfolding rounds
+    held-join join joins t one t′ i k h g r e =
+        let f = after step meets loop in
+        let out = met step meets loop in
+        let j : i + k + 1 ≡ i + (k + 1) = omega arith in
+        record {
+          at = r ∙ g .at ∙ ap (λ (j : ℕ). iter f j s) j;
+          holds = e ∙ ap₂ join (h .holds) (g .holds) ∙ joins (rounds f out s i k) (rounds f out s (i + k) 1)
+              ∙ ap (λ (l : List B). val (rounds f out s i k ++ l)) (append-nil (out (iter f (i + k) s)))
+              ∙ ap val (sym (rounds-snoc f out s i k)) ∙ ap (λ (j : ℕ). val (rounds f out s i j)) (sym (add-one k));
+        }
+
     pub held-rounds : (t : T) (i j : ℕ) → Held t i j → (k : ℕ) → Held (iter (through next loop) k t) i (j + k)
     unfolding iter
     held-rounds t i j h zero = subst (Held t i) (sym (add-zero j)) h
@@ -94,14 +109,15 @@ module _ {S B T M : Type 0} (step : S → ℕ → S) (meets : S → ℕ → List
       seeking-at t w round h = h .held .at ∙ ap (λ (j : ℕ). iter (after step meets loop) j s) (sym (h .now))
 
       module _ (anew : T → T) (anew-run : (t : T) → run (anew t) ≡ run t) (anew-value : (t : T) → value (anew t) ≡ val []) where
-        pub seeking-next : (t : T) (w : Watch) (round : ℕ) → Seeking t w round → round < n → (t′ : T) → t′ ≡ through next loop t
+        -- a round by itself
+        pub seeking-one : (t : T) (w : Watch) (round : ℕ) → Seeking t w round → (one : T) → one ≡ through next loop (anew t) → Held one round 1
+        seeking-one t w round h one e = held-next (anew t) one round 0 (held-none (anew t) round (anew-run t ∙ seeking-at t w round h) (anew-value t)) e
+
+        pub seeking-next : (t : T) (w : Watch) (round : ℕ) (h : Seeking t w round) → round < n → (t′ : T) → Held t′ (h .from) (w .since + 1)
             → Seeking (cond (eqb (watchNext w (code (run t′)) .since) 0) (anew t′) t′) (watchNext w (code (run t′))) (round + 1)
         unfolding watchNext
-        seeking-next t w round h l t′ e = go (test (eqb (w .since + 1) (w .limit)))
+        seeking-next t w round h l t′ later = go (test (eqb (w .since + 1) (w .limit)))
           where
-            later : Held t′ (h .from) (w .since + 1)
-            later = held-next t t′ (h .from) (w .since) (h .held) e
-
             at-end : run t′ ≡ iter (after step meets loop) (round + 1) s
             at-end = later .at ∙ ap (λ (j : ℕ). iter (after step meets loop) j s) (omega (arith, h .now))
 
@@ -140,17 +156,23 @@ module _ {S B T M : Type 0} (step : S → ℕ → S) (meets : S → ℕ → List
             → iter (after step meets loop) i s ≡ iter (after step meets loop) (i + k) s
         back-at t i k e q = sym (decoded (iter (after step meets loop) i s)) ∙ ap decode (sym q) ∙ decoded (run t) ∙ e
 
-        -- back at the kept state: what is held is what recurs
-        pub seeking-found : (t : T) (w : Watch) (round : ℕ) → Seeking t w round → (t′ : T) → t′ ≡ through next loop t → code (run t′) ≡ w .kept
-            → value t′ ≡ val (rounds (after step meets loop) (met step meets loop) s n n)
-        seeking-found t w round h t′ e q =
+        -- back where the rounds that are held began: what is held is what recurs
+        held-recurs : (t : T) (i k : ℕ) → 0 < k → Held t i k → code (run t) ≡ code (iter (after step meets loop) i s)
+            → value t ≡ val (rounds (after step meets loop) (met step meets loop) s n n)
+        held-recurs t i k some h q =
             let f = after step meets loop in
             let out = met step meets loop in
-            let i = h .from in
-            let k = w .since + 1 in
-            let later = held-next t t′ i (w .since) (h .held) e in
-            later .holds
-            ∙ same (rounds f out s i k) (rounds f out s n n) (period-window f out s code decode decoded coded n keeps start i k (omega arith) (back-at t′ i k (later .at) (q ∙ h .kept)))
+            h .holds ∙ same (rounds f out s i k) (rounds f out s n n) (period-window f out s code decode decoded coded n keeps start i k some (back-at t i k (h .at) q))
+
+        -- back at the kept state
+        pub seeking-found : (t : T) (w : Watch) (round : ℕ) (h : Seeking t w round) → (t′ : T) → Held t′ (h .from) (w .since + 1) → code (run t′) ≡ w .kept
+            → value t′ ≡ val (rounds (after step meets loop) (met step meets loop) s n n)
+        seeking-found t w round h t′ later q = held-recurs t′ (h .from) (w .since + 1) (omega arith) later (q ∙ h .kept)
+
+        -- a round that ends where it began
+        pub seeking-alone : (t : T) (w : Watch) (round : ℕ) → Seeking t w round → (one : T) → Held one round 1 → code (run one) ≡ code (run t)
+            → value one ≡ val (rounds (after step meets loop) (met step meets loop) s n n)
+        seeking-alone t w round h one g q = held-recurs one round 1 (omega arith) g (q ∙ ap code (seeking-at t w round h))
 
         -- what is held from the first round on, once a state is back
         pub first-back : (t : T) (j : ℕ) → Held t 0 j → (i : ℕ) → i < j → code (run t) ≡ code (iter (after step meets loop) i s)

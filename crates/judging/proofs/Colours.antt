@@ -21,8 +21,8 @@ use Rattle.judging.specs.declared.PolicyVerdict.the-variants.{Judged, Re
 use Rattle.judging.specs.declared.Coloured.{Coloured}
 use Rattle.judging.specs.declared.Watch.{Watch}
 use Rattle.judging.specs.Judging.{inRange, setOf, recurringColours, policyVerdict}
-use Rattle.judging.specs.Rounds.{watchNext, colouredStep, colouredAfter, colouredAnew, colouredSince}
-use Rattle.judging.proofs.Collect.{through-run, Seeking, seeking-start, seeking-at, seeking-next, seeking-found, seeking-end}
+use Rattle.judging.specs.Rounds.{watchNext, colouredStep, colouredAfter, colouredAnew, colouredSince, colouredJoined}
+use Rattle.judging.proofs.Collect.{through-run, Held, held-join, Seeking, seeking-start, seeking-at, seeking-one, seeking-next, seeking-found, seeking-alone, seeking-end}
 use Rattle.judging.proofs.Laws.{set-append, set-same, none-of, some-of}
 
 abbrev coloured : ℕ → ℕ → Coloured
@@ -84,26 +84,48 @@ module _ (p : Policy) where
         seeking-start (policyStep p) (policyMeets p) (colouredStep p) (λ m. m .state) (λ m. m .colours) setOf moves adds loop v (λ v. v) (p .states) t
         (ap (λ (m : Coloured). m .state) e) (ap (λ (m : Coloured). m .colours) e)
 
+    abbrev ColouredHeld : Coloured → ℕ → ℕ → Type 0
+    ColouredHeld t i k = Held (policyStep p) (policyMeets p) (colouredStep p) (λ m. m .state) (λ m. m .colours) setOf moves adds loop v t i k
+
     module _ (t : Coloured) (w : Watch) (round : ℕ) (h : ColouredSeeking t w round) where
       pub coloured-within : legal p ≡ true → v < p .states → t .state < p .states
       coloured-within ok l =
           subst (λ (x : ℕ). x < p .states) (sym (seeking-at (policyStep p) (policyMeets p) (colouredStep p) (λ m. m .state) (λ m. m .colours) setOf moves adds loop v (λ v. v) (p .states) t w round h))
           (iter-keeps (after (policyStep p) (policyMeets p) loop) (λ x. x < p .states) (λ x l. after-keeps (policyStep p) (policyMeets p) (λ v. v < p .states) (policy-within p ok) loop x l) v l round)
 
-      pub coloured-next : round < p .states → (t′ : Coloured) → t′ ≡ colouredAfter p loop t → (w′ : Watch) → w′ ≡ watchNext w (t′ .state)
-          → (u : Coloured) → u ≡ colouredSince t′ (w′ .since) → ColouredSeeking u w′ (round + 1)
-      unfolding setOf colouredSince
-      coloured-next l t′ e w′ we u ue =
-          subst (λ (m : Coloured). ColouredSeeking m w′ (round + 1)) (sym ue)
-          (subst (λ (x : Watch). ColouredSeeking (colouredSince t′ (x .since)) x (round + 1)) (sym we)
-          (seeking-next (policyStep p) (policyMeets p) (colouredStep p) (λ m. m .state) (λ m. m .colours) setOf moves adds loop v (λ v. v) (p .states)
-          colouredAnew (λ m. refl) (λ m. refl) t w round h l t′ e))
+      -- a round by itself, and joined to what was met before it
+      module _ (one : Coloured) (e : one ≡ colouredAfter p loop (colouredAnew t)) where
+        one-held : ColouredHeld one round 1
+        unfolding setOf
+        one-held =
+            seeking-one (policyStep p) (policyMeets p) (colouredStep p) (λ m. m .state) (λ m. m .colours) setOf moves adds loop v (λ v. v) (p .states)
+            colouredAnew (λ m. refl) (λ m. refl) t w round h one e
 
-      pub coloured-found : legal p ≡ true → v < p .states → (t′ : Coloured) → t′ ≡ colouredAfter p loop t → t′ .state ≡ w .kept → t′ .colours ≡ recurringColours p v [] loop
-      unfolding recurringColours window after
-      coloured-found ok l t′ e q =
-          seeking-found (policyStep p) (policyMeets p) (colouredStep p) (λ m. m .state) (λ m. m .colours) setOf moves adds loop v (λ v. v) (p .states)
-          set-same (λ v. v) (λ v. refl) (λ v. refl) (policy-within p ok) l t w round h t′ e q
+        joined-held : (t′ : Coloured) → t′ ≡ colouredJoined t one → ColouredHeld t′ (h .from) (w .since + 1)
+        joined-held t′ q =
+            held-join (policyStep p) (policyMeets p) (colouredStep p) (λ m. m .state) (λ m. m .colours) setOf moves adds loop v
+            bitOr (λ l r. sym (set-append l r)) t one t′ (h .from) (w .since) (h .held) (subst (λ (j : ℕ). ColouredHeld one j 1) (h .now) one-held) (ap (λ (m : Coloured). m .state) q) (ap (λ (m : Coloured). m .colours) q)
+
+        pub coloured-alone : legal p ≡ true → v < p .states → one .state ≡ t .state → one .colours ≡ recurringColours p v [] loop
+        unfolding recurringColours window after
+        coloured-alone ok l q =
+            seeking-alone (policyStep p) (policyMeets p) (colouredStep p) (λ m. m .state) (λ m. m .colours) setOf moves adds loop v (λ v. v) (p .states)
+            set-same (λ v. v) (λ v. refl) (λ v. refl) (policy-within p ok) l t w round h one one-held q
+
+        module _ (t′ : Coloured) (te : t′ ≡ colouredJoined t one) where
+          pub coloured-found : legal p ≡ true → v < p .states → one .state ≡ w .kept → t′ .colours ≡ recurringColours p v [] loop
+          unfolding recurringColours window after
+          coloured-found ok l q =
+              seeking-found (policyStep p) (policyMeets p) (colouredStep p) (λ m. m .state) (λ m. m .colours) setOf moves adds loop v (λ v. v) (p .states)
+              set-same (λ v. v) (λ v. refl) (λ v. refl) (policy-within p ok) l t w round h t′ (joined-held t′ te) (ap (λ (m : Coloured). m .state) te ∙ q)
+
+          pub coloured-next : round < p .states → (w′ : Watch) → w′ ≡ watchNext w (one .state) → (u : Coloured) → u ≡ colouredSince t′ (w′ .since) → ColouredSeeking u w′ (round + 1)
+          unfolding setOf colouredSince
+          coloured-next l w′ we u ue =
+              subst (λ (m : Coloured). ColouredSeeking m w′ (round + 1)) (sym ue)
+              (subst (λ (x : Watch). ColouredSeeking (colouredSince t′ (x .since)) x (round + 1)) (sym (we ∙ ap (λ (m : Coloured). watchNext w (m .state)) (sym te)))
+              (seeking-next (policyStep p) (policyMeets p) (colouredStep p) (λ m. m .state) (λ m. m .colours) setOf moves adds loop v (λ v. v) (p .states)
+              colouredAnew (λ m. refl) (λ m. refl) t w round h l t′ (joined-held t′ te)))
 
       pub coloured-end : p .states ≤ round → (u : Coloured) → u ≡ iter (colouredAfter p loop) (p .states) (colouredAnew t) → u .colours ≡ recurringColours p v [] loop
       unfolding recurringColours window after setOf

@@ -41,6 +41,10 @@ pub least-with : (l : List ℕ) (k least : ℕ) → least ≡ leastOf l → cond
 unfolding leastOf
 least-with l k least e = cond-min k least ∙ omega (arith, least-append l (k ∷ []), least-cons k [], least-top l)
 
+-- of two lists, as the code takes it
+pub least-join : (l r : List ℕ) → cond (ltb (leastOf r) (leastOf l)) (leastOf r) (leastOf l) ≡ leastOf (l ++ r)
+least-join l r = cond-min (leastOf r) (leastOf l) ∙ omega (arith, least-append l r)
+
 pub least-le : (l : List ℕ) (k : ℕ) → List·Memᴰ k l → leastOf l ≤ k
 least-le (x ∷ l) k (List·Memᴰ·head e) = omega (arith, least-cons x l)
 least-le (x ∷ l) k (List·Memᴰ·tail m) = omega (arith, least-cons x l, least-le l k m)

@@ -1,10 +1,11 @@
 -- Judging rows: what reading letters collects, and what the search for a repeat comes to; each answer of the definition. Assumes nothing.
 use Prim.Native.Nat.{ℕ, _+_, _≤_, _<_}
 use native.Mathlib.Omega.{arith}
+use native.Mathlib.Nat.{zero-add}
 use mathlib.Core.Path.{_≡_, refl, sym, ap, ap₂, _∙_, subst}
 use mathlib.Core.Bool.{Bool, true, false, _&&_, _||_, cond, or-false}
 use mathlib.Core.List.{List, [], _∷_, _++_, append-nil}
-use lib.Dec.{eqb}
+use lib.Dec.{eqb, ltb}
 use lib.ListN.{length}
 use borrow.Author.Tests.{lt-ltb, le-ltb}
 use Rattle.recurrence.specs.Recurs.{iter}
@@ -19,9 +20,9 @@ use Rattle.judging.specs.declared.RowsVerdict.the-variants.{Least, Refus
 use Rattle.judging.specs.declared.Seen.{Seen}
 use Rattle.judging.specs.declared.Watch.{Watch}
 use Rattle.judging.specs.Judging.{nonEmpty, inRange, leastOf, noState, strayMeets, everStray, leastRecurring, rowsVerdict}
-use Rattle.judging.specs.Rounds.{watchNext, seenWith, seenStep, seenAfter, seenAnew, seenSince}
-use Rattle.judging.proofs.Collect.{after-any, iter-any, through-run, through-value, Held, held-none, held-next, held-rounds, Seeking, seeking-start, seeking-next, seeking-found, seeking-end, first-back, first-all}
-use Rattle.judging.proofs.Laws.{least-with, least-same, nonEmpty-append, nonEmpty-same, none-of, some-of}
+use Rattle.judging.specs.Rounds.{watchNext, seenWith, seenStep, seenAfter, seenAnew, seenSince, seenJoined}
+use Rattle.judging.proofs.Collect.{after-any, iter-any, through-run, through-value, Held, held-none, held-next, held-join, held-rounds, Seeking, seeking-start, seeking-one, seeking-next, seeking-found, seeking-alone, seeking-end, first-back, first-all}
+use Rattle.judging.proofs.Laws.{least-with, least-join, least-same, nonEmpty-append, nonEmpty-same, none-of, some-of}
 
 -- ---- one reading
 seen-run : (s : Seen) (x : Reading) → seenWith s x .run ≡ runAfter x
@@ -118,31 +119,62 @@ module _ (letters : ℕ) (targets priorities : List ℕ) where
       stray = held-none step strays next (λ s. s .run) (λ s. s .stray) (strayIn (s .stray)) moves (adds-stray (s .stray)) loop (s .run) t 0 (ap (λ (s : Seen). s .run) e) (ap (λ (s : Seen). s .stray) e ∙ sym (or-false (s .stray)));
     }
 
+    abbrev LeastHeld : Seen → ℕ → ℕ → Type 0
+    LeastHeld t i k = Held step meets next (λ s. s .run) (λ s. s .least) leastOf moves adds-least loop (s .run) t i k
+
     module _ (t : Seen) (w : Watch) (round : ℕ) (h : SeenSeeking t w round) where
-      strays-next : (t′ : Seen) → t′ ≡ seenAfter letters targets priorities loop t → StrayHeld t′ (round + 1)
-      strays-next t′ e = held-next step strays next (λ s. s .run) (λ s. s .stray) (strayIn (s .stray)) moves (adds-stray (s .stray)) loop (s .run) t t′ 0 round (h .stray) e
+      -- a round by itself, and joined to what was met before it
+      module _ (one : Seen) (e : one ≡ seenAfter letters targets priorities loop (seenAnew t)) where
+        one-least : LeastHeld one round 1
+        unfolding leastOf
+        one-least = seeking-one step meets next (λ s. s .run) (λ s. s .least) leastOf moves adds-least loop (s .run) (λ r. r .state) n seenAnew (λ m. refl) (λ m. refl) t w round (h .least) one e
 
-      pub seen-next : round < rowStates letters targets priorities → (t′ : Seen) → t′ ≡ seenAfter letters targets priorities loop t → (w′ : Watch) → w′ ≡ watchNext w (t′ .run .state)
-          → (u : Seen) → u ≡ seenSince t′ (w′ .since) → SeenSeeking u w′ (round + 1)
-      unfolding leastOf seenSince
-      seen-next l t′ e w′ we u ue = record {
-        least = subst (λ (m : Seen). LeastSeeking m w′ (round + 1)) (sym ue)
-            (subst (λ (x : Watch). LeastSeeking (seenSince t′ (x .since)) x (round + 1)) (sym we)
-            (seeking-next step meets next (λ s. s .run) (λ s. s .least) leastOf moves adds-least loop (s .run) (λ r. r .state) n seenAnew (λ m. refl) (λ m. refl) t w round (h .least) l t′ e));
-        stray = stray-same t′ u (round + 1) (ap (λ (s : Seen). s .run) ue ∙ since-run t′ (w′ .since)) (ap (λ (s : Seen). s .stray) ue ∙ since-stray t′ (w′ .since)) (strays-next t′ e);
-      }
+        one-stray : StrayHeld one (round + 1)
+        one-stray = held-next step strays next (λ s. s .run) (λ s. s .stray) (strayIn (s .stray)) moves (adds-stray (s .stray)) loop (s .run) (seenAnew t) one 0 round (stray-same t (seenAnew t) round refl refl (h .stray)) e
 
-      pub seen-found : s .run .state < rowStates letters targets priorities → (t′ : Seen) → t′ ≡ seenAfter letters targets priorities loop t → t′ .run .state ≡ w .kept
-          → (t′ .least ≡ leastRecurring letters targets priorities (s .run) [] loop) × (t′ .stray ≡ s .stray || everStray letters targets priorities (s .run) [] loop)
-      unfolding leastRecurring everStray window after met
-      seen-found l t′ e q = (
-        seeking-found step meets next (λ s. s .run) (λ s. s .least) leastOf moves adds-least loop (s .run) (λ r. r .state) n
-            least-same (λ n. record { state = n }) (λ r. refl) (λ n. refl) stays l t w round (h .least) t′ e q,
-        first-back step strays next (λ s. s .run) (λ s. s .stray) (strayIn (s .stray)) moves (adds-stray (s .stray)) loop (s .run) (λ r. r .state) n
-            (λ l r same. ap (λ (b : Bool). s .stray || b) (nonEmpty-same l r same)) (λ n. record { state = n }) (λ r. refl) (λ n. refl) stays l t′ (round + 1) (strays-next t′ e)
-            (h .least .from) (omega (arith, h .least .now))
-            (q ∙ h .least .kept ∙ ap (λ (r : Run). r .state) (iter-any (after step meets loop) (after step strays loop) (λ x. after-any step meets strays loop x) (h .least .from) (s .run))),
-      )
+        -- back where round i began
+        stray-back : s .run .state < rowStates letters targets priorities → (i : ℕ) → i ≤ round → one .run .state ≡ iter (after step strays loop) i (s .run) .state
+            → one .stray ≡ s .stray || everStray letters targets priorities (s .run) [] loop
+        unfolding everStray after met
+        stray-back l i le q =
+            first-back step strays next (λ s. s .run) (λ s. s .stray) (strayIn (s .stray)) moves (adds-stray (s .stray)) loop (s .run) (λ r. r .state) n
+            (λ l r same. ap (λ (b : Bool). s .stray || b) (nonEmpty-same l r same)) (λ n. record { state = n }) (λ r. refl) (λ n. refl) stays l one (round + 1) one-stray i (omega arith) q
+
+        pub seen-alone : s .run .state < rowStates letters targets priorities → one .run .state ≡ t .run .state
+            → (one .least ≡ leastRecurring letters targets priorities (s .run) [] loop) × (one .stray ≡ s .stray || everStray letters targets priorities (s .run) [] loop)
+        unfolding leastRecurring window after
+        seen-alone l q = (
+          seeking-alone step meets next (λ s. s .run) (λ s. s .least) leastOf moves adds-least loop (s .run) (λ r. r .state) n
+              least-same (λ n. record { state = n }) (λ r. refl) (λ n. refl) stays l t w round (h .least) one one-least q,
+          stray-back l round (omega arith) (q ∙ ap (λ (r : Run). r .state) (h .stray .at) ∙ ap (λ (j : ℕ). iter (after step strays loop) j (s .run) .state) (zero-add round)),
+        )
+
+        module _ (t′ : Seen) (te : t′ ≡ seenJoined t one) where
+          joined-least : LeastHeld t′ (h .least .from) (w .since + 1)
+          joined-least =
+              held-join step meets next (λ s. s .run) (λ s. s .least) leastOf moves adds-least loop (s .run) (λ x y. cond (ltb y x) y x) least-join
+              t one t′ (h .least .from) (w .since) (h .least .held) (subst (λ (j : ℕ). LeastHeld one j 1) (h .least .now) one-least) (ap (λ (s : Seen). s .run) te) (ap (λ (s : Seen). s .least) te)
+
+          pub seen-found : s .run .state < rowStates letters targets priorities → one .run .state ≡ w .kept
+              → (t′ .least ≡ leastRecurring letters targets priorities (s .run) [] loop) × (t′ .stray ≡ s .stray || everStray letters targets priorities (s .run) [] loop)
+          unfolding leastRecurring window after
+          seen-found l q = (
+            seeking-found step meets next (λ s. s .run) (λ s. s .least) leastOf moves adds-least loop (s .run) (λ r. r .state) n
+                least-same (λ n. record { state = n }) (λ r. refl) (λ n. refl) stays l t w round (h .least) t′ joined-least (ap (λ (s : Seen). s .run .state) te ∙ q),
+            ap (λ (s : Seen). s .stray) te
+                ∙ stray-back l (h .least .from) (omega (arith, h .least .now))
+                (q ∙ h .least .kept ∙ ap (λ (r : Run). r .state) (iter-any (after step meets loop) (after step strays loop) (λ x. after-any step meets strays loop x) (h .least .from) (s .run))),
+          )
+
+          pub seen-next : round < rowStates letters targets priorities → (w′ : Watch) → w′ ≡ watchNext w (one .run .state)
+              → (u : Seen) → u ≡ seenSince t′ (w′ .since) → SeenSeeking u w′ (round + 1)
+          unfolding leastOf seenSince
+          seen-next l w′ we u ue = record {
+            least = subst (λ (m : Seen). LeastSeeking m w′ (round + 1)) (sym ue)
+                (subst (λ (x : Watch). LeastSeeking (seenSince t′ (x .since)) x (round + 1)) (sym (we ∙ ap (λ (m : Seen). watchNext w (m .run .state)) (sym te)))
+                (seeking-next step meets next (λ s. s .run) (λ s. s .least) leastOf moves adds-least loop (s .run) (λ r. r .state) n seenAnew (λ m. refl) (λ m. refl) t w round (h .least) l t′ joined-least));
+            stray = stray-same one u (round + 1) (ap (λ (s : Seen). s .run) ue ∙ since-run t′ (w′ .since) ∙ ap (λ (s : Seen). s .run) te) (ap (λ (s : Seen). s .stray) ue ∙ since-stray t′ (w′ .since) ∙ ap (λ (s : Seen). s .stray) te) one-stray;
+          }
 
       pub seen-end : s .run .state < rowStates letters targets priorities → rowStates letters targets priorities ≤ round → (u : Seen) → u ≡ iter (seenAfter letters targets priorities loop) (rowStates letters targets priorities) (seenAnew t)
           → (u .least ≡ leastRecurring letters targets priorities (s .run) [] loop) × (u .stray ≡ s .stray || everStray letters targets priorities (s .run) [] loop)

@@ -39,6 +39,10 @@ seenAnew s = record { run = s .run; least = 255; stray = s .stray }
 unfoldable pub seenSince : Seen → ℕ → Seen
 seenSince s since = cond (eqb since 0) (seenAnew s) s
 
+-- what s met and a round from there with no priority met yet, at its end
+abbrev pub seenJoined : Seen → Seen → Seen
+seenJoined s one = record { run = one .run; least = cond (ltb (one .least) (s .least)) (one .least) (s .least); stray = one .stray }
+
 module _ (letters : ℕ) (targets priorities : List ℕ) where
   unfoldable pub seenStep : Seen → ℕ → Seen
   seenStep s a = seenWith s (readingOf letters targets priorities (s .run) a)
@@ -54,6 +58,10 @@ colouredAnew m = record { state = m .state; colours = 0 }
 
 unfoldable pub colouredSince : Coloured → ℕ → Coloured
 colouredSince m since = cond (eqb since 0) (colouredAnew m) m
+
+-- what m met and a round from there with no colour met yet, at its end
+abbrev pub colouredJoined : Coloured → Coloured → Coloured
+colouredJoined m one = record { state = one .state; colours = bitOr (m .colours) (one .colours) }
 
 module _ (p : Policy) where
   -- after a letter more

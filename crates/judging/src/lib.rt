@@ -7,7 +7,7 @@ ghost use Rattle.recurrence.specs.Recurs.{iter};
 ghost use Rattle.policy.specs.Policies.{legal};
 ghost use Rattle.running.specs.Running.{rowStates};
 ghost use Rattle.judging.specs.Judging.{inRange, recurringColours, everStray, leastRecurring, policyVerdict, rowsVerdict};
-ghost use Rattle.judging.specs.Rounds.{watchNext, seenWith, seenAfter, seenSince, colouredStep, colouredAfter, colouredSince};
+ghost use Rattle.judging.specs.Rounds.{watchNext, seenWith, seenAfter, seenSince, seenJoined, colouredStep, colouredAfter, colouredSince, colouredJoined};
 use policy::Policy;
 use running::Reading;
 use running::Run;
@@ -146,8 +146,27 @@ fn seen_since(s: Seen, since: usize) -> Seen
     s
 }
 
-// The least priority that recurs in the rounds from here, among n states: what is met from the state that is watched for until the run comes back to it; or, where
-// n rounds do not come back, in n rounds more.
+// What was met before a round and in it, at its end; the round was run with nothing met yet, but for strays.
+fn seen_joined(s: Seen, one: Seen) -> Seen
+    ensures { λ r. ⌜ r ≡ seenJoined s one ⌝ }
+{
+    let run = one.run;
+    if one.least < s.least {
+        return Seen {
+            run: run,
+            least: one.least,
+            stray: one.stray,
+        };
+    }
+    Seen {
+        run: run,
+        least: s.least,
+        stray: one.stray,
+    }
+}
+
+// The least priority that recurs in the rounds from here, among n states: what is met in a round that ends where it began; or from the state that is watched for until
+// the run comes back to it; or, where n rounds do not come back, in n rounds more.
 fn seen_recurring(
     s: Seen,
     n: usize,
@@ -168,8 +187,13 @@ fn seen_recurring(
     };
     let mut round = 0;
     while round < n {
-        t = seen_word(t, cycle, letters, targets, priorities);
-        let run = t.run;
+        let from = t.run;
+        let one = seen_word(seen_since(t, 0), cycle, letters, targets, priorities);
+        let run = one.run;
+        if run.state == from.state {
+            return one;
+        }
+        t = seen_joined(t, one);
         if run.state == w.kept {
             return t;
         }
@@ -223,16 +247,16 @@ struct Coloured {
     pub colours: u8,
 }
 
-// After a letter more. A letter that the policy lacks is refused: nothing is met, and the state stays. The heads and the colours are those of p's edges, lent, since p's
-// own would be copied at each letter.
+// After a letter more. A letter that the policy lacks is refused: nothing is met, and the state stays. The heads and the hues are the targets and the colours of p's edges,
+// lent, since p's own would be copied at each letter.
 fn coloured_with<'a>(
     p: Policy,
     heads: &'a [u8; 64],
-    colours: &'a [u8; 64],
+    hues: &'a [u8; 64],
     m: Coloured,
     letter: u8,
 ) -> Coloured
-    requires { ⌜ (legal p ≡ true) × (m .state < p .states) × (now heads ≡ p .target) × (now colours ≡ p .colour) ⌝ }
+    requires { ⌜ (legal p ≡ true) × (m .state < p .states) × (now heads ≡ p .target) × (now hues ≡ p .colour) ⌝ }
     ensures { λ r. ⌜ r ≡ colouredStep p m letter ⌝ }
 {
     if p.letters <= letter {
@@ -241,7 +265,7 @@ fn coloured_with<'a>(
     let e = m.state as usize * p.letters as usize + letter as usize;
     Coloured {
         state: heads[e],
-        colours: masks::set_with(m.colours, colours[e]),
+        colours: masks::set_with(m.colours, hues[e]),
     }
 }
 
@@ -249,31 +273,38 @@ fn coloured_with<'a>(
 fn coloured_word<'a>(
     p: Policy,
     heads: &'a [u8; 64],
-    colours: &'a [u8; 64],
+    hues: &'a [u8; 64],
     m: Coloured,
     word: &[u8],
 ) -> Coloured
-    requires { ⌜ (legal p ≡ true) × (m .state < p .states) × (now heads ≡ p .target) × (now colours ≡ p .colour) ⌝ }
+    requires { ⌜ (legal p ≡ true) × (m .state < p .states) × (now heads ≡ p .target) × (now hues ≡ p .colour) ⌝ }
     ensures { λ r. ⌜ r ≡ colouredAfter p (now (word .entry)) m ⌝ }
 {
     let mut t = m;
     let mut i = 0;
     while i < word.len() {
-        t = coloured_with(p, heads, colours, t, word[i]);
+        t = coloured_with(p, heads, hues, t, word[i]);
         i += 1;
     }
     t
 }
 
 // After k rounds.
-fn coloured_rounds(p: Policy, m: Coloured, k: usize, cycle: &[u8]) -> Coloured
-    requires { ⌜ (legal p ≡ true) × (m .state < p .states) ⌝ }
+fn coloured_rounds<'a>(
+    p: Policy,
+    heads: &'a [u8; 64],
+    hues: &'a [u8; 64],
+    m: Coloured,
+    k: usize,
+    cycle: &[u8],
+) -> Coloured
+    requires { ⌜ (legal p ≡ true) × (m .state < p .states) × (now heads ≡ p .target) × (now hues ≡ p .colour) ⌝ }
     ensures { λ r. ⌜ r ≡ iter (colouredAfter p (now (cycle .entry))) k m ⌝ }
 {
     let mut t = m;
     let mut i = 0;
     while i < k {
-        t = coloured_word(p, &p.target, &p.colour, t, cycle);
+        t = coloured_word(p, heads, hues, t, cycle);
         i += 1;
     }
     t
@@ -292,10 +323,26 @@ fn coloured_since(m: Coloured, since: usize) -> Coloured
     m
 }
 
-// The colours that recur in the rounds from here: what is met from the state that is watched for until the run comes back to it; or, where as many rounds as the
-// policy has states do not come back, in as many rounds more.
-fn coloured_recurring(p: Policy, m: Coloured, cycle: &[u8]) -> Coloured
-    requires { ⌜ (legal p ≡ true) × (m .state < p .states) ⌝ }
+// What was met before a round and in it, at its end; the round was run with nothing met yet.
+fn coloured_joined(m: Coloured, one: Coloured) -> Coloured
+    ensures { λ r. ⌜ r ≡ colouredJoined m one ⌝ }
+{
+    Coloured {
+        state: one.state,
+        colours: m.colours | one.colours,
+    }
+}
+
+// The colours that recur in the rounds from here: what is met in a round that ends where it began; or from the state that is watched for until the run comes back to it; or,
+// where as many rounds as the policy has states do not come back, in as many rounds more.
+fn coloured_recurring<'a>(
+    p: Policy,
+    heads: &'a [u8; 64],
+    hues: &'a [u8; 64],
+    m: Coloured,
+    cycle: &[u8],
+) -> Coloured
+    requires { ⌜ (legal p ≡ true) × (m .state < p .states) × (now heads ≡ p .target) × (now hues ≡ p .colour) ⌝ }
     ensures { λ r. ⌜ r .colours ≡ recurringColours p (m .state) [] (now (cycle .entry)) ⌝ }
 {
     let n = p.states as usize;
@@ -307,8 +354,12 @@ fn coloured_recurring(p: Policy, m: Coloured, cycle: &[u8]) -> Coloured
     };
     let mut round = 0;
     while round < n {
-        t = coloured_word(p, &p.target, &p.colour, t, cycle);
-        let state = t.state as u16;
+        let one = coloured_word(p, heads, hues, coloured_since(t, 0), cycle);
+        if one.state == t.state {
+            return one;
+        }
+        t = coloured_joined(t, one);
+        let state = one.state as u16;
         if state == w.kept {
             return t;
         }
@@ -316,7 +367,7 @@ fn coloured_recurring(p: Policy, m: Coloured, cycle: &[u8]) -> Coloured
         t = coloured_since(t, w.since);
         round += 1;
     }
-    coloured_rounds(p, coloured_since(t, 0), n, cycle)
+    coloured_rounds(p, heads, hues, coloured_since(t, 0), n, cycle)
 }
 
 // The colours that the policy's run meets again and again, from a state over the stem and then the loop without end, and their verdict.
@@ -340,6 +391,6 @@ pub fn judge_policy(p: Policy, state: u8, stem: &[u8], cycle: &[u8]) -> PolicyVe
         colours: 0,
     };
     let before = coloured_word(p, &p.target, &p.colour, start, stem);
-    let all = coloured_recurring(p, before, cycle);
-    PolicyVerdict::Judged(all.colours, policy::in_family(p, all.colours))
+    let all = coloured_recurring(p, &p.target, &p.colour, before, cycle);
+    PolicyVerdict::Judged(all.colours, p.family[all.colours as usize])
 }

@@ -51,21 +51,27 @@ coloured-word-requires c κs = let e = c .before .before .before .before .before
 
 coloured-recurring-requires : tie.Need-coloured-recurring-requires
 coloured-recurring-requires c κs =
-    let e = c .before .before .before .before .before .before .before in
+    let w = c .before .before .before in
+    let e = w .before .before .before .before .before .before .before in
     let a = e .before .before .before .before .before .before .args in
-    (ok (e .before .before), subst (λ (m : Coloured). m .state < a .t1 .states) (sym (c .coloured-word .ensures)) (word-within (a .t1) (ok (e .before .before)) (a .stem .now) _ (e .before .if2 .left)))
+    (ok (e .before .before), subst (λ (m : Coloured). m .state < a .t1 .states) (sym (w .coloured-word .ensures)) (word-within (a .t1) (ok (e .before .before)) (a .stem .now) _ (e .before .if2 .left)), refl, refl)
 
-in-family-requires : tie.Need-in-family-requires
-in-family-requires c κs = search needs
+cast-t13 : tie.Need-cast-t13
+cast-t13 c = search needs
+
+element-copy-out-t16 : tie.Need-element-copy-out-t16
+element-copy-out-t16 c = search needs
 
 returns-5 : tie.Need-returns-5
+unfolding inFamily
 returns-5 c =
-    let f = c .before .before in
+    let r = c .before .before in
+    let f = r .before .before .before .before in
     let d = f .before .before .before .before in
     let e = d .before .before .before in
     let a = e .before .before .before .before .before .before .args in
-    let is = c .before .coloured-recurring .ensures ∙ colours-after (a .t1) (a .state) (a .stem .now) (a .cycle .now) _ (f .coloured-word .ensures) in
-    ap₂ Judged is (c .in-family .ensures ∙ ap (inFamily (a .t1)) is)
+    let is = r .coloured-recurring .ensures ∙ colours-after (a .t1) (a .state) (a .stem .now) (a .cycle .now) _ (f .coloured-word .ensures) in
+    ap₂ Judged is (ap (inFamily (a .t1)) is)
     ∙ sym (policy-judged (a .t1) (a .state) (a .stem .now) (a .cycle .now) (ok (e .before .before)) (e .before .if2 .left) (e .if3 .left)
     (sym (ap₂ _&&_ (d .before .before .in-range .ensures) (d .before .in-range2 .ensures)) ∙ not-false _ (d .if4 .left)))
 
@@ -82,5 +88,6 @@ judge-policy-spec =
     returns-4
     coloured-word-requires
     coloured-recurring-requires
-    in-family-requires
+    cast-t13
+    element-copy-out-t16
     returns-5)

@@ -1,4 +1,4 @@
--- The loop seeks: it holds what was met since the kept state was kept, so that meeting that state again is a repeat. Assumes nothing.
+-- The loop seeks: it holds what was met since the kept state was kept, so that meeting that state again is a repeat; and so is a round that ends where it began. Assumes nothing.
 use native.Mathlib.Omega.{arith}
 use Prim.Native.Nat.{ℕ, _-_, _≤_, _<_}
 use mathlib.Core.Path.{_≡_, refl, sym, ap, _∙_, subst}
@@ -9,7 +9,7 @@ use Rattle.running.specs.Running.{rowStates}
 use Rattle.judging.specs.declared.Seen.{Seen}
 use Rattle.judging.specs.Judging.{leastRecurring, everStray}
 use Rattle.judging.specs.Rounds.{seenAfter, seenAnew, seenSince}
-use Rattle.judging.proofs.Rows.{SeenSeeking, seen-start, seen-next, seen-found, seen-end}
+use Rattle.judging.proofs.Rows.{SeenSeeking, seen-start, seen-next, seen-alone, seen-found, seen-end}
 use borrow.Author.Needs.{needs}
 use Rattle.judging.proofs.seen_recurring.Statement.{statement}
 use Rattle.judging.proofs.seen_recurring.Tie as tie
@@ -30,68 +30,105 @@ loop-holds c =
     subst (λ (x : Seen). SeenSeeking (a .letters) (a .targets .now) (a .priorities .now) (a .cycle .now) x x (record { kept = a .s .run .state; since = 0; limit = 1 }) 0) (sym (c .seen-since .ensures))
     (seen-start (a .letters) (a .targets .now) (a .priorities .now) (a .cycle .now) (seenAnew (a .s)) (seenAnew (a .s)) refl)
 
-seen-word-requires : tie.Need-seen-word-requires Inv-loop μ-loop
-seen-word-requires c κs = search needs
-
-returns : tie.Need-returns Inv-loop μ-loop
+-- where the search begins
+starts : (c : tie.At-loop Inv-loop μ-loop) → let a = c .before .before .before .before .before .before .args in c .before .seen-since .result ≡ seenAnew (a .s)
 unfolding seenSince
-returns c =
-    let d = c .before .before .before .before .before .before in
-    let p = d .before .before .before .before .before .before in
-    let a = p .args in
-    let r = c .before .before .before .before .seen-word in
-    let e : d .before .seen-since .result ≡ seenAnew (a .s) = d .before .seen-since .ensures in
-    let low = subst (λ (x : Seen). x .run .state < rowStates (a .letters) (a .targets .now) (a .priorities .now)) (sym e) (subst (λ (k : ℕ). a .s .run .state < k) (p .pre .0) (p .pre .2)) in
-    subst (λ (x : Seen). (r .result .least ≡ leastRecurring (a .letters) (a .targets .now) (a .priorities .now) (x .run) [] (a .cycle .now)) × (r .result .stray ≡ x .stray || everStray (a .letters) (a .targets .now) (a .priorities .now) (x .run) [] (a .cycle .now))) e
-    (seen-found (a .letters) (a .targets .now) (a .priorities .now) (a .cycle .now) (d .before .seen-since .result) (d .loop .t) (d .loop .w) (d .loop .round) (d .loop .inv) low (r .result) (r .ensures) (c .if1 .taken))
+starts c = c .before .seen-since .ensures
 
-watch-next-requires : tie.Need-watch-next-requires Inv-loop μ-loop
-watch-next-requires c κs =
+low : (c : tie.At-loop Inv-loop μ-loop) → let a = c .before .before .before .before .before .before .args in c .before .seen-since .result .run .state < rowStates (a .letters) (a .targets .now) (a .priorities .now)
+low c =
     let d = c .before .before .before .before .before .before in
-    let h = d .loop .inv .least in
-    let p = d .before .before .before .before .before .before .pre in
-    (omega (arith, h .now, h .within, p .0, p .1), omega (arith, h .small, h .within, p .0, p .1))
+    let a = d .args in
+    subst (λ (x : Seen). x .run .state < rowStates (a .letters) (a .targets .now) (a .priorities .now)) (sym (starts c)) (subst (λ (k : ℕ). a .s .run .state < k) (d .pre .0) (d .pre .2))
+
+-- what is found from there is what is found from s
+from-s : (c : tie.At-loop Inv-loop μ-loop) (r : Seen) → let a = c .before .before .before .before .before .before .args in let x = c .before .seen-since .result in
+    (r .least ≡ leastRecurring (a .letters) (a .targets .now) (a .priorities .now) (x .run) [] (a .cycle .now)) × (r .stray ≡ x .stray || everStray (a .letters) (a .targets .now) (a .priorities .now) (x .run) [] (a .cycle .now))
+    → (r .least ≡ leastRecurring (a .letters) (a .targets .now) (a .priorities .now) (a .s .run) [] (a .cycle .now)) × (r .stray ≡ a .s .stray || everStray (a .letters) (a .targets .now) (a .priorities .now) (a .s .run) [] (a .cycle .now))
+from-s c r h =
+    let a = c .before .before .before .before .before .before .args in
+    subst (λ (x : Seen). (r .least ≡ leastRecurring (a .letters) (a .targets .now) (a .priorities .now) (x .run) [] (a .cycle .now)) × (r .stray ≡ x .stray || everStray (a .letters) (a .targets .now) (a .priorities .now) (x .run) [] (a .cycle .now))) (starts c) h
 
 seen-since-requires-2 : tie.Need-seen-since-requires-2 Inv-loop μ-loop
 seen-since-requires-2 c κs = search needs
 
-add-round : tie.Need-add-round Inv-loop μ-loop
-add-round c =
-    let d = c .before .before .before .before .before .before .before .before in
-    let p = d .before .before .before .before .before .before .pre in
-    omega (arith, d .loop .inv .least .within, p .0, p .1)
+seen-word-requires : tie.Need-seen-word-requires Inv-loop μ-loop
+seen-word-requires c κs = search needs
 
-loop-less : tie.Need-loop-less Inv-loop μ-loop
-loop-less c = omega (arith, c .before .before .before .before .before .before .before .loop-test .taken)
+-- a round, run with no priority met yet
+one : (c : tie.After-seen-word Inv-loop μ-loop) → let a = c .before .before .before .before .before .before .before .before .before .before .args in c .seen-word .result ≡ seenAfter (a .letters) (a .targets .now) (a .priorities .now) (a .cycle .now) (seenAnew (c .before .before .before .before .loop .t))
+unfolding seenSince
+one c = let a = c .before .before .before .before .before .before .before .before .before .before .args in c .seen-word .ensures ∙ ap (seenAfter (a .letters) (a .targets .now) (a .priorities .now) (a .cycle .now)) (c .before .seen-since2 .ensures)
 
-loop-again : tie.Need-loop-again Inv-loop μ-loop
-loop-again c =
-    let d = c .before .before .before .before .before .before .before .before in
-    let p = d .before .before .before .before .before .before in
-    let a = p .args in
-    let r = c .before .before .before .before .before .before .seen-word in
-    seen-next (a .letters) (a .targets .now) (a .priorities .now) (a .cycle .now) (d .before .seen-since .result) (d .loop .t) (d .loop .w) (d .loop .round) (d .loop .inv)
-    (subst (λ (k : ℕ). d .loop .round < k) (p .pre .0) (c .before .before .before .before .before .before .before .loop-test .taken)) (r .result) (r .ensures) (c .before .watch-next .result) (c .before .watch-next .ensures) _ (c .seen-since2 .ensures)
+returns : tie.Need-returns Inv-loop μ-loop
+returns c =
+    let r = c .before .before .before .before in
+    let l = r .before .before .before .before in
+    let a = l .before .before .before .before .before .before .args in
+    from-s l (r .seen-word .result)
+    (seen-alone (a .letters) (a .targets .now) (a .priorities .now) (a .cycle .now) (l .before .seen-since .result) (l .loop .t) (l .loop .w) (l .loop .round) (l .loop .inv) (r .seen-word .result) (one r)
+    (low l) (c .if1 .taken))
+
+seen-joined-requires : tie.Need-seen-joined-requires Inv-loop μ-loop
+seen-joined-requires c κs = search needs
+
+returns-2 : tie.Need-returns-2 Inv-loop μ-loop
+returns-2 c =
+    let j = c .before .before .before in
+    let r = j .before .before .before .before .before in
+    let l = r .before .before .before .before in
+    let a = l .before .before .before .before .before .before .args in
+    from-s l (j .seen-joined .result)
+    (seen-found (a .letters) (a .targets .now) (a .priorities .now) (a .cycle .now) (l .before .seen-since .result) (l .loop .t) (l .loop .w) (l .loop .round) (l .loop .inv) (r .seen-word .result) (one r)
+    (j .seen-joined .result) (j .seen-joined .ensures) (low l) (c .if2 .taken))
+
+watch-next-requires : tie.Need-watch-next-requires Inv-loop μ-loop
+watch-next-requires c κs =
+    let l = c .before .before .before .before .before .before .before .before .before .before .before .before in
+    let h = l .loop .inv .least in
+    let p = l .before .before .before .before .before .before .pre in
+    (omega (arith, h .now, h .within, p .0, p .1), omega (arith, h .small, h .within, p .0, p .1))
 
 seen-since-requires-3 : tie.Need-seen-since-requires-3 Inv-loop μ-loop
 seen-since-requires-3 c κs = search needs
 
+add-round : tie.Need-add-round Inv-loop μ-loop
+add-round c =
+    let l = c .before .before .before .before .before .before .before .before .before .before .before .before .before .before in
+    let p = l .before .before .before .before .before .before .pre in
+    omega (arith, l .loop .inv .least .within, p .0, p .1)
+
+loop-less : tie.Need-loop-less Inv-loop μ-loop
+loop-less c = omega (arith, c .before .before .before .before .before .before .before .before .before .before .before .before .before .loop-test .taken)
+
+loop-again : tie.Need-loop-again Inv-loop μ-loop
+loop-again c =
+    let j = c .before .before .before .before .before in
+    let r = j .before .before .before .before .before in
+    let l = r .before .before .before .before in
+    let d = l .before .before .before .before .before .before in
+    let a = d .args in
+    seen-next (a .letters) (a .targets .now) (a .priorities .now) (a .cycle .now) (l .before .seen-since .result) (l .loop .t) (l .loop .w) (l .loop .round) (l .loop .inv) (r .seen-word .result) (one r)
+    (j .seen-joined .result) (j .seen-joined .ensures) (subst (λ (k : ℕ). l .loop .round < k) (d .pre .0) (r .before .before .before .loop-test .taken)) (c .before .watch-next .result) (c .before .watch-next .ensures) _ (c .seen-since3 .ensures)
+
+seen-since-requires-4 : tie.Need-seen-since-requires-4 Inv-loop μ-loop
+seen-since-requires-4 c κs = search needs
+
 seen-rounds-requires : tie.Need-seen-rounds-requires Inv-loop μ-loop
 seen-rounds-requires c κs = search needs
 
-returns-2 : tie.Need-returns-2 Inv-loop μ-loop
+returns-3 : tie.Need-returns-3 Inv-loop μ-loop
 unfolding seenSince
-returns-2 c =
-    let d = c .before .before .before in
-    let p = d .before .before .before .before .before .before in
-    let a = p .args in
-    let e : d .before .seen-since .result ≡ seenAnew (a .s) = d .before .seen-since .ensures in
-    let low = subst (λ (x : Seen). x .run .state < rowStates (a .letters) (a .targets .now) (a .priorities .now)) (sym e) (subst (λ (k : ℕ). a .s .run .state < k) (p .pre .0) (p .pre .2)) in
+returns-3 c =
+    let l = c .before .before .before in
+    let d = l .before .before .before .before .before .before in
+    let a = d .args in
     let f = seenAfter (a .letters) (a .targets .now) (a .priorities .now) (a .cycle .now) in
-    let is : c .seen-rounds .result ≡ iter f (rowStates (a .letters) (a .targets .now) (a .priorities .now)) (seenAnew (d .loop .t))
-    = c .seen-rounds .ensures ∙ ap (iter f (a .n)) (c .before .seen-since3 .ensures) ∙ ap (λ (k : ℕ). iter f k (seenAnew (d .loop .t))) (p .pre .0) in
-    subst (λ (x : Seen). (c .seen-rounds .result .least ≡ leastRecurring (a .letters) (a .targets .now) (a .priorities .now) (x .run) [] (a .cycle .now)) × (c .seen-rounds .result .stray ≡ x .stray || everStray (a .letters) (a .targets .now) (a .priorities .now) (x .run) [] (a .cycle .now))) e
-    (seen-end (a .letters) (a .targets .now) (a .priorities .now) (a .cycle .now) (d .before .seen-since .result) (d .loop .t) (d .loop .w) (d .loop .round) (d .loop .inv) low (subst (λ (k : ℕ). k ≤ d .loop .round) (p .pre .0) (c .before .before .loop-test .left)) (c .seen-rounds .result) is)
+    let is : c .seen-rounds .result ≡ iter f (rowStates (a .letters) (a .targets .now) (a .priorities .now)) (seenAnew (l .loop .t))
+    = c .seen-rounds .ensures ∙ ap (iter f (a .n)) (c .before .seen-since4 .ensures) ∙ ap (λ (k : ℕ). iter f k (seenAnew (l .loop .t))) (d .pre .0) in
+    from-s l (c .seen-rounds .result)
+    (seen-end (a .letters) (a .targets .now) (a .priorities .now) (a .cycle .now) (l .before .seen-since .result) (l .loop .t) (l .loop .w) (l .loop .round) (l .loop .inv)
+    (low l) (subst (λ (k : ℕ). k ≤ l .loop .round) (d .pre .0) (c .before .before .loop-test .left)) (c .seen-rounds .result) is)
 
 pub seen-recurring-spec : {M : Type 1} → statement M
 seen-recurring-spec =
@@ -101,13 +138,16 @@ seen-recurring-spec =
     μ-loop
     seen-since-requires
     loop-holds
+    seen-since-requires-2
     seen-word-requires
     returns
+    seen-joined-requires
+    returns-2
     watch-next-requires
-    seen-since-requires-2
+    seen-since-requires-3
     add-round
     loop-less
     loop-again
-    seen-since-requires-3
+    seen-since-requires-4
     seen-rounds-requires
-    returns-2)
+    returns-3)
