@@ -1,5 +1,5 @@
--- What the stages of translating rest on: lengths compared without multiplying, what each stage answers and leaves in its tables. Assumes nothing.
-use Prim.Native.Nat.{ℕ, _+_, _*_, _/_, _%_, _≤_, min}
+-- What the stages of translating rest on: lengths compared, what each stage answers and leaves in its tables. Assumes nothing.
+use Prim.Native.Nat.{ℕ, _+_, _*_, _/_, _%_, _≤_, _<_, min}
 use native.Mathlib.Omega.{arith}
 use native.Mathlib.Nat.{div-add-mod', mul-comm, mul-le-mul-right}
 use mathlib.Core.Path.{_≡_, refl, sym, ap, ap₂, _∙_}
@@ -52,6 +52,9 @@ unnot true e = refl
 unnot false e = absurd (true≢false e)
 
 -- ---- lengths without multiplying
+pub times-fits : (k m : ℕ) → k < 256 → m < 72057594037927936 → k * m < 18446744073709551616
+times-fits k m h g = let a : k ≤ 255 = omega arith in omega (arith, mul-le-mul-right m a)
+
 pub times-is : (n k m : ℕ) → 1 ≤ k → (eqb (n % k) 0 && eqb (n / k) m) ≡ eqb n (k * m)
 times-is n k m h = bool-ext (eqb (n % k) 0 && eqb (n / k) m) (eqb n (k * m)) there back
   where

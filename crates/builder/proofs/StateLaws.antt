@@ -381,14 +381,15 @@ pub record Placing (p : Policy) (sources₀ leaves₀ sources leaves starts : Li
   pub starts-are : (u : ℕ) → u ≤ v → getD starts u 0 ≡ length (builtBelow p u)
 
 module _ (p : Policy) (sources₀ leaves₀ : List ℕ) where
-  pub placing-none : (starts : List ℕ) → starts ≡ replicate 17 0 → Placing p sources₀ leaves₀ sources₀ leaves₀ starts 0 0
+  pub placing-none : (starts : List ℕ) → length starts ≡ 17 → Placing p sources₀ leaves₀ sources₀ leaves₀ (set starts 0 0) 0 0
   placing-none starts e = record {
     at-most = omega arith;
     few = omega arith;
     sources-are = rw (below-none p) (stored-none sources₀ 0);
     leaves-are = rw (below-none p) (stored-none leaves₀ 0);
-    starts-long = rw e refl;
-    starts-are = λ u h. let z : 0 ≡ u = omega arith in subst (λ (x : ℕ). getD starts x 0 ≡ length (builtBelow p x)) z (rw (e, below-none p) refl);
+    starts-long = length-set starts 0 0 ∙ e;
+    starts-are = λ u h. let z : 0 ≡ u = omega arith in
+        subst (λ (x : ℕ). getD (set starts 0 0) x 0 ≡ length (builtBelow p x)) z (getD-set-same starts 0 0 0 (omega (arith, e)) ∙ sym (ap length (below-none p)));
   }
 
   module _ (sources leaves starts : List ℕ) (v at : ℕ) (r : Placing p sources₀ leaves₀ sources leaves starts v at) where

@@ -118,14 +118,13 @@ fn fill_sources(sources: &mut [u8], from: usize, to: usize, v: usize)
     }
 }
 
-// Whether the built states fit, how many there are, and where those over each policy state begin; the last start is the end of all.
+// Whether the built states fit, and how many there are.
 pub struct Placed {
     pub fits: bool,
     pub count: usize,
-    pub starts: [usize; 17],
 }
 
-// The built states by policy state and then by leaf.
+// The built states by policy state and then by leaf. Where those over each policy state begin is kept in `starts`; the last start is the end of all.
 pub fn fill_states(
     p: Policy,
     masks: &[u64],
@@ -133,13 +132,14 @@ pub fn fill_states(
     count: usize,
     sources: &mut [u8],
     leaves: &mut [u16],
+    starts: &mut [usize; 17],
 ) -> Placed
     requires nodes { ⌜ (legal p ≡ true) × MaskColumn p (now masks) × Ends p (now ends) × (count ≡ length (forest p)) ⌝ }
-    requires tables { ⌜ (length (now sources) ≡ length (now leaves)) × (now sources ≡ zeros (now sources)) × (now leaves ≡ zeros (now leaves)) ⌝ }
-    ensures { λ r. ⌜ Filled p (now (sources .entry)) (now (leaves .entry)) (now (sources .exit)) (now (leaves .exit)) (r .fits) (r .count) (r .starts) ⌝ }
+    requires tables { ⌜ (length (now sources) ≡ length (now leaves)) × (now sources ≡ zeros (now sources)) × (now leaves ≡ zeros (now leaves)) × (length (now starts) ≡ 17) ⌝ }
+    ensures { λ r. ⌜ Filled p (now (sources .entry)) (now (leaves .entry)) (now (sources .exit)) (now (leaves .exit)) (r .fits) (r .count) (now (starts .exit)) ⌝ }
 {
     let states = p.states as usize;
-    let mut starts = [0usize; 17];
+    starts[0] = 0;
     let mut at: usize = 0;
     for v in 0..states {
         let next = fill_over(p, masks, ends, count, v, at, leaves);
@@ -150,13 +150,12 @@ pub fn fill_states(
     Placed {
         fits: (at <= sources.len()) & (at <= 65535),
         count: at,
-        starts: starts,
     }
 }
 
 // The start: the first state over the initial one.
-pub fn start_of(p: Policy, starts: [usize; 17]) -> u16
-    requires { ⌜ (legal p ≡ true) × Starts p starts × (length (built p) ≤ 65535) ⌝ }
+pub fn start_of(p: Policy, starts: &[usize; 17]) -> u16
+    requires { ⌜ (legal p ≡ true) × Starts p (now starts) × (length (built p) ≤ 65535) ⌝ }
     ensures { λ r. ⌜ r ≡ start p ⌝ }
 {
     starts[p.initial as usize] as u16

@@ -18,6 +18,7 @@ ghost use Rattle.builder.specs.Tables.{lengthsFit, translationOf, tables
 // The rows of the built states, in tables that are cleared, edge by edge.
 pub fn fill_rows(
     p: Policy,
+    heads: &[u8; 64],
     masks: &[u64],
     parents: &[u16],
     ranks: &[u8],
@@ -29,7 +30,7 @@ pub fn fill_rows(
     targets: &mut [u16],
     priorities: &mut [u8],
 )
-    requires nodes { ⌜ (legal p ≡ true) × Nodes p (now masks) (now parents) (now ranks) × Ends p (now ends) ⌝ }
+    requires nodes { ⌜ (legal p ≡ true) × (now heads ≡ p .target) × Nodes p (now masks) (now parents) (now ranks) × Ends p (now ends) ⌝ }
     requires states { ⌜ States p (now sources) (now leaves) × Starts p (now starts) × (count ≡ length (built p)) ⌝ }
     requires cleared { ⌜ (now targets ≡ zeros (now targets)) × (now priorities ≡ zeros (now priorities)) × (p .letters * length (built p) ≤ length (now targets)) × (p .letters * length (built p) ≤ length (now priorities)) ⌝ }
     ensures { λ _. ⌜ (now (targets .exit) ≡ padded (length (now (targets .entry))) (rowTargets p)) × (now (priorities .exit) ≡ padded (length (now (priorities .entry))) (rowPriorities p)) ⌝ }
@@ -38,7 +39,7 @@ pub fn fill_rows(
     for e in 0..edges {
         crate::rows::fill_edge(
             p,
-            &p.target,
+            heads,
             masks,
             parents,
             ranks,
@@ -71,6 +72,7 @@ fn clear_built(sources: &mut [u8], leaves: &mut [u16], targets: &mut [u16], prio
 // The states and the rows, in tables that are cleared; where the states do not fit, the tables are cleared again.
 fn fill_built(
     p: Policy,
+    heads: &[u8; 64],
     masks: &[u64],
     parents: &[u16],
     ranks: &[u8],
@@ -81,13 +83,13 @@ fn fill_built(
     targets: &mut [u16],
     priorities: &mut [u8],
 ) -> Building
-    requires nodes { ⌜ (legal p ≡ true) × Nodes p (now masks) (now parents) (now ranks) × Ends p (now ends) × (count ≡ length (forest p)) ⌝ }
+    requires nodes { ⌜ (legal p ≡ true) × (now heads ≡ p .target) × Nodes p (now masks) (now parents) (now ranks) × Ends p (now ends) × (count ≡ length (forest p)) ⌝ }
     requires room { ⌜ Sized p (now sources) (now leaves) (now targets) (now priorities) × Clear (now sources) (now leaves) (now targets) (now priorities) ⌝ }
     ensures answer { λ r. ⌜ r ≡ buildingOf p (now (sources .entry)) ⌝ }
     ensures written { λ _. ⌜ BuiltTables p (now (sources .entry)) (now (leaves .entry)) (now (targets .entry)) (now (priorities .entry)) (now (sources .exit)) (now (leaves .exit)) (now (targets .exit)) (now (priorities .exit)) ⌝ }
 {
-    let placed = crate::states::fill_states(p, masks, ends, count, sources, leaves);
-    let starts = placed.starts;
+    let mut starts = [0usize; 17];
+    let placed = crate::states::fill_states(p, masks, ends, count, sources, leaves, &mut starts);
     if !placed.fits {
         tables::clear8(sources);
         tables::clear16(leaves);
@@ -95,6 +97,7 @@ fn fill_built(
     }
     fill_rows(
         p,
+        heads,
         masks,
         parents,
         ranks,
@@ -106,12 +109,13 @@ fn fill_built(
         targets,
         priorities,
     );
-    Building::Whole(placed.count, crate::states::start_of(p, starts))
+    Building::Whole(placed.count, crate::states::start_of(p, &starts))
 }
 
 // The stages after the nodes, with a table for the nodes' ends that has a place for each node.
 fn build_with(
     p: Policy,
+    heads: &[u8; 64],
     masks: &[u64],
     parents: &[u16],
     ranks: &[u8],
@@ -122,7 +126,7 @@ fn build_with(
     targets: &mut [u16],
     priorities: &mut [u8],
 ) -> Building
-    requires { ⌜ (legal p ≡ true) × Nodes p (now masks) (now parents) (now ranks) × (count ≡ length (forest p)) × Sized p (now sources) (now leaves) (now targets) (now priorities) × (count ≤ length (now ends)) ⌝ }
+    requires { ⌜ (legal p ≡ true) × (now heads ≡ p .target) × Nodes p (now masks) (now parents) (now ranks) × (count ≡ length (forest p)) × Sized p (now sources) (now leaves) (now targets) (now priorities) × (count ≤ length (now ends)) ⌝ }
     ensures answer { λ r. ⌜ r ≡ buildingOf p (now (sources .entry)) ⌝ }
     ensures written { λ _. ⌜ BuiltTables p (now (sources .entry)) (now (leaves .entry)) (now (targets .entry)) (now (priorities .entry)) (now (sources .exit)) (now (leaves .exit)) (now (targets .exit)) (now (priorities .exit)) ⌝ }
 {
@@ -130,6 +134,7 @@ fn build_with(
     clear_built(sources, leaves, targets, priorities);
     fill_built(
         p,
+        heads,
         masks,
         parents,
         ranks,
@@ -142,90 +147,49 @@ fn build_with(
     )
 }
 
-// With at most 256 nodes a small table serves, which is quicker to lay out.
-fn build_small(
+// The same with the table for the nodes' ends that is lent, where it has a place for each node, and otherwise with a longer one. A call that calls itself keeps
+// the longest table out of its own frame, so that few nodes take little space.
+fn build_within(
     p: Policy,
+    heads: &[u8; 64],
     masks: &[u64],
     parents: &[u16],
     ranks: &[u8],
+    ends: &mut [u16],
     count: usize,
     sources: &mut [u8],
     leaves: &mut [u16],
     targets: &mut [u16],
     priorities: &mut [u8],
 ) -> Building
-    requires { ⌜ (legal p ≡ true) × Nodes p (now masks) (now parents) (now ranks) × (count ≡ length (forest p)) × Sized p (now sources) (now leaves) (now targets) (now priorities) × (count ≤ 256) ⌝ }
+    requires { ⌜ (legal p ≡ true) × (now heads ≡ p .target) × Nodes p (now masks) (now parents) (now ranks) × (count ≡ length (forest p)) × Sized p (now sources) (now leaves) (now targets) (now priorities) ⌝ }
     ensures answer { λ r. ⌜ r ≡ buildingOf p (now (sources .entry)) ⌝ }
     ensures written { λ _. ⌜ BuiltTables p (now (sources .entry)) (now (leaves .entry)) (now (targets .entry)) (now (priorities .entry)) (now (sources .exit)) (now (leaves .exit)) (now (targets .exit)) (now (priorities .exit)) ⌝ }
 {
-    let mut ends = [0u16; 256];
-    build_with(
-        p,
-        masks,
-        parents,
-        ranks,
-        &mut ends,
-        count,
-        sources,
-        leaves,
-        targets,
-        priorities,
-    )
-}
-
-// With more, a table for as many as there can be.
-fn build_large(
-    p: Policy,
-    masks: &[u64],
-    parents: &[u16],
-    ranks: &[u8],
-    count: usize,
-    sources: &mut [u8],
-    leaves: &mut [u16],
-    targets: &mut [u16],
-    priorities: &mut [u8],
-) -> Building
-    requires { ⌜ (legal p ≡ true) × Nodes p (now masks) (now parents) (now ranks) × (count ≡ length (forest p)) × Sized p (now sources) (now leaves) (now targets) (now priorities) ⌝ }
-    ensures answer { λ r. ⌜ r ≡ buildingOf p (now (sources .entry)) ⌝ }
-    ensures written { λ _. ⌜ BuiltTables p (now (sources .entry)) (now (leaves .entry)) (now (targets .entry)) (now (priorities .entry)) (now (sources .exit)) (now (leaves .exit)) (now (targets .exit)) (now (priorities .exit)) ⌝ }
-{
-    let mut ends = [0u16; 65535];
-    build_with(
-        p,
-        masks,
-        parents,
-        ranks,
-        &mut ends,
-        count,
-        sources,
-        leaves,
-        targets,
-        priorities,
-    )
-}
-
-// The stages after the nodes. Where the built states do not fit, every place is 0.
-pub fn build(
-    p: Policy,
-    masks: &[u64],
-    parents: &[u16],
-    ranks: &[u8],
-    count: usize,
-    sources: &mut [u8],
-    leaves: &mut [u16],
-    targets: &mut [u16],
-    priorities: &mut [u8],
-) -> Building
-    requires { ⌜ (legal p ≡ true) × Nodes p (now masks) (now parents) (now ranks) × (count ≡ length (forest p)) × Sized p (now sources) (now leaves) (now targets) (now priorities) ⌝ }
-    ensures answer { λ r. ⌜ r ≡ buildingOf p (now (sources .entry)) ⌝ }
-    ensures written { λ _. ⌜ BuiltTables p (now (sources .entry)) (now (leaves .entry)) (now (targets .entry)) (now (priorities .entry)) (now (sources .exit)) (now (leaves .exit)) (now (targets .exit)) (now (priorities .exit)) ⌝ }
-{
-    if count <= 256 {
-        return build_small(
+    if count <= ends.len() {
+        return build_with(
             p,
+            heads,
             masks,
             parents,
             ranks,
+            ends,
+            count,
+            sources,
+            leaves,
+            targets,
+            priorities,
+        );
+    }
+    if count <= 2048 {
+        let mut more = [0u16; 2048];
+        return build_within(
+            p,
+            heads,
+            masks,
+            parents,
+            ranks,
+            &mut more,
             count,
             sources,
             leaves,
@@ -235,6 +199,7 @@ pub fn build(
     }
     build_large(
         p,
+        heads,
         masks,
         parents,
         ranks,
@@ -246,11 +211,95 @@ pub fn build(
     )
 }
 
-// Whether n is k times m, without multiplying.
+// The same with a table for as many nodes as there can be.
+fn build_large(
+    p: Policy,
+    heads: &[u8; 64],
+    masks: &[u64],
+    parents: &[u16],
+    ranks: &[u8],
+    count: usize,
+    sources: &mut [u8],
+    leaves: &mut [u16],
+    targets: &mut [u16],
+    priorities: &mut [u8],
+) -> Building
+    requires { ⌜ (legal p ≡ true) × (now heads ≡ p .target) × Nodes p (now masks) (now parents) (now ranks) × (count ≡ length (forest p)) × Sized p (now sources) (now leaves) (now targets) (now priorities) ⌝ }
+    ensures answer { λ r. ⌜ r ≡ buildingOf p (now (sources .entry)) ⌝ }
+    ensures written { λ _. ⌜ BuiltTables p (now (sources .entry)) (now (leaves .entry)) (now (targets .entry)) (now (priorities .entry)) (now (sources .exit)) (now (leaves .exit)) (now (targets .exit)) (now (priorities .exit)) ⌝ }
+{
+    let mut ends = [0u16; 65535];
+    build_within(
+        p,
+        heads,
+        masks,
+        parents,
+        ranks,
+        &mut ends,
+        count,
+        sources,
+        leaves,
+        targets,
+        priorities,
+    )
+}
+
+// The stages after the nodes. Where the built states do not fit, every place is 0. For few nodes a small table serves, which is quicker to lay out.
+pub fn build(
+    p: Policy,
+    heads: &[u8; 64],
+    masks: &[u64],
+    parents: &[u16],
+    ranks: &[u8],
+    count: usize,
+    sources: &mut [u8],
+    leaves: &mut [u16],
+    targets: &mut [u16],
+    priorities: &mut [u8],
+) -> Building
+    requires { ⌜ (legal p ≡ true) × (now heads ≡ p .target) × Nodes p (now masks) (now parents) (now ranks) × (count ≡ length (forest p)) × Sized p (now sources) (now leaves) (now targets) (now priorities) ⌝ }
+    ensures answer { λ r. ⌜ r ≡ buildingOf p (now (sources .entry)) ⌝ }
+    ensures written { λ _. ⌜ BuiltTables p (now (sources .entry)) (now (leaves .entry)) (now (targets .entry)) (now (priorities .entry)) (now (sources .exit)) (now (leaves .exit)) (now (targets .exit)) (now (priorities .exit)) ⌝ }
+{
+    let mut ends = [0u16; 64];
+    if count <= 64 {
+        return build_with(
+            p,
+            heads,
+            masks,
+            parents,
+            ranks,
+            &mut ends,
+            count,
+            sources,
+            leaves,
+            targets,
+            priorities,
+        );
+    }
+    build_within(
+        p,
+        heads,
+        masks,
+        parents,
+        ranks,
+        &mut ends,
+        count,
+        sources,
+        leaves,
+        targets,
+        priorities,
+    )
+}
+
+// Whether n is k times m. Where the product may be too large, by division.
 fn is_times(n: usize, k: u8, m: usize) -> bool
     requires { ⌜ 1 ≤ k ⌝ }
     ensures { λ r. ⌜ r ≡ eqb n (k * m) ⌝ }
 {
+    if m < 72057594037927936 {
+        return n == k as usize * m;
+    }
     (n % (k as usize) == 0) & (n / (k as usize) == m)
 }
 
@@ -276,8 +325,11 @@ fn has_fitting_lengths(
 }
 
 // All stages, in tables of fitting lengths.
-fn fill(
+fn fill<'a>(
     p: Policy,
+    heads: &'a [u8; 64],
+    hues: &'a [u8; 64],
+    family: &'a [bool; 256],
     masks: &mut [u64],
     parents: &mut [u16],
     ranks: &mut [u8],
@@ -286,7 +338,8 @@ fn fill(
     targets: &mut [u16],
     priorities: &mut [u8],
 ) -> Translation
-    requires { ⌜ (legal p ≡ true) × (lengthsFit p (tables (now masks) (now parents) (now ranks) (now sources) (now leaves) (now targets) (now priorities)) ≡ true) ⌝ }
+    requires lent { ⌜ (now heads ≡ p .target) × (now hues ≡ p .colour) × (now family ≡ p .family) ⌝ }
+    requires fitting { ⌜ (legal p ≡ true) × (lengthsFit p (tables (now masks) (now parents) (now ranks) (now sources) (now leaves) (now targets) (now priorities)) ≡ true) ⌝ }
     ensures answer { λ r. ⌜ r ≡ translationOf p (tables (now (masks .entry)) (now (parents .entry)) (now (ranks .entry)) (now (sources .entry)) (now (leaves .entry)) (now (targets .entry)) (now (priorities .entry))) ⌝ }
     ensures tables { λ _. ⌜ Hold (tablesAfter p (tables (now (masks .entry)) (now (parents .entry)) (now (ranks .entry)) (now (sources .entry)) (now (leaves .entry)) (now (targets .entry)) (now (priorities .entry)))) (now (masks .exit)) (now (parents .exit)) (now (ranks .exit)) (now (sources .exit)) (now (leaves .exit)) (now (targets .exit)) (now (priorities .exit)) ⌝ }
 {
@@ -296,6 +349,7 @@ fn fill(
     };
     let Building::Whole(states, start) = build(
         p,
+        heads,
         masks,
         parents,
         ranks,
@@ -331,6 +385,33 @@ pub fn translate(
     if !policy::is_legal(p) {
         return Translation::Refused(7);
     }
+    translate_legal(
+        p,
+        masks,
+        parents,
+        ranks,
+        sources,
+        leaves,
+        targets,
+        priorities,
+    )
+}
+
+// The same for a legal policy, without asking question 7.
+pub fn translate_legal(
+    p: Policy,
+    masks: &mut [u64],
+    parents: &mut [u16],
+    ranks: &mut [u8],
+    sources: &mut [u8],
+    leaves: &mut [u16],
+    targets: &mut [u16],
+    priorities: &mut [u8],
+) -> Translation
+    requires { ⌜ legal p ≡ true ⌝ }
+    ensures answer { λ r. ⌜ r ≡ translationOf p (tables (now (masks .entry)) (now (parents .entry)) (now (ranks .entry)) (now (sources .entry)) (now (leaves .entry)) (now (targets .entry)) (now (priorities .entry))) ⌝ }
+    ensures tables { λ _. ⌜ Hold (tablesAfter p (tables (now (masks .entry)) (now (parents .entry)) (now (ranks .entry)) (now (sources .entry)) (now (leaves .entry)) (now (targets .entry)) (now (priorities .entry)))) (now (masks .exit)) (now (parents .exit)) (now (ranks .exit)) (now (sources .exit)) (now (leaves .exit)) (now (targets .exit)) (now (priorities .exit)) ⌝ }
+{
     if !has_fitting_lengths(
         p,
         masks,
@@ -345,6 +426,9 @@ pub fn translate(
     }
     fill(
         p,
+        &p.target,
+        &p.colour,
+        &p.family,
         masks,
         parents,
         ranks,

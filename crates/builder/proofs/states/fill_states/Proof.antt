@@ -1,5 +1,4 @@
 -- `states::fill_states` meets its contract. The invariant: the states over the policy states below v are written. Assumes nothing.
-use mathlib.Core.Path.{refl}
 use Prim.Native.Nat.{_-_}
 use native.Mathlib.Omega.{arith}
 use Rattle.policy.proofs.Laws.{legal-counts}
@@ -9,16 +8,19 @@ use Rattle.builder.proofs.states.fill_states.Statement.{statement}
 use Rattle.builder.proofs.states.fill_states.Tie as tie
 
 abbrev Inv-loop : tie.InvT-loop
-Inv-loop p masks ends count sources₀ leaves₀ states starts₀ at₀ v₀ sources leaves starts at v = Placing p sources₀ leaves₀ sources leaves starts v at
+Inv-loop p masks ends count sources₀ leaves₀ starts₀ states at₀ v₀ sources leaves starts at v = Placing p sources₀ leaves₀ sources leaves starts v at
 
 abbrev μ-loop : tie.MeasureT-loop
-μ-loop p masks ends count sources₀ leaves₀ states starts₀ at₀ v₀ sources leaves starts at v = states - v
+μ-loop p masks ends count sources₀ leaves₀ starts₀ states at₀ v₀ sources leaves starts at v = states - v
 
 cast-states : tie.Need-cast-states Inv-loop μ-loop
 cast-states c = search needs
 
+element-write-starts : tie.Need-element-write-starts Inv-loop μ-loop
+element-write-starts c = search needs
+
 loop-holds : tie.Need-loop-holds Inv-loop μ-loop
-loop-holds c = let a = c .before .before .before .before .before .args in placing-none (a .p) (a .sources .now) (a .leaves .now) _ refl
+loop-holds c = let s = c .before .before .before .before .before in placing-none (s .args .p) (s .args .sources .now) (s .args .leaves .now) (s .args .starts .now) (s .pre .1 .3)
 
 fill-over-requires : tie.Need-fill-over-requires Inv-loop μ-loop
 fill-over-requires c κs =
@@ -37,8 +39,8 @@ add-starts c = let s = c .before .before .before .before .before .before .before
 mul-starts : tie.Need-mul-starts Inv-loop μ-loop
 mul-starts c = let s = c .before .before .before .before .before .before .before .before .before .before .before .before .before .before .before in omega (arith, legal-counts (s .args .p) (s .pre .0 .0) .states-few)
 
-array-write-starts : tie.Need-array-write-starts Inv-loop μ-loop
-array-write-starts c = let s = c .before .before .before .before .before .before .before .before .before .before .before .before .before .before .before in omega (arith, legal-counts (s .args .p) (s .pre .0 .0) .states-few)
+element-write-starts-2 : tie.Need-element-write-starts-2 Inv-loop μ-loop
+element-write-starts-2 c = let s = c .before .before .before .before .before .before .before .before .before .before .before .before .before .before .before in omega (arith, legal-counts (s .args .p) (s .pre .0 .0) .states-few)
 
 add-v : tie.Need-add-v Inv-loop μ-loop
 add-v c = let s = c .before .before .before .before .before .before .before .before .before .before .before .before .before .before .before in omega (arith, legal-counts (s .args .p) (s .pre .0 .0) .states-few)
@@ -72,12 +74,13 @@ fill-states-spec =
     Inv-loop
     μ-loop
     cast-states
+    element-write-starts
     loop-holds
     fill-over-requires
     fill-sources-requires
     add-starts
     mul-starts
-    array-write-starts
+    element-write-starts-2
     add-v
     loop-less
     loop-again

@@ -18,17 +18,17 @@ mul-result : tie.Need-mul-result
 mul-result c = search needs
 
 -- the initial state's place among the starts
-first-is : (c : lts.After-struct-known reads.Pre reads.Post) → getD (c .before .args .t2) (c .before .args .p .initial) 0 ≡ firstOver (c .before .args .p) (c .before .args .p .initial)
+first-is : (c : lts.After-struct-known reads.Pre reads.Post) → getD (c .before .args .starts .now) (c .before .args .p .initial) 0 ≡ firstOver (c .before .args .p) (c .before .args .p .initial)
 first-is c = let s = c .before in s .pre .1 (s .args .p .initial) (omega (arith, legal-counts (s .args .p) (s .pre .0) .initial-lt))
 
-array-read-result : tie.Need-array-read-result
-array-read-result c = let s = c .before in omega (arith, legal-counts (s .args .p) (s .pre .0) .initial-lt, legal-counts (s .args .p) (s .pre .0) .states-few)
+element-copy-out-result : tie.Need-element-copy-out-result
+element-copy-out-result c = let s = c .before in omega (arith, legal-counts (s .args .p) (s .pre .0) .initial-lt, legal-counts (s .args .p) (s .pre .0) .states-few)
 
 cast-result-2 : tie.Need-cast-result-2
-cast-result-2 c = let s = c .before in omega (arith, first-is c, start-few (s .args .p) (s .args .p .initial) (s .pre .2))
+cast-result-2 c = let s = c .before .before in omega (arith, first-is (c .before), start-few (s .args .p) (s .args .p .initial) (s .pre .2))
 
 returns : tie.Need-returns
-returns c = let s = c .before in first-is c ∙ sym (start-is (s .args .p) (s .pre .0) (s .pre .2))
+returns c = let s = c .before .before in first-is (c .before) ∙ sym (start-is (s .args .p) (s .pre .0) (s .pre .2))
 
 pub start-of-spec : {M : Type 1} → statement M
-start-of-spec = tie.close (tie.spec cast-result mul-result array-read-result cast-result-2 returns)
+start-of-spec = tie.close (tie.spec cast-result mul-result element-copy-out-result cast-result-2 returns)

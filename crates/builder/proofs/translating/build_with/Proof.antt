@@ -15,7 +15,7 @@ fill-built-requires : tie.Need-fill-built-requires
 fill-built-requires c κs =
     let s = c .before .before .before .before .before .before .before .before .before .before .before .before .before .before .before .before .before .before .before .before .before .before .before .before .before .before .before .before .before .before in
     let z = c .before .before .before .before .before .before .before .before .before .before .before .before .before .clear-built .ensures in
-    ((s .pre .0, s .pre .1, c .before .before .before .before .before .before .before .before .before .before .before .before .before .before .before .before .before .before .before .before .fill-ends .ensures .0, s .pre .2), sized-clear (s .args .p) (s .args .sources .now) (s .args .leaves .now) (s .args .targets .now) (s .args .priorities .now) (s .pre .3) (z .0) (z .1) (z .2) (z .3))
+    ((s .pre .0, s .pre .1, s .pre .2, c .before .before .before .before .before .before .before .before .before .before .before .before .before .before .before .before .before .before .before .before .fill-ends .ensures .0, s .pre .3), sized-clear (s .args .p) (s .args .sources .now) (s .args .leaves .now) (s .args .targets .now) (s .args .priorities .now) (s .pre .4) (z .0) (z .1) (z .2) (z .3))
 
 same-length : tie.Need-same-length
 same-length c = search needs
