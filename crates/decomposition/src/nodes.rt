@@ -1,9 +1,11 @@
 // The node tables: the nodes of the forest, tree by tree, and their priorities.
+// Beside a policy stand its arrays, lent: `heads` are the targets of its edges, `hues` their colours; `by` has the edges of each colour.
 ghost use mathlib.Core.Path.{_≡_};
 ghost use mathlib.Core.Bool.{true, cond};
 ghost use Prim.Native.Nat.{_+_, _*_, _^_, _<_, _≤_, min};
 ghost use lib.ListN.{length};
 ghost use Rattle.policy.specs.Policies.{accepting, legal};
+ghost use Rattle.policy.specs.ByColour.{byColour};
 ghost use Rattle.tables.specs.Tables.{zeros, padded};
 ghost use Rattle.decomposition.specs.NodeTables.{nodeRanks, Sought, Cleared, Lent, Spare, Space, Written, nodeTables, fillingOf, filledOf};
 use policy::Policy;
@@ -24,25 +26,34 @@ fn lesser(a: usize, b: usize) -> usize
 }
 
 // The priority of a root goes by its verdict.
-fn root_rank(p: Policy, m: u64) -> u8
-    requires { ⌜ legal p ≡ true ⌝ }
+fn root_rank(p: Policy, by: &[u64; 8], family: &[bool; 256], m: u64) -> u8
+    requires { ⌜ (legal p ≡ true) × (now by ≡ byColour p) × (now family ≡ p .family) ⌝ }
     ensures { λ r. ⌜ r ≡ cond (accepting p m) 0 1 ⌝ }
 {
-    if policy::is_accepting(p, m) {
+    if policy::accepts(p, by, family, m) {
         return 0;
     }
     1
 }
 
 // The priorities of all nodes, in a table that is cleared: a child's is one more than its parent's.
-fn write_ranks(p: Policy, masks: &[u64], parents: &[u16], ranks: &mut [u8], count: usize)
-    requires { ⌜ (legal p ≡ true) × Written p (now masks) (now parents) count × (count ≤ length (now ranks)) × (now ranks ≡ zeros (now ranks)) ⌝ }
+fn write_ranks(
+    p: Policy,
+    by: &[u64; 8],
+    family: &[bool; 256],
+    masks: &[u64],
+    parents: &[u16],
+    ranks: &mut [u8],
+    count: usize,
+)
+    requires lent { ⌜ (now by ≡ byColour p) × (now family ≡ p .family) ⌝ }
+    requires written { ⌜ (legal p ≡ true) × Written p (now masks) (now parents) count × (count ≤ length (now ranks)) × (now ranks ≡ zeros (now ranks)) ⌝ }
     ensures { λ _. ⌜ now (ranks .exit) ≡ padded (length (now (ranks .entry))) (nodeRanks p) ⌝ }
 {
     for n in 0..count {
         let parent = parents[n];
         if parent == 65535 {
-            ranks[n] = root_rank(p, masks[n]);
+            ranks[n] = root_rank(p, by, family, masks[n]);
         } else {
             let q = parent as usize;
             ranks[n] = ranks[q] + 1;
@@ -62,6 +73,8 @@ fn clear_nodes(masks: &mut [u64], parents: &mut [u16], ranks: &mut [u8])
 // The nodes, written to tables that are cleared; where they do not fit, the tables are cleared again.
 fn write_nodes(
     p: Policy,
+    by: &[u64; 8],
+    family: &[bool; 256],
     accepting: &[u64],
     rejecting: &[u64],
     roots: &[u64],
@@ -71,13 +84,16 @@ fn write_nodes(
     seen: &mut [u32],
     kids: &mut [u16],
 ) -> Filled
-    requires { ⌜ (legal p ≡ true) × Sought p (now accepting) (now rejecting) (now roots) × Cleared (now masks) (now parents) (now ranks) × Lent p (now accepting) (now rejecting) (now seen) (now kids) ⌝ }
+    requires lent { ⌜ (now by ≡ byColour p) × (now family ≡ p .family) ⌝ }
+    requires space { ⌜ (legal p ≡ true) × Sought p (now accepting) (now rejecting) (now roots) × Cleared (now masks) (now parents) (now ranks) × Lent p (now accepting) (now rejecting) (now seen) (now kids) ⌝ }
     ensures answer { λ r. ⌜ r ≡ fillingOf p (nodeTables (now (masks .entry)) (now (parents .entry)) (now (ranks .entry))) ⌝ }
     ensures written { λ _. ⌜ nodeTables (now (masks .exit)) (now (parents .exit)) (now (ranks .exit)) ≡ filledOf p (nodeTables (now (masks .entry)) (now (parents .entry)) (now (ranks .entry))) ⌝ }
 {
     let places = lesser(masks.len(), 65535);
     let count = crate::trees::grow_roots(
         p,
+        by,
+        family,
         accepting,
         rejecting,
         roots,
@@ -91,7 +107,7 @@ fn write_nodes(
         clear_nodes(masks, parents, ranks);
         return Filled::TooMany;
     }
-    write_ranks(p, masks, parents, ranks, count);
+    write_ranks(p, by, family, masks, parents, ranks, count);
     Filled::Nodes(count)
 }
 
@@ -115,12 +131,23 @@ fn list_and_write(
     ensures written { λ _. ⌜ nodeTables (now (masks .exit)) (now (parents .exit)) (now (ranks .exit)) ≡ filledOf p (nodeTables (now (masks .entry)) (now (parents .entry)) (now (ranks .entry))) ⌝ }
 {
     let mut roots = [0u64; 16];
-    let listed = crate::listing::fill_candidates(p, accepting, rejecting);
+    let by = policy::by_colour(p, hues);
+    let listed = crate::listing::fill_candidates(
+        p,
+        heads,
+        &by,
+        family,
+        accepting,
+        rejecting,
+        &mut roots,
+    );
     let accepted = listed.accepting;
     let rejected = listed.rejecting;
-    let rooted = crate::listing::fill_roots(p, &mut roots);
+    let rooted = listed.roots;
     write_nodes(
         p,
+        &by,
+        family,
         &accepting[..accepted],
         &rejecting[..rejected],
         &roots[..rooted],
@@ -140,7 +167,7 @@ fn most_candidates(p: Policy) -> usize
     p.states as usize * (1 << p.colours)
 }
 
-// With the space that is lent where it is enough, and otherwise with more. Space is had by a call, and only by a policy that needs it: a call with much space is slow to begin.
+// With the space that is lent where it is enough, and otherwise with more. A call that has much space is slow to begin, so it is made only for a policy that needs the space.
 fn fill_within(
     p: Policy,
     heads: &[u8; 64],
@@ -194,15 +221,7 @@ fn fill_within(
             ranks,
         );
     }
-    fill_large(
-        p,
-        heads,
-        hues,
-        family,
-        masks,
-        parents,
-        ranks,
-    )
+    fill_large(p, heads, hues, family, masks, parents, ranks)
 }
 
 // With space for any policy.

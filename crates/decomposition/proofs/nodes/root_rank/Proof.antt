@@ -4,14 +4,14 @@ use borrow.Author.Needs.{needs}
 use Rattle.decomposition.proofs.nodes.root_rank.Statement.{statement}
 use Rattle.decomposition.proofs.nodes.root_rank.Tie as tie
 
-is-accepting-requires : tie.Need-is-accepting-requires
-is-accepting-requires c κs = search needs
+accepts-requires : tie.Need-accepts-requires
+accepts-requires c κs = search needs
 
 returns : tie.Need-returns
-returns c = rw (sym (c .before .is-accepting .ensures) ∙ c .if1 .taken) refl
+returns c = rw (sym (c .before .accepts .ensures) ∙ c .if1 .taken) refl
 
 returns-2 : tie.Need-returns-2
-returns-2 c = rw (sym (c .before .is-accepting .ensures) ∙ c .if1 .left) refl
+returns-2 c = rw (sym (c .before .accepts .ensures) ∙ c .if1 .left) refl
 
 pub root-rank-spec : {M : Type 1} → statement M
-root-rank-spec = tie.close (tie.spec is-accepting-requires returns returns-2)
+root-rank-spec = tie.close (tie.spec accepts-requires returns returns-2)
