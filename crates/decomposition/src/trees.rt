@@ -7,6 +7,7 @@ ghost use lib.ListN.{length, getD, set};
 ghost use lib.Seq.{sets};
 ghost use Rattle.lists.specs.Lists.{Distinct};
 ghost use Rattle.policy.specs.declared.Policy.{Policy};
+ghost use Rattle.policy.specs.ByColour.{byColour};
 ghost use Rattle.decomposition.specs.Candidates.{rootCandidates};
 ghost use Rattle.decomposition.specs.Siblings.{LargerFirst};
 ghost use Rattle.decomposition.specs.Search.{ChildrenFound};
@@ -111,7 +112,7 @@ fn remember(seen: &mut [u32], i: usize, at: usize, next: usize)
     seen[i] = (at * 65536 + (next - at)) as u32;
 }
 
-// The tree of the mask at position i: copied where it stands in the tables, and otherwise grown. Whatever policy the lists are of, its tree is written.
+// The tree of the mask at position i: copied where it stands in the tables, and otherwise grown. It goes by the lists alone: whatever policy they are the candidates of, its tree is written.
 fn plant(
     accepting: &[u64],
     rejecting: &[u64],
@@ -159,7 +160,7 @@ fn plant(
     at + size
 }
 
-// The tree of m, whose root is numbered `at`: the number after it, or one past the places where it does not fit. Here too, for whatever policy the lists are of.
+// The tree of m, whose root is numbered `at`: the number after it, or one past the places where it does not fit. This too goes by the lists alone.
 fn grow(
     accepting: &[u64],
     rejecting: &[u64],
@@ -206,9 +207,11 @@ fn grow(
     next
 }
 
-// The trees of all roots: how many nodes there are, or one past the places where they do not fit.
+// The trees of all roots: how many nodes there are, or one past the places where they do not fit. The edges of each colour and the family are lent for the verdicts.
 pub fn grow_roots(
     p: Policy,
+    by: &[u64; 8],
+    family: &[bool; 256],
     accepting: &[u64],
     rejecting: &[u64],
     roots: &[u64],
@@ -218,7 +221,8 @@ pub fn grow_roots(
     seen: &mut [u32],
     kids: &mut [u16],
 ) -> usize
-    requires { ⌜ Ground p (now accepting) (now rejecting) × Room p (now accepting ++ now rejecting) (now masks) (now parents) (now seen) places 0 × (now roots ≡ rootCandidates p) × (p .colours * max (length (now accepting)) (length (now rejecting)) ≤ length (now kids)) ⌝ }
+    requires lent { ⌜ (now by ≡ byColour p) × (now family ≡ p .family) ⌝ }
+    requires ground { ⌜ Ground p (now accepting) (now rejecting) × Room p (now accepting ++ now rejecting) (now masks) (now parents) (now seen) places 0 × (now roots ≡ rootCandidates p) × (p .colours * max (length (now accepting)) (length (now rejecting)) ≤ length (now kids)) ⌝ }
     ensures { λ r. ⌜ AllGrown p places r (now (masks .entry)) (now (parents .entry)) (now (masks .exit)) (now (parents .exit)) ⌝ }
 {
     let mut next: usize = 0;
@@ -228,7 +232,7 @@ pub fn grow_roots(
         if m == 0 {
             return next;
         }
-        let verdict = policy::is_accepting(p, m);
+        let verdict = policy::accepts(p, by, family, m);
         next = grow(
             accepting,
             rejecting,

@@ -166,12 +166,12 @@ grow-returns-2 t c =
     let long : c .before .before .before .before .before .before .before .before .before .before .before .before .before .before .before .before .before .before .before .before .find-children .result ≤ length (c .before .before .before .before .before .before .before .before .before .before .before .before .before .before .before .before .loop .kids) = omega (arith, seed-room (s .pre .1 .1 .ground) (s .pre .1 .1 .seed), found-few (s .pre .1 .1 .ground) (s .pre .1 .1 .seed) f, c .before .before .before .before .before .before .before .before .before .before .before .before .before .before .before .before .before .before .before .before .find-children .kept .1 .1 .1 .1 .0, c .before .before .before .before .before .before .before .before .before .before .before .before .before .before .before .before .loop .inv .4) in
     let rest = mid-len (c .before .before .before .before .before .before .before .before .before .before .before .before .before .before .before .before .before .before .before .before .find-children .result) (length (c .before .before .before .before .before .before .before .before .before .before .before .before .before .before .before .before .loop .kids)) (c .before .before .before .before .before .before .before .before .before .before .before .before .before .before .before .before .loop .kids) (le-refl _) in
     λ p w₀.
-      let w = growable-root w₀ (s .args .parent) (c .before .before .before .before .before .before .before .before .before .before .before .before .before .before .before .before .before .before .before .before .before .before .if1 .left) (c .before .before .before .before .before .before .before .before .before .before .before .before .before .before .before .before .before .before .before .before .find-children .kept .1 .1 .1 .1 .0) in
-      let v = c .before .before .before .before .before .before .before .before .before .before .before .before .before .before .before .before .loop .inv .0 p w in
-      let at = found-at (w .ground) (w .seed) f (c .before .before .before .before .before .before .before .before .before .before .before .before .before .before .before .loop-test .taken) long (c .before .before .before .before .before .before .before .before .before .before .before .before .before .before .before .before .before .first-other .result) (c .before .before .before .before .before .before .before .before .before .before .before .before .before .before .before .before .before .first-other .ensures) .1 in
-      let below : c .before .before .before .before .before .before .before .before .before .before .before .before .before .before .before .before .loop .j < length (children p (s .args .m)) = omega (arith, c .before .before .before .before .before .before .before .before .before .before .before .before .before .before .before .loop-test .taken, found-count (w .ground) (w .seed) f long) in
-      let g = c .before .before .before .before .before .before .before .before .before .plant .ensures p (growable-child w v f (c .before .before .before .before .before .before .before .before .before .before .before .before .before .before .before .loop-test .taken) long (c .before .before .before .before .before .before .before .before .before .before .before .before .before .before .before .before .before .first-other .ensures) (omega (arith, rest, c .before .before .before .before .before .before .before .before .before .before .before .before .before .before .before .before .loop .inv .4))) in
-      grown-over (w₀ .ground) (w₀ .seed) (s .args .parent) v below at g (c .if2 .taken)
+    let w = growable-root w₀ (s .args .parent) (c .before .before .before .before .before .before .before .before .before .before .before .before .before .before .before .before .before .before .before .before .before .before .if1 .left) (c .before .before .before .before .before .before .before .before .before .before .before .before .before .before .before .before .before .before .before .before .find-children .kept .1 .1 .1 .1 .0) in
+    let v = c .before .before .before .before .before .before .before .before .before .before .before .before .before .before .before .before .loop .inv .0 p w in
+    let at = found-at (w .ground) (w .seed) f (c .before .before .before .before .before .before .before .before .before .before .before .before .before .before .before .loop-test .taken) long (c .before .before .before .before .before .before .before .before .before .before .before .before .before .before .before .before .before .first-other .result) (c .before .before .before .before .before .before .before .before .before .before .before .before .before .before .before .before .before .first-other .ensures) .1 in
+    let below : c .before .before .before .before .before .before .before .before .before .before .before .before .before .before .before .before .loop .j < length (children p (s .args .m)) = omega (arith, c .before .before .before .before .before .before .before .before .before .before .before .before .before .before .before .loop-test .taken, found-count (w .ground) (w .seed) f long) in
+    let g = c .before .before .before .before .before .before .before .before .before .plant .ensures p (growable-child w v f (c .before .before .before .before .before .before .before .before .before .before .before .before .before .before .before .loop-test .taken) long (c .before .before .before .before .before .before .before .before .before .before .before .before .before .before .before .before .before .first-other .ensures) (omega (arith, rest, c .before .before .before .before .before .before .before .before .before .before .before .before .before .before .before .before .loop .inv .4))) in
+    grown-over (w₀ .ground) (w₀ .seed) (s .args .parent) v below at g (c .if2 .taken)
 
 grow-add-j : (t : ℕ) → grow-lts.Need-add-j (grow-claims t) (grow-at t) grow.Post grow-Inv-loop grow-μ-loop
 grow-add-j t c =
@@ -186,13 +186,19 @@ grow-loop-again t c =
     let s = c .before .before .before .before .before .before .before .before .before .before .before .before .before .before .before .before .before .before .before .before .before .before .before .before .before .before .before .before .before in
     let f = found-again (c .before .before .before .before .before .before .before .before .before .before .before .before .before .before .before .before .before .before .before .before .find-children .ensures) (c .before .before .before .before .before .before .before .before .before .before .before .before .before .before .before .before .loop .inv .5) in
     let long : c .before .before .before .before .before .before .before .before .before .before .before .before .before .before .before .before .before .before .before .before .find-children .result ≤ length (c .before .before .before .before .before .before .before .before .before .before .before .before .before .before .before .before .loop .kids) = omega (arith, seed-room (s .pre .1 .1 .ground) (s .pre .1 .1 .seed), found-few (s .pre .1 .1 .ground) (s .pre .1 .1 .seed) f, c .before .before .before .before .before .before .before .before .before .before .before .before .before .before .before .before .before .before .before .before .find-children .kept .1 .1 .1 .1 .0, c .before .before .before .before .before .before .before .before .before .before .before .before .before .before .before .before .loop .inv .4) in
-    let rest = mid-len (c .before .before .before .before .before .before .before .before .before .before .before .before .before .before .before .before .before .before .before .before .find-children .result) (length (c .before .before .before .before .before .before .before .before .before .before .before .before .before .before .before .before .loop .kids)) (c .before .before .before .before .before .before .before .before .before .before .before .before .before .before .before .before .loop .kids) (le-refl _) in
-    (λ p w.
-      let v = c .before .before .before .before .before .before .before .before .before .before .before .before .before .before .before .before .loop .inv .0 p w in
-      let at = found-at (w .ground) (w .seed) f (c .before .before .before .before .before .before .before .before .before .before .before .before .before .before .before .loop-test .taken) long (c .before .before .before .before .before .before .before .before .before .before .before .before .before .before .before .before .before .first-other .result) (c .before .before .before .before .before .before .before .before .before .before .before .before .before .before .before .before .before .first-other .ensures) .1 in
-      let below : c .before .before .before .before .before .before .before .before .before .before .before .before .before .before .before .before .loop .j < length (children p (s .args .m)) = omega (arith, c .before .before .before .before .before .before .before .before .before .before .before .before .before .before .before .loop-test .taken, found-count (w .ground) (w .seed) f long) in
-      let g = c .before .before .before .before .before .before .before .before .before .plant .ensures p (growable-child w v f (c .before .before .before .before .before .before .before .before .before .before .before .before .before .before .before .loop-test .taken) long (c .before .before .before .before .before .before .before .before .before .before .before .before .before .before .before .before .before .first-other .ensures) (omega (arith, rest, c .before .before .before .before .before .before .before .before .before .before .before .before .before .before .before .before .loop .inv .4))) in
-      row-more v below at g (c .if2 .left) (c .before .before .before .before .before .before .before .before .before .plant .kept .1 .1 .1 .1 .1 .1 .1 .1 .1 .0), c .before .before .before .before .before .before .before .before .before .plant .kept .1 .1 .1 .1 .1 .1 .1 .0 ∙ c .before .before .before .before .before .before .before .before .before .before .before .before .before .before .before .before .loop .inv .1, c .before .before .before .before .before .before .before .before .before .plant .kept .1 .1 .1 .1 .1 .1 .1 .1 .0 ∙ c .before .before .before .before .before .before .before .before .before .before .before .before .before .before .before .before .loop .inv .2, c .before .before .before .before .before .before .before .before .before .plant .kept .1 .1 .1 .1 .1 .1 .1 .1 .1 .0 ∙ c .before .before .before .before .before .before .before .before .before .before .before .before .before .before .before .before .loop .inv .3, c .before .before .kids2 .given .1 ∙ c .before .before .before .before .before .before .before .before .before .before .before .before .before .before .before .before .loop .inv .4, take-put (c .before .before .before .before .before .before .before .before .before .before .before .before .before .before .before .before .before .before .before .before .find-children .result) (length (c .before .before .before .before .before .before .before .before .before .before .before .before .before .before .before .before .loop .kids) - c .before .before .before .before .before .before .before .before .before .before .before .before .before .before .before .before .before .before .before .before .find-children .result) (c .before .before .before .before .before .before .before .before .before .before .before .before .before .before .before .before .loop .kids) (c .before .before .before .before .before .before .before .before .before .plant .last .1 .1 .1 .1 .1 .1 .1 .1 .1 .1 .0) long ∙ c .before .before .before .before .before .before .before .before .before .before .before .before .before .before .before .before .loop .inv .5)
+    let rest = mid-len (c .before .before .before .before .before .before .before .before .before .before .before .before .before .before .before .before .before .before .before .before .find-children .result) (length (c .before .before .before .before .before .before .before .before .before .before .before .before .before .before .before .before .loop .kids)) (c .before .before .before .before .before .before .before .before .before .before .before .before .before .before .before .before .loop .kids) (le-refl _) in (
+      λ p w.
+          let v = c .before .before .before .before .before .before .before .before .before .before .before .before .before .before .before .before .loop .inv .0 p w in
+          let at = found-at (w .ground) (w .seed) f (c .before .before .before .before .before .before .before .before .before .before .before .before .before .before .before .loop-test .taken) long (c .before .before .before .before .before .before .before .before .before .before .before .before .before .before .before .before .before .first-other .result) (c .before .before .before .before .before .before .before .before .before .before .before .before .before .before .before .before .before .first-other .ensures) .1 in
+          let below : c .before .before .before .before .before .before .before .before .before .before .before .before .before .before .before .before .loop .j < length (children p (s .args .m)) = omega (arith, c .before .before .before .before .before .before .before .before .before .before .before .before .before .before .before .loop-test .taken, found-count (w .ground) (w .seed) f long) in
+          let g = c .before .before .before .before .before .before .before .before .before .plant .ensures p (growable-child w v f (c .before .before .before .before .before .before .before .before .before .before .before .before .before .before .before .loop-test .taken) long (c .before .before .before .before .before .before .before .before .before .before .before .before .before .before .before .before .before .first-other .ensures) (omega (arith, rest, c .before .before .before .before .before .before .before .before .before .before .before .before .before .before .before .before .loop .inv .4))) in
+          row-more v below at g (c .if2 .left) (c .before .before .before .before .before .before .before .before .before .plant .kept .1 .1 .1 .1 .1 .1 .1 .1 .1 .0),
+      c .before .before .before .before .before .before .before .before .before .plant .kept .1 .1 .1 .1 .1 .1 .1 .0 ∙ c .before .before .before .before .before .before .before .before .before .before .before .before .before .before .before .before .loop .inv .1,
+      c .before .before .before .before .before .before .before .before .before .plant .kept .1 .1 .1 .1 .1 .1 .1 .1 .0 ∙ c .before .before .before .before .before .before .before .before .before .before .before .before .before .before .before .before .loop .inv .2,
+      c .before .before .before .before .before .before .before .before .before .plant .kept .1 .1 .1 .1 .1 .1 .1 .1 .1 .0 ∙ c .before .before .before .before .before .before .before .before .before .before .before .before .before .before .before .before .loop .inv .3,
+      c .before .before .kids2 .given .1 ∙ c .before .before .before .before .before .before .before .before .before .before .before .before .before .before .before .before .loop .inv .4,
+      take-put (c .before .before .before .before .before .before .before .before .before .before .before .before .before .before .before .before .before .before .before .before .find-children .result) (length (c .before .before .before .before .before .before .before .before .before .before .before .before .before .before .before .before .loop .kids) - c .before .before .before .before .before .before .before .before .before .before .before .before .before .before .before .before .before .before .before .before .find-children .result) (c .before .before .before .before .before .before .before .before .before .before .before .before .before .before .before .before .loop .kids) (c .before .before .before .before .before .before .before .before .before .plant .last .1 .1 .1 .1 .1 .1 .1 .1 .1 .1 .0) long ∙ c .before .before .before .before .before .before .before .before .before .before .before .before .before .before .before .before .loop .inv .5,
+    )
 
 grow-same-length-5 : (t : ℕ) → grow-lts.Need-same-length-5 (grow-claims t) (grow-at t) grow.Post grow-Inv-loop grow-μ-loop
 grow-same-length-5 t c = c .before .loop .inv .1 ∙ length-set (c .before .before .before .before .before .before .before .before .before .before .before .before .before .before .args .masks .now) (c .before .before .before .before .before .before .before .before .before .before .before .before .before .before .args .at) (c .before .before .before .before .before .before .before .before .before .before .before .before .before .before .args .m)
@@ -212,8 +218,8 @@ grow-returns-3 t c =
     let f = found-again (c .before .before .before .before .before .find-children .ensures) (c .before .loop .inv .5) in
     let long : c .before .before .before .before .before .find-children .result ≤ length (c .before .loop .kids) = omega (arith, seed-room (s .pre .1 .1 .ground) (s .pre .1 .1 .seed), found-few (s .pre .1 .1 .ground) (s .pre .1 .1 .seed) f, c .before .before .before .before .before .find-children .kept .1 .1 .1 .1 .0, c .before .loop .inv .4) in
     λ p w.
-      let v = c .before .loop .inv .0 p (growable-root w (s .args .parent) (c .before .before .before .before .before .before .before .if1 .left) (c .before .before .before .before .before .find-children .kept .1 .1 .1 .1 .0)) in
-      grown-whole (w .ground) (w .seed) (s .args .parent) v (omega (arith, c .loop-test .left, found-count (w .ground) (w .seed) f long))
+    let v = c .before .loop .inv .0 p (growable-root w (s .args .parent) (c .before .before .before .before .before .before .before .if1 .left) (c .before .before .before .before .before .find-children .kept .1 .1 .1 .1 .0)) in
+    grown-whole (w .ground) (w .seed) (s .args .parent) v (omega (arith, c .loop-test .left, found-count (w .ground) (w .seed) f long))
 
 plant-mul-e : (t : ℕ) → plant-lts.Need-mul-e (plant-claims t) (plant-at t) plant.Post
 plant-mul-e t c = let s = c .before .before .before .before .before .before in omega (arith, s .pre .1 .0, length-append (s .args .accepting .now) (s .args .rejecting .now), s .pre .1 .2 .1 .ground .accepting-few, s .pre .1 .2 .1 .ground .rejecting-few)
@@ -283,8 +289,8 @@ plant-returns-3 : (t : ℕ) → plant-lts.Need-returns-3 (plant-claims t) (plant
 plant-returns-3 t c =
     let s = c .before .before .before .before .before .before .before .before .before .before .before in
     λ p w.
-      let z = seen-at (w .room) (s .args .i) (c .before .before .start-of .result) (c .before .size-of .result) (s .pre .1 .0) (c .before .before .before .if1 .left) (c .before .before .start-of .ensures) (c .before .size-of .ensures) in
-      grown-none (w .room) _ (s .args .parent) (omega (arith, c .if3 .taken, z .0))
+    let z = seen-at (w .room) (s .args .i) (c .before .before .start-of .result) (c .before .size-of .result) (s .pre .1 .0) (c .before .before .before .if1 .left) (c .before .before .start-of .ensures) (c .before .size-of .ensures) in
+    grown-none (w .room) _ (s .args .parent) (omega (arith, c .if3 .taken, z .0))
 
 plant-copy-tree-requires : (t : ℕ) → plant-lts.Need-copy-tree-requires (plant-claims t) (plant-at t) plant.Post
 plant-copy-tree-requires t c κs =
@@ -305,8 +311,8 @@ plant-returns-4 : (t : ℕ) → plant-lts.Need-returns-4 (plant-claims t) (plant
 plant-returns-4 t c =
     let s = c .before .before .before .before .before .before .before .before .before .before .before .before .before .before .before .before .before .before in
     λ p w.
-      let z = seen-at (w .room) (s .args .i) (c .before .before .before .before .before .before .before .before .before .start-of .result) (c .before .before .before .before .before .before .before .before .size-of .result) (s .pre .1 .0) (c .before .before .before .before .before .before .before .before .before .before .if1 .left) (c .before .before .before .before .before .before .before .before .before .start-of .ensures) (c .before .before .before .before .before .before .before .before .size-of .ensures) in
-      grown-copy (w .room) _ (s .args .parent) (c .before .before .before .before .before .before .before .before .size-of .result) (z .0) (c .before .before .before .before .before .before .before .if3 .left) (c .before .before .before .before .copy-tree .ensures .0 ∙ copy-masks (z .1) (c .before .before .before .before .before .before .before .before .size-of .result) (z .0)) (c .before .before .before .before .copy-tree .ensures .1 ∙ copy-parents (z .1) (c .before .before .before .before .before .before .before .before .size-of .result) (s .args .parent) (z .0) (seed-parents (w .ground) (w .seed)))
+    let z = seen-at (w .room) (s .args .i) (c .before .before .before .before .before .before .before .before .before .start-of .result) (c .before .before .before .before .before .before .before .before .size-of .result) (s .pre .1 .0) (c .before .before .before .before .before .before .before .before .before .before .if1 .left) (c .before .before .before .before .before .before .before .before .before .start-of .ensures) (c .before .before .before .before .before .before .before .before .size-of .ensures) in
+    grown-copy (w .room) _ (s .args .parent) (c .before .before .before .before .before .before .before .before .size-of .result) (z .0) (c .before .before .before .before .before .before .before .if3 .left) (c .before .before .before .before .copy-tree .ensures .0 ∙ copy-masks (z .1) (c .before .before .before .before .before .before .before .before .size-of .result) (z .0)) (c .before .before .before .before .copy-tree .ensures .1 ∙ copy-parents (z .1) (c .before .before .before .before .before .before .before .before .size-of .result) (s .args .parent) (z .0) (seed-parents (w .ground) (w .seed)))
 
 pub +grow+plant-spec : {M : Type 1} → statement M
 +grow+plant-spec = close μ-grow μ-plant (λ t. grow-lts.spec (grow-claims t)
