@@ -2,7 +2,7 @@
 -- all edges are written. Assumes nothing.
 use Prim.Native.Nat.{ℕ, zero, suc, _+_, _*_, _-_, _/_, _%_, _≤_, _<_}
 use native.Mathlib.Omega.{arith}
-use native.Mathlib.Nat.{mod-lt, div-add-mod', div-lt-iff-lt-mul, mul-comm, mul-le-mul-right}
+use native.Mathlib.Nat.{mod-lt, div-add-mod', div-lt-iff-lt-mul, mul-comm, mul-le-mul-right, suc-mul}
 use native.Mathlib.Decide.{ℕ-discrete, decLt}
 use mathlib.Core.Path.{_≡_, refl, sym, ap, ap₂, _∙_, subst}
 use mathlib.Core.Logic.{_⊎_, inl, inr}
@@ -17,7 +17,7 @@ use Rattle.tables.specs.Tables.{padded, zeros}
 use Rattle.tables.proofs.Tables.{length-padded, getD-padded}
 use Rattle.policy.specs.declared.Policy.{Policy}
 use Rattle.policy.specs.Policies.{legal, edges, edgeOf, source, targetOf}
-use Rattle.policy.proofs.Laws.{legal-counts, legal-target, edges-le, edge-lt, source-lt}
+use Rattle.policy.proofs.Laws.{legal-counts, legal-target, edges-le, edge-lt}
 use Rattle.decomposition.specs.Forest.{forest}
 use Rattle.decomposition.proofs.Forest.{forest-laws}
 use Rattle.builder.specs.Automaton.{orElse, leaves, leafAfter, priorityAfter, built, stateAt, number, rowTarget, rowPriority, rowTargets, rowPriorities}
@@ -116,8 +116,8 @@ module _ (p : Policy) where
 
 -- ---- the rows of several edges
 module _ (p : Policy) where
-  pub rowed-none : (t k : List ℕ) → Rowed p t k t k 0 0
-  rowed-none t k = record { targets-are = towards-none (rowTargets p) t; priorities-are = towards-none (rowPriorities p) k; done = λ s a h i j q. absurd (omega arith) }
+  pub rowed-none : (t k : List ℕ) (n : ℕ) → Rowed p t k t k n n
+  rowed-none t k n = record { targets-are = towards-none (rowTargets p) t; priorities-are = towards-none (rowPriorities p) k; done = λ s a h i j q. absurd (omega arith) }
 
   pub rowed-both : {t₀ k₀ t₁ k₁ t k : List ℕ} {a b c : ℕ} → Rowed p t₀ k₀ t₁ k₁ a b → Rowed p t₁ k₁ t k b c → Rowed p t₀ k₀ t k a c
   rowed-both {t₀} {k₀} {t₁} {k₁} {t} {k} {a} {b} {c} u v = record {
@@ -152,73 +152,99 @@ module _ (p : Policy) where
             let a : i % p .letters < p .letters = mod-lt i some in
             (s, a, w .done (i / p .letters) (i % p .letters) s a (omega arith) (omega (arith, edge-lt p (stateAt p (i / p .letters) .state) (i % p .letters) (built-good p (forest-laws p ok) (i / p .letters) s .0) a)))
 
--- ---- the rows of one edge
--- those of the states over its source up to s are written
-pub record Edging (p : Policy) (e : ℕ) (t₀ k₀ t k : List ℕ) (s : ℕ) : Type 0 where
-  pub at-least : firstOver p (source p e) ≤ s
-  pub at-most : s ≤ firstOver p (source p e + 1)
+-- ---- by states, and by letters
+module _ (p : Policy) where
+  pub rowed-first : (t k : List ℕ) → Rowed p t k t k 0 (edgeOf p 0 0)
+  unfolding edgeOf
+  rowed-first t k = let e : 0 ≡ 0 * p .letters + 0 = omega arith in subst (Rowed p t k t k 0) e (rowed-none p t k 0)
+
+  module _ {t₀ k₀ t₁ k₁ t k : List ℕ} (v a : ℕ) where
+    -- a letter more
+    pub rowed-letter : Rowed p t₀ k₀ t₁ k₁ (edgeOf p v 0) (edgeOf p v a) → Rowed p t₁ k₁ t k (edgeOf p v a) (edgeOf p v a + 1) → Rowed p t₀ k₀ t k (edgeOf p v 0) (edgeOf p v (a + 1))
+    unfolding edgeOf
+    rowed-letter u w = let e : v * p .letters + a + 1 ≡ v * p .letters + (a + 1) = omega arith in subst (Rowed p t₀ k₀ t k (edgeOf p v 0)) e (rowed-both p u w)
+
+    -- a state more, once all its letters are done
+    pub rowed-state : Rowed p t₀ k₀ t₁ k₁ 0 (edgeOf p v 0) → Rowed p t₁ k₁ t k (edgeOf p v 0) (edgeOf p v a) → a ≡ p .letters → Rowed p t₀ k₀ t k 0 (edgeOf p (v + 1) 0)
+    unfolding edgeOf
+    rowed-state u w h = let e : v * p .letters + a ≡ (v + 1) * p .letters + 0 = omega (arith, suc-mul v (p .letters)) in subst (Rowed p t₀ k₀ t k 0) e (rowed-both p u w)
+
+  pub all-edges : (v : ℕ) → p .states ≤ v → edges p ≤ edgeOf p v 0
+  unfolding edgeOf edges
+  all-edges v h = omega (arith, mul-le-mul-right (p .letters) h)
+
+-- ---- the rows of one edge, that of a state v and a letter a
+-- those of the states over v up to s are written
+pub record Edging (p : Policy) (v a : ℕ) (t₀ k₀ t k : List ℕ) (s : ℕ) : Type 0 where
+  pub at-least : firstOver p v ≤ s
+  pub at-most : s ≤ firstOver p (v + 1)
   pub targets-are : Towards (rowTargets p) t₀ t
   pub priorities-are : Towards (rowPriorities p) k₀ k
-  pub done : (j : ℕ) → firstOver p (source p e) ≤ j → j < s → HasRow p t k j (e % p .letters)
+  pub done : (j : ℕ) → firstOver p v ≤ j → j < s → HasRow p t k j a
 
-module _ (p : Policy) (ok : legal p ≡ true) (e : ℕ) (he : e < edges p) where
-  letter-lt : e % p .letters < p .letters
-  letter-lt = mod-lt e (some p ok)
+module _ (p : Policy) (ok : legal p ≡ true) (v a : ℕ) (hv : v < p .states) (ha : a < p .letters) where
+  pub edge-in : v * p .letters + a < edges p
+  unfolding edgeOf
+  edge-in = edge-lt p v a hv ha
 
-  pub letters-pos : 1 ≤ p .letters
-  letters-pos = some p ok
+  pub edge-place : v * p .letters + a < 64
+  edge-place = omega (arith, edge-in, edges-le p ok)
 
-  pub edge-place : e < 64
-  edge-place = omega (arith, edges-le p ok)
+  pub source-small : v < 16
+  source-small = omega (arith, legal-counts p ok .states-few)
 
-  pub source-small : e / p .letters < 16
+  edge-is : edgeOf p v a ≡ v * p .letters + a
+  unfolding edgeOf
+  edge-is = refl
+
+  source-is : source p (v * p .letters + a) ≡ v
   unfolding source
-  source-small = omega (arith, source-lt p ok e he, legal-counts p ok .states-few)
+  source-is = digits-div v {m = p .letters} {r = a} ha
 
-  edge-is : edgeOf p (source p e) (e % p .letters) ≡ e
-  unfolding edgeOf source
-  edge-is = div-add-mod' e (p .letters)
-
-  -- only a state over the source has it, by this letter
-  edge-only : (v a : ℕ) → a < p .letters → edgeOf p v a ≡ e → (v ≡ source p e) × (a ≡ e % p .letters)
-  unfolding edgeOf source
-  edge-only v a h q = (
-    sym (digits-div v {m = p .letters} {r = a} h) ∙ ap (λ (x : ℕ). x / p .letters) q,
-    sym (digits-mod v {m = p .letters} {r = a} h) ∙ ap (λ (x : ℕ). x % p .letters) q,
+  -- only a state over v has it, by this letter
+  edge-only : (u b : ℕ) → b < p .letters → edgeOf p u b ≡ v * p .letters + a → (u ≡ v) × (b ≡ a)
+  unfolding edgeOf
+  edge-only u b h q = (
+    sym (digits-div u {m = p .letters} {r = b} h) ∙ ap (λ (x : ℕ). x / p .letters) q ∙ digits-div v {m = p .letters} {r = a} ha,
+    sym (digits-mod u {m = p .letters} {r = b} h) ∙ ap (λ (x : ℕ). x % p .letters) q ∙ digits-mod v {m = p .letters} {r = a} ha,
   )
 
   module _ (starts : List ℕ) (st : Starts p starts) where
-    pub source-run : (getD starts (e / p .letters) 0 ≡ firstOver p (source p e)) × (getD starts (e / p .letters + 1) 0 ≡ firstOver p (source p e + 1))
-    unfolding source
-    source-run = (st (e / p .letters) (omega (arith, source-lt p ok e he)), st (e / p .letters + 1) (omega (arith, source-lt p ok e he)))
+    pub source-run : (getD starts v 0 ≡ firstOver p v) × (getD starts (v + 1) 0 ≡ firstOver p (v + 1))
+    source-run = (st v (omega arith), st (v + 1) (omega arith))
 
-    pub target-run : (heads : List ℕ) (w : ℕ) → heads ≡ p .target → w ≡ getD heads e 0 → (w < 16) × (getD starts w 0 ≡ firstOver p (targetOf p e)) × (getD starts (w + 1) 0 ≡ firstOver p (targetOf p e + 1))
+    pub target-run : (heads : List ℕ) (w : ℕ) → heads ≡ p .target → w ≡ getD heads (v * p .letters + a) 0
+        → (w < 16) × (getD starts w 0 ≡ firstOver p (targetOf p (v * p .letters + a))) × (getD starts (w + 1) 0 ≡ firstOver p (targetOf p (v * p .letters + a) + 1))
     unfolding targetOf
     target-run heads w h q = (
-      omega (arith, is, legal-target p ok e he, legal-counts p ok .states-few),
-      st w (omega (arith, is, legal-target p ok e he)) ∙ ap (firstOver p) is,
-      st (w + 1) (omega (arith, is, legal-target p ok e he)) ∙ ap (λ (x : ℕ). firstOver p (x + 1)) is,
+      omega (arith, is, legal-target p ok e edge-in, legal-counts p ok .states-few),
+      st w (omega (arith, is, legal-target p ok e edge-in)) ∙ ap (firstOver p) is,
+      st (w + 1) (omega (arith, is, legal-target p ok e edge-in)) ∙ ap (λ (x : ℕ). firstOver p (x + 1)) is,
     )
       where
+        e : ℕ
+        e = v * p .letters + a
+
         is : w ≡ targetOf p e
         is = q ∙ ap (λ (l : List ℕ). getD l e 0) h
 
-  pub edging-none : (t k : List ℕ) (s : ℕ) → s ≡ firstOver p (source p e) → Edging p e t k t k s
+  pub edging-none : (t k : List ℕ) (s : ℕ) → s ≡ firstOver p v → Edging p v a t k t k s
   edging-none t k s q = record {
     at-least = omega arith;
-    at-most = omega (arith, over-mono p (source p e));
+    at-most = omega (arith, over-mono p v);
     targets-are = towards-none (rowTargets p) t;
     priorities-are = towards-none (rowPriorities p) k;
-    done = λ j a b. absurd (omega arith);
+    done = λ j x y. absurd (omega arith);
   }
 
-  module _ {t₀ k₀ t k : List ℕ} {s : ℕ} (w : Edging p e t₀ k₀ t k s) where
-    module _ (h : s < firstOver p (source p e + 1)) where
-      in-built : (s < length (built p)) × (stateAt p s .state ≡ source p e)
-      in-built = in-run p (source p e) s (w .at-least) h
+  module _ {t₀ k₀ t k : List ℕ} {s : ℕ} (w : Edging p v a t₀ k₀ t k s) where
+    module _ (h : s < firstOver p (v + 1)) where
+      in-built : (s < length (built p)) × (stateAt p s .state ≡ v)
+      in-built = in-run p v s (w .at-least) h
 
-      edge-at : edgeOf p (stateAt p s .state) (e % p .letters) ≡ e
-      edge-at = ap (λ (v : ℕ). edgeOf p v (e % p .letters)) (in-built .1) ∙ edge-is
+      edge-at : edgeOf p (stateAt p s .state) a ≡ v * p .letters + a
+      unfolding edgeOf
+      edge-at = ap (λ (u : ℕ). u * p .letters + a) (in-built .1)
 
       module _ (entries : List ℕ) (col : LeafColumn p entries) where
         pub edging-small : (s < length entries) × (s < 65535)
@@ -227,12 +253,13 @@ module _ (p : Policy) (ok : legal p ≡ true) (e : ℕ) (he : e < edges p) where
         leaf-is : getD entries s 0 ≡ stateAt p s .leaf
         leaf-is = col .are s (in-built .0)
 
-        pub edging-leaf : (l : ℕ) → l ≡ getD entries s 0 → List·Memᴰ l (orElse 65535 (leaves (forest p) p (source p e)))
+        pub edging-leaf : (l : ℕ) → l ≡ getD entries s 0 → List·Memᴰ l (orElse 65535 (leaves (forest p) p (source p (v * p .letters + a))))
         edging-leaf l q =
-            good-leaves p (forest p) (forest-laws p ok) (source p e) l
-            (subst (λ (x : ℕ). Good (forest p) p (source p e) x) (sym (q ∙ leaf-is)) (subst (λ (v : ℕ). Good (forest p) p v (stateAt p s .leaf)) (in-built .1) (built-good p (forest-laws p ok) s (in-built .0) .1)))
+            good-leaves p (forest p) (forest-laws p ok) (source p (v * p .letters + a)) l
+            (subst (λ (x : ℕ). Good (forest p) p (source p (v * p .letters + a)) x) (sym (q ∙ leaf-is))
+            (subst (λ (u : ℕ). Good (forest p) p u (stateAt p s .leaf)) (in-built .1 ∙ sym source-is) (built-good p (forest-laws p ok) s (in-built .0) .1)))
 
-        edging-row : (l x y : ℕ) → l ≡ getD entries s 0 → RowFrom p e l x y → (x ≡ rowTarget p s (e % p .letters)) × (y ≡ rowPriority p s (e % p .letters))
+        edging-row : (l x y : ℕ) → l ≡ getD entries s 0 → RowFrom p (v * p .letters + a) l x y → (x ≡ rowTarget p s a) × (y ≡ rowPriority p s a)
         unfolding rowTarget rowPriority
         edging-row l x y q r = (
           r .target-is ∙ ap₂ (λ (d i : ℕ). number p (targetOf p d) (leafAfter (forest p) p d i)) (sym edge-at) (q ∙ leaf-is),
@@ -240,48 +267,48 @@ module _ (p : Policy) (ok : legal p ≡ true) (e : ℕ) (he : e < edges p) where
         )
 
         module _ (lt : p .letters * length (built p) ≤ length t₀) (lk : p .letters * length (built p) ≤ length k₀) where
-          at-row : s * p .letters + e % p .letters < length (built p) * p .letters
-          at-row = row-lt p s (e % p .letters) (in-built .0) letter-lt
+          at-row : s * p .letters + a < length (built p) * p .letters
+          at-row = row-lt p s a (in-built .0) ha
 
-          pub edging-in : (s * p .letters + e % p .letters < length t) × (s * p .letters + e % p .letters < length k) × (s * p .letters + e % p .letters < 524280)
+          pub edging-in : (s * p .letters + a < length t) × (s * p .letters + a < length k) × (s * p .letters + a < 524280)
           edging-in = (
             omega (arith, at-row, w .targets-are .long, rows-room p ok t₀ lt),
             omega (arith, at-row, w .priorities-are .long, rows-room p ok k₀ lk),
             omega (arith, at-row, mul-le-mul-right (p .letters) (col .few), legal-counts p ok .letters-few),
           )
 
-          pub edging-more : (l x y : ℕ) → l ≡ getD entries s 0 → RowFrom p e l x y → Edging p e t₀ k₀ (set t (s * p .letters + e % p .letters) x) (set k (s * p .letters + e % p .letters) y) (s + 1)
+          pub edging-more : (l x y : ℕ) → l ≡ getD entries s 0 → RowFrom p (v * p .letters + a) l x y → Edging p v a t₀ k₀ (set t (s * p .letters + a) x) (set k (s * p .letters + a) y) (s + 1)
           edging-more l x y q r = record {
             at-least = omega (arith, w .at-least);
             at-most = omega arith;
             targets-are = towards-both (rowTargets p) (w .targets-are) ut;
             priorities-are = towards-both (rowPriorities p) (w .priorities-are) uk;
-            done = λ j a b. go j a b (ℕ-discrete j s);
+            done = λ j b c. go j b c (ℕ-discrete j s);
           }
             where
               i : ℕ
-              i = s * p .letters + e % p .letters
+              i = s * p .letters + a
 
-              is : (x ≡ rowTarget p s (e % p .letters)) × (y ≡ rowPriority p s (e % p .letters))
+              is : (x ≡ rowTarget p s a) × (y ≡ rowPriority p s a)
               is = edging-row l x y q r
 
               ut : Towards (rowTargets p) t (set t i x)
-              ut = towards-set (rowTargets p) t i x (edging-in .0) (omega (arith, at-row, length-targets p)) (is .0 ∙ sym (target-in p s (e % p .letters) (in-built .0) letter-lt))
+              ut = towards-set (rowTargets p) t i x (edging-in .0) (omega (arith, at-row, length-targets p)) (is .0 ∙ sym (target-in p s a (in-built .0) ha))
 
               uk : Towards (rowPriorities p) k (set k i y)
-              uk = towards-set (rowPriorities p) k i y (edging-in .1) (omega (arith, at-row, length-priorities p)) (is .1 ∙ sym (priority-in p s (e % p .letters) (in-built .0) letter-lt))
+              uk = towards-set (rowPriorities p) k i y (edging-in .1) (omega (arith, at-row, length-priorities p)) (is .1 ∙ sym (priority-in p s a (in-built .0) ha))
 
-              go : (j : ℕ) → firstOver p (source p e) ≤ j → j < s + 1 → Dec (j ≡ s) → HasRow p (set t i x) (set k i y) j (e % p .letters)
-              go j a b (yes z) =
-                  subst (λ (n : ℕ). HasRow p (set t i x) (set k i y) n (e % p .letters)) (sym z)
+              go : (j : ℕ) → firstOver p v ≤ j → j < s + 1 → Dec (j ≡ s) → HasRow p (set t i x) (set k i y) j a
+              go j b c (yes z) =
+                  subst (λ (n : ℕ). HasRow p (set t i x) (set k i y) n a) (sym z)
                   (record { target-is = getD-set-same t i x 0 (edging-in .0) ∙ is .0; priority-is = getD-set-same k i y 0 (edging-in .1) ∙ is .1 })
-              go j a b (no z) = has-kept p j (e % p .letters) (omega (arith, in-built .0)) letter-lt ut uk (w .done j a (omega arith))
+              go j b c (no z) = has-kept p j a (omega (arith, in-built .0)) ha ut uk (w .done j b (omega arith))
 
-    pub edging-all : firstOver p (source p e + 1) ≤ s → Rowed p t₀ k₀ t k e (e + 1)
-    edging-all h = record { targets-are = w .targets-are; priorities-are = w .priorities-are; done = λ j a i l m n. go j a i l (omega arith) }
+    pub edging-all : firstOver p (v + 1) ≤ s → Rowed p t₀ k₀ t k (edgeOf p v a) (edgeOf p v a + 1)
+    edging-all h = record { targets-are = w .targets-are; priorities-are = w .priorities-are; done = λ j b i l m n. go j b i l (omega arith) }
       where
-        go : (j a : ℕ) → j < length (built p) → a < p .letters → edgeOf p (stateAt p j .state) a ≡ e → HasRow p t k j a
-        go j a i l q =
-            let o = edge-only (stateAt p j .state) a l q in
-            let r = run-has p (source p e) j i (o .0) in
+        go : (j b : ℕ) → j < length (built p) → b < p .letters → edgeOf p (stateAt p j .state) b ≡ edgeOf p v a → HasRow p t k j b
+        go j b i l q =
+            let o = edge-only (stateAt p j .state) b l (q ∙ edge-is) in
+            let r = run-has p v j i (o .0) in
             subst (HasRow p t k j) (sym (o .1)) (w .done j (r .0) (omega (arith, r .1)))

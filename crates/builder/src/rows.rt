@@ -6,7 +6,7 @@ ghost use mathlib.Core.List.{List·Memᴰ};
 ghost use mathlib.Core.Bool.{true};
 ghost use Prim.Native.Nat.{ℕ, _+_, _*_, _≤_, _<_};
 ghost use lib.ListN.{length, getD};
-ghost use Rattle.policy.specs.Policies.{legal, edges, source, targetOf};
+ghost use Rattle.policy.specs.Policies.{legal, edges, edgeOf, source, targetOf};
 ghost use Rattle.decomposition.specs.Forest.{forest};
 ghost use Rattle.builder.specs.Automaton.{orElse, leaves, built};
 ghost use Rattle.builder.specs.Stages.{firstOver, Nodes, Ends, Starts};
@@ -283,7 +283,7 @@ fn share(
     find(p, ends, entries, e, leaf, m, from, to, last.hint)
 }
 
-// The rows of edge e, by ascending leaf: one for each state over its source.
+// The rows of the edge of a state v and a letter, by ascending leaf: one for each state over v.
 pub fn fill_edge(
     p: Policy,
     heads: &[u8; 64],
@@ -293,19 +293,19 @@ pub fn fill_edge(
     ends: &[u16],
     entries: &[u16],
     starts: &[usize; 17],
-    e: usize,
+    v: usize,
+    letter: usize,
     targets: &mut [u16],
     priorities: &mut [u8],
 )
     requires nodes { ⌜ (legal p ≡ true) × Nodes p (now masks) (now parents) (now ranks) × Ends p (now ends) ⌝ }
     requires states { ⌜ LeafColumn p (now entries) × Starts p (now starts) ⌝ }
-    requires edge { ⌜ (e < edges p) × (now heads ≡ p .target) ⌝ }
+    requires edge { ⌜ (v < p .states) × (letter < p .letters) × (now heads ≡ p .target) ⌝ }
     requires room { ⌜ (p .letters * length (built p) ≤ length (now targets)) × (p .letters * length (built p) ≤ length (now priorities)) ⌝ }
-    ensures { λ _. ⌜ Rowed p (now (targets .entry)) (now (priorities .entry)) (now (targets .exit)) (now (priorities .exit)) e (e + 1) ⌝ }
+    ensures { λ _. ⌜ Rowed p (now (targets .entry)) (now (priorities .entry)) (now (targets .exit)) (now (priorities .exit)) (edgeOf p v letter) (edgeOf p v letter + 1) ⌝ }
 {
     let letters = p.letters as usize;
-    let v = e / letters;
-    let letter = e % letters;
+    let e = v * letters + letter;
     let w = byte(heads[e]);
     let from = starts[w];
     let to = starts[w + 1];

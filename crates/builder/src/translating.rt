@@ -15,7 +15,7 @@ ghost use Rattle.builder.specs.Stages.{Nodes, Ends, States, Starts};
 ghost use Rattle.builder.specs.Filling.{Sized, Clear, buildingOf, BuiltTables};
 ghost use Rattle.builder.specs.Tables.{lengthsFit, translationOf, tablesAfter, Hold, tables};
 
-// The rows of the built states, in tables that are cleared, edge by edge.
+// The rows of the built states, in tables that are cleared, edge by edge: by states, and by letters.
 pub fn fill_rows(
     p: Policy,
     heads: &[u8; 64],
@@ -35,21 +35,25 @@ pub fn fill_rows(
     requires cleared { ⌜ (now targets ≡ zeros (now targets)) × (now priorities ≡ zeros (now priorities)) × (p .letters * length (built p) ≤ length (now targets)) × (p .letters * length (built p) ≤ length (now priorities)) ⌝ }
     ensures { λ _. ⌜ (now (targets .exit) ≡ padded (length (now (targets .entry))) (rowTargets p)) × (now (priorities .exit) ≡ padded (length (now (priorities .entry))) (rowPriorities p)) ⌝ }
 {
-    let edges = policy::edges(p);
-    for e in 0..edges {
-        crate::rows::fill_edge(
-            p,
-            heads,
-            masks,
-            parents,
-            ranks,
-            ends,
-            leaves,
-            starts,
-            e,
-            targets,
-            priorities,
-        );
+    let states = p.states as usize;
+    let letters = p.letters as usize;
+    for v in 0..states {
+        for letter in 0..letters {
+            crate::rows::fill_edge(
+                p,
+                heads,
+                masks,
+                parents,
+                ranks,
+                ends,
+                leaves,
+                starts,
+                v,
+                letter,
+                targets,
+                priorities,
+            );
+        }
     }
 }
 

@@ -1,62 +1,95 @@
--- `translating::fill_rows` meets its contract. The invariant: the rows of the edges below e are written. Assumes nothing.
+-- `translating::fill_rows` meets its contract. The invariants: the rows of the edges of the states below v are written; and those of the letters below `letter`, from
+-- v. Assumes nothing.
 use native.Mathlib.Omega.{arith}
-use Prim.Native.Nat.{_-_}
+use Prim.Native.Nat.{_-_, _≤_}
+use native.Mathlib.Nat.{le-antisymm}
+use Rattle.policy.specs.Policies.{edgeOf}
 use Rattle.builder.specs.Rows.{Rowed}
 use Rattle.builder.proofs.RowLaws.{states-leaves}
-use Rattle.builder.proofs.RowTables.{rowed-none, rowed-both, rowed-all}
+use Rattle.builder.proofs.RowTables.{rowed-none, rowed-first, rowed-letter, rowed-state, all-edges, rowed-all}
 use borrow.Author.Needs.{needs}
 use Rattle.builder.proofs.translating.fill_rows.Statement.{statement}
 use Rattle.builder.proofs.translating.fill_rows.Tie as tie
 
+abbrev Inv-loop2 : tie.InvT-loop2
+Inv-loop2 p heads masks parents ranks ends sources leaves starts count targets₀ priorities₀ states letters v letter₀ targets priorities letter =
+    (letter ≤ letters) × Rowed p targets₀ priorities₀ targets priorities (edgeOf p v 0) (edgeOf p v letter)
+
+abbrev μ-loop2 : tie.MeasureT-loop2
+μ-loop2 p heads masks parents ranks ends sources leaves starts count targets₀ priorities₀ states letters v letter₀ targets priorities letter = letters - letter
+
 abbrev Inv-loop : tie.InvT-loop
-Inv-loop p heads masks parents ranks ends sources leaves starts count targets₀ priorities₀ edges e₀ targets priorities e =
-    Rowed p targets₀ priorities₀ targets priorities 0 e
+Inv-loop p heads masks parents ranks ends sources leaves starts count targets₀ priorities₀ states letters v₀ targets priorities v =
+    Rowed p targets₀ priorities₀ targets priorities 0 (edgeOf p v 0)
 
 abbrev μ-loop : tie.MeasureT-loop
-μ-loop p heads masks parents ranks ends sources leaves starts count targets₀ priorities₀ edges e₀ targets priorities e = edges - e
+μ-loop p heads masks parents ranks ends sources leaves starts count targets₀ priorities₀ states letters v₀ targets priorities v = states - v
 
-edges-requires : tie.Need-edges-requires Inv-loop μ-loop
-edges-requires c κs = search needs
+cast-states : tie.Need-cast-states Inv-loop2 μ-loop2 Inv-loop μ-loop
+cast-states c = search needs
 
-loop-holds : tie.Need-loop-holds Inv-loop μ-loop
-loop-holds c = rowed-none _ _ _
+cast-letters : tie.Need-cast-letters Inv-loop2 μ-loop2 Inv-loop μ-loop
+cast-letters c = search needs
 
-fill-edge-requires : tie.Need-fill-edge-requires Inv-loop μ-loop
+loop-holds : tie.Need-loop-holds Inv-loop2 μ-loop2 Inv-loop μ-loop
+loop-holds c = rowed-first _ _ _
+
+loop2-holds : tie.Need-loop2-holds Inv-loop2 μ-loop2 Inv-loop μ-loop
+loop2-holds c = (omega arith, rowed-none _ _ _ _)
+
+fill-edge-requires : tie.Need-fill-edge-requires Inv-loop2 μ-loop2 Inv-loop μ-loop
 fill-edge-requires c κs =
-    let s = c .before .before .before .before .before .before .before .before .before .before .before .before .before in
-    let w = c .before .before .before .loop .inv in
-    ((s .pre .0 .0, s .pre .0 .2, s .pre .0 .3), ((states-leaves (s .args .p) _ _ (s .pre .1 .0 .0), s .pre .1 .0 .1), ((omega (arith, c .before .before .loop-test .taken, c .before .before .before .before .edges .ensures), s .pre .0 .1), (omega (arith, s .pre .1 .1 .2, w .targets-are .long), omega (arith, s .pre .1 .1 .3, w .priorities-are .long)))))
+    let s = c .before .before .before .before .before .before .before .before .before .before .before .before .before .before .before .before in
+    let w = c .before .before .before .before .before .loop .inv in
+    let u = c .before .before .before .loop2 .inv .1 in
+    ((s .pre .0 .0, s .pre .0 .2, s .pre .0 .3), ((states-leaves (s .args .p) _ _ (s .pre .1 .0 .0), s .pre .1 .0 .1), ((c .before .before .before .before .loop-test .taken, c .before .before .loop2-test .taken, s .pre .0 .1), (omega (arith, s .pre .1 .1 .2, w .targets-are .long, u .targets-are .long), omega (arith, s .pre .1 .1 .3, w .priorities-are .long, u .priorities-are .long)))))
 
-add-e : tie.Need-add-e Inv-loop μ-loop
-add-e c = search needs
+add-letter : tie.Need-add-letter Inv-loop2 μ-loop2 Inv-loop μ-loop
+add-letter c = search needs
 
-loop-less : tie.Need-loop-less Inv-loop μ-loop
+loop2-less : tie.Need-loop2-less Inv-loop2 μ-loop2 Inv-loop μ-loop
+loop2-less c = omega arith
+
+loop2-again : tie.Need-loop2-again Inv-loop2 μ-loop2 Inv-loop μ-loop
+loop2-again c = (omega arith, rowed-letter _ _ _ (c .before .before .before .before .before .before .before .before .loop2 .inv .1) (c .before .before .before .before .fill-edge .ensures))
+
+add-v : tie.Need-add-v Inv-loop2 μ-loop2 Inv-loop μ-loop
+add-v c = search needs
+
+loop-less : tie.Need-loop-less Inv-loop2 μ-loop2 Inv-loop μ-loop
 loop-less c = omega arith
 
-loop-again : tie.Need-loop-again Inv-loop μ-loop
-loop-again c = rowed-both _ (c .before .before .before .before .before .before .before .before .loop .inv) (c .before .before .before .before .fill-edge .ensures)
+loop-again : tie.Need-loop-again Inv-loop2 μ-loop2 Inv-loop μ-loop
+loop-again c = rowed-state _ _ _ (c .before .before .before .loop .inv) (c .before .loop2 .inv .1) (le-antisymm (c .before .loop2 .inv .0) (c .loop2-test .left))
 
-same-length : tie.Need-same-length Inv-loop μ-loop
+same-length : tie.Need-same-length Inv-loop2 μ-loop2 Inv-loop μ-loop
 same-length c = c .before .loop .inv .targets-are .long
 
-same-length-2 : tie.Need-same-length-2 Inv-loop μ-loop
+same-length-2 : tie.Need-same-length-2 Inv-loop2 μ-loop2 Inv-loop μ-loop
 same-length-2 c = c .before .loop .inv .priorities-are .long
 
-returns : tie.Need-returns Inv-loop μ-loop
+returns : tie.Need-returns Inv-loop2 μ-loop2 Inv-loop μ-loop
 returns c =
-    let s = c .before .before .before .before .before .before .before .before .before .before .before in
-    rowed-all (s .args .p) (s .pre .0 .0) (c .before .loop .inv) (omega (arith, c .loop-test .left, c .before .before .edges .ensures)) (s .pre .1 .1 .0) (s .pre .1 .1 .1) (s .pre .1 .1 .2) (s .pre .1 .1 .3)
+    let s = c .before .before .before .before .before .before .before .before .before .before .before .before in
+    rowed-all (s .args .p) (s .pre .0 .0) (c .before .loop .inv) (all-edges (s .args .p) _ (c .loop-test .left)) (s .pre .1 .1 .0) (s .pre .1 .1 .1) (s .pre .1 .1 .2) (s .pre .1 .1 .3)
 
 pub fill-rows-spec : {M : Type 1} → statement M
 fill-rows-spec =
     tie.close
     (tie.spec
+    Inv-loop2
+    μ-loop2
     Inv-loop
     μ-loop
-    edges-requires
+    cast-states
+    cast-letters
     loop-holds
+    loop2-holds
     fill-edge-requires
-    add-e
+    add-letter
+    loop2-less
+    loop2-again
+    add-v
     loop-less
     loop-again
     same-length
