@@ -1,6 +1,8 @@
 // Running over the rows of a built automaton: one letter at a time, with questions 8, 11, 12 and 13 asked in order.
 ghost use mathlib.Core.Path.{_≡_};
-ghost use Rattle.running.specs.Running.{shaped, readingOf};
+ghost use Prim.Native.Nat.{_≤_};
+ghost use Rattle.running.specs.Running.{readingOf};
+ghost use Rattle.running.specs.Shapes.{share, statesOf};
 
 // A run of the built automaton: a value that holds its present state.
 pub struct Run {
@@ -13,24 +15,47 @@ pub enum Reading {
     Refused(u8, Run),
 }
 
-// Question 8: letters 1 to 8, row tables of one length, that a multiple of letters, at most 65,535 states.
-pub fn is_shaped(letters: u8, targets: &[u16], priorities: &[u8]) -> bool
-    ensures { λ r. ⌜ r ≡ shaped letters (now (targets .entry)) (now (priorities .entry)) ⌝ }
+// 2^32 divided by the number of letters, rounded up.
+fn share(letters: u8) -> usize
+    requires { ⌜ (1 ≤ letters) × (letters ≤ 8) ⌝ }
+    ensures { λ r. ⌜ r ≡ share letters ⌝ }
+{
+    match letters {
+        1 => 4294967296,
+        2 => 2147483648,
+        3 => 1431655766,
+        4 => 1073741824,
+        5 => 858993460,
+        6 => 715827883,
+        7 => 613566757,
+        _ => 536870912,
+    }
+}
+
+// How many states the rows have, found without a division; 65,536, which is too many, where question 8 is answered no: letters 1 to 8, row tables of one length, that a multiple
+// of letters, at most 65,535 states.
+pub fn states_of(letters: u8, targets: &[u16], priorities: &[u8]) -> usize
+    ensures { λ r. ⌜ r ≡ statesOf letters (now (targets .entry)) (now (priorities .entry)) ⌝ }
 {
     if letters < 1 {
-        return false;
+        return 65536;
     }
     if 8 < letters {
-        return false;
+        return 65536;
     }
-    if targets.len() != priorities.len() {
-        return false;
+    let rows = targets.len();
+    if rows != priorities.len() {
+        return 65536;
     }
     let k = letters as usize;
-    if targets.len() % k != 0 {
-        return false;
+    if 65535 * k < rows {
+        return 65536;
     }
-    targets.len() / k <= 65535
+    let states = rows * share(letters) / 4294967296;
+    if states * k != rows {
+        return 65536;
+    }
+    states
 }
 
 impl Run {
@@ -38,11 +63,11 @@ impl Run {
     pub fn read(self, letter: u8, letters: u8, targets: &[u16], priorities: &[u8]) -> Reading
         ensures { λ r. ⌜ r ≡ readingOf letters (now (targets .entry)) (now (priorities .entry)) self letter ⌝ }
     {
-        if !is_shaped(letters, targets, priorities) {
+        let states = states_of(letters, targets, priorities);
+        if 65535 < states {
             return Reading::Refused(8, self);
         }
         let k = letters as usize;
-        let states = targets.len() / k;
         let at = self.state as usize;
         if states <= at {
             return Reading::Refused(11, self);

@@ -1,51 +1,57 @@
 -- Reading a letter: each answer is the definition's by the tests that led there, every row asked for is in both tables, and nothing wraps.
 -- Assumes nothing.
-use Prim.Native.Nat.{ℕ, _+_, _*_, _<_}
+use Prim.Native.Nat.{ℕ, _+_, _*_, _≤_, _<_}
 use native.Mathlib.Omega.{arith}
-use mathlib.Core.Path.{_≡_, sym, _∙_}
+use mathlib.Core.Path.{_≡_, subst}
 use mathlib.Core.Bool.{true}
 use lib.ListN.{length}
 use borrow.Author.Needs.{needs}
-use borrow.Author.Tests.{lt-ltb, le-ltb, not-true, not-false}
+use borrow.Author.Tests.{lt-ltb, le-ltb}
 use Rattle.running.specs.Running.{shaped, rowStates, readingOf}
 use Rattle.running.proofs.Laws.{Shaped, shaped-facts, row-lt}
+use Rattle.running.proofs.Shapes.{states-shaped, states-unshaped}
 use Rattle.running.proofs.Run.read.Statement.{statement}
 use Rattle.running.proofs.Run.read.Tie as tie
 
-is-shaped-requires : tie.Need-is-shaped-requires
-is-shaped-requires c κs = search needs
+states-of-requires : tie.Need-states-of-requires
+states-of-requires c κs = search needs
 
 returns : tie.Need-returns
 unfolding readingOf
-returns c = simp (sym (c .before .is-shaped .ensures) ∙ not-true _ (c .if1 .taken))
+returns c = simp (states-unshaped _ _ _ _ (c .before .states-of .ensures) (c .if1 .taken))
 
 -- past question 8
 shape : (c : tie.Else1) → let a = c .before .before .before .before .args in shaped (a .letters) (a .targets .now) (a .priorities .now) ≡ true
-shape c = sym (c .before .is-shaped .ensures) ∙ not-false _ (c .if1 .left)
+shape c = states-shaped _ _ _ _ (c .before .states-of .ensures) (c .if1 .left) .0
+
+-- and x is a state, or none
+among : (c : tie.Else1) (x : ℕ) → x < c .before .states-of .result → let a = c .before .before .before .before .args in x < rowStates (a .letters) (a .targets .now) (a .priorities .now)
+among c x h = subst (λ (n : ℕ). x < n) (states-shaped _ _ _ _ (c .before .states-of .ensures) (c .if1 .left) .1) h
+
+beyond : (c : tie.Else1) (x : ℕ) → c .before .states-of .result ≤ x → let a = c .before .before .before .before .args in rowStates (a .letters) (a .targets .now) (a .priorities .now) ≤ x
+beyond c x h = subst (λ (n : ℕ). n ≤ x) (states-shaped _ _ _ _ (c .before .states-of .ensures) (c .if1 .left) .1) h
 
 facts : (c : tie.Else1) → let a = c .before .before .before .before .args in Shaped (a .letters) (a .targets .now) (a .priorities .now)
 facts c = shaped-facts _ _ _ (shape c)
-
-div-states : tie.Need-div-states
-div-states c = omega (arith, facts c)
 
 cast-at : tie.Need-cast-at
 cast-at c = search needs
 
 returns-2 : tie.Need-returns-2
-unfolding readingOf rowStates
-returns-2 c = simp (shape (c .before .before), le-ltb _ _ (c .if2 .taken))
+unfolding readingOf
+returns-2 c = simp (shape (c .before .before), le-ltb _ _ (beyond (c .before .before) _ (c .if2 .taken)))
 
 returns-3 : tie.Need-returns-3
-unfolding readingOf rowStates
+unfolding readingOf
 returns-3 c =
     let a = c .before .before .before .before .before .before .before .args in
-    simp (shape (c .before .before .before), lt-ltb _ _ (c .before .if2 .left), le-ltb (a .letter) (a .letters) (omega (arith, c .if3 .taken)))
+    simp (shape (c .before .before .before), lt-ltb _ _ (among (c .before .before .before) _ (c .before .if2 .left)), le-ltb (a .letter) (a .letters) (omega (arith, c .if3 .taken)))
 
 -- past question 12 the row is in the target table
 row : (c : tie.Else3) → let a = c .before .before .before .before .before .before .before .args in
     a .self .state * a .letters + a .letter < length (a .targets .now)
-row c = row-lt _ _ _ _ (c .before .if2 .left) (c .if3 .left)
+unfolding rowStates
+row c = row-lt _ _ _ _ (among (c .before .before .before) _ (c .before .if2 .left)) (c .if3 .left)
 
 mul-row : tie.Need-mul-row
 mul-row c = omega (arith, row c)
@@ -65,10 +71,11 @@ cast-if4 c =
     omega (arith, c .shared-slice-known3 .given (a .self .state * a .letters + a .letter))
 
 returns-4 : tie.Need-returns-4
-unfolding readingOf rowStates
+unfolding readingOf
 returns-4 c =
     let d = c .before .before in
-    simp (shape (d .before .before .before), lt-ltb _ _ (d .before .if2 .left), lt-ltb _ _ (d .if3 .left), le-ltb _ _ (c .if4 .taken))
+    let e = d .before .before .before in
+    simp (shape e, lt-ltb _ _ (among e _ (d .before .if2 .left)), lt-ltb _ _ (d .if3 .left), le-ltb _ _ (beyond e _ (c .if4 .taken)))
 
 shared-slice-read-met : tie.Need-shared-slice-read-met
 shared-slice-read-met c =
@@ -76,18 +83,18 @@ shared-slice-read-met c =
     omega (arith, row d, facts (d .before .before .before) .same)
 
 returns-5 : tie.Need-returns-5
-unfolding readingOf rowStates
+unfolding readingOf
 returns-5 c =
     let d = c .before .before .before in
-    simp (shape (d .before .before .before), lt-ltb _ _ (d .before .if2 .left), lt-ltb _ _ (d .if3 .left), lt-ltb _ _ (c .before .if4 .left))
+    let e = d .before .before .before in
+    simp (shape e, lt-ltb _ _ (among e _ (d .before .if2 .left)), lt-ltb _ _ (d .if3 .left), lt-ltb _ _ (among e _ (c .before .if4 .left)))
 
 pub read-spec : {M : Type 1} → statement M
 read-spec =
     tie.close
     (tie.spec
-    is-shaped-requires
+    states-of-requires
     returns
-    div-states
     cast-at
     returns-2
     returns-3
