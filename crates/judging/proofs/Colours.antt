@@ -4,7 +4,7 @@ use native.Mathlib.Omega.{arith}
 use mathlib.Core.Path.{_≡_, refl, sym, ap, ap₂, _∙_, subst}
 use mathlib.Core.Bool.{true, false, _&&_}
 use mathlib.Core.List.{List, [], _++_}
-use lib.Bits.{bitOr, or-zero-l, or-zero-r}
+use lib.Bits.{bitOr, or-zero-l}
 use lib.ListN.{length}
 use borrow.Author.Tests.{lt-ltb, le-ltb}
 use Rattle.recurrence.specs.Recurs.{iter}
@@ -16,7 +16,7 @@ use Rattle.policy.specs.declared.Policy.{Policy}
 use Rattle.policy.specs.Policies.{legal, edgeOf, targetOf, colourOf, edgeColours, inFamily}
 use Rattle.policy.proofs.Laws.{legal-counts, legal-colour, edges-le, edge-lt}
 use Rattle.running.specs.Running.{policyStep, policyMeets}
-use Rattle.running.proofs.Steps.{policy-moves, policy-stays, policy-within}
+use Rattle.running.proofs.Steps.{policy-moves, policy-within}
 use Rattle.judging.specs.declared.PolicyVerdict.the-variants.{Judged, Refused as RefusedPolicy}
 use Rattle.judging.specs.declared.Coloured.{Coloured}
 use Rattle.judging.specs.declared.Watch.{Watch}
@@ -30,12 +30,6 @@ coloured v c = record { state = v; colours = c }
 
 module _ (p : Policy) where
   -- ---- one letter
-  pub coloured-stays : (m : Coloured) (a : ℕ) → p .letters ≤ a → m ≡ colouredStep p m a
-  unfolding colouredStep setOf
-  coloured-stays m a h =
-      let q = policy-stays p (m .state) a (le-ltb a (p .letters) h) in
-      sym (ap₂ coloured (q .0) (ap (λ (l : List ℕ). bitOr (m .colours) (setOf l)) (q .1) ∙ or-zero-r (m .colours)))
-
   pub coloured-moves : (m : Coloured) (a : ℕ) → a < p .letters
       → (t c : ℕ) → t ≡ targetOf p (m .state * p .letters + a) → c ≡ insert (m .colours) (colourOf p (m .state * p .letters + a)) → record { state = t; colours = c } ≡ colouredStep p m a
   unfolding colouredStep setOf insert edgeOf edgeColours

@@ -3,18 +3,19 @@ use Prim.Native.Nat.{ℕ, _+_, _≤_, _<_}
 use native.Mathlib.Omega.{arith}
 use native.Mathlib.Nat.{zero-add}
 use mathlib.Core.Path.{_≡_, refl, sym, ap, ap₂, _∙_, subst}
-use mathlib.Core.Bool.{Bool, true, false, _&&_, _||_, cond, or-false}
+use mathlib.Core.Bool.{Bool, true, false, _&&_, _||_, cond, or-true, or-false}
 use mathlib.Core.List.{List, [], _∷_, _++_, append-nil}
 use lib.Dec.{eqb, ltb}
-use lib.ListN.{length}
+use lib.ListN.{length, getD}
 use borrow.Author.Tests.{lt-ltb, le-ltb}
 use Rattle.recurrence.specs.Recurs.{iter}
 use Rattle.recurrence.specs.Runs.{after, met, window}
 use Rattle.recurrence.proofs.Runs.{after-keeps}
+use Rattle.recurrence.proofs.Repeats.{iter-keeps}
 use Rattle.running.specs.declared.Run.{Run}
 use Rattle.running.specs.declared.Reading.{Reading}
 use Rattle.running.specs.declared.Reading.the-variants.{Moved, Refused}
-use Rattle.running.specs.Running.{rowStates, shaped, readingOf, rowStep, rowMeets, runAfter, prioritiesOf}
+use Rattle.running.specs.Running.{rowOf, rowStates, shaped, readingOf, rowStep, rowMeets, runAfter, prioritiesOf}
 use Rattle.running.proofs.Steps.{row-within}
 use Rattle.judging.specs.declared.RowsVerdict.the-variants.{Least, Refused as RefusedRows}
 use Rattle.judging.specs.declared.Seen.{Seen}
@@ -50,6 +51,23 @@ seen-stray b s (Refused n r) a l e = ap₂ _||_ e (go (eqb n 13)) ∙ stray-appe
     go false = refl
 
 module _ (letters : ℕ) (targets priorities : List ℕ) where
+  -- ---- one letter, past questions 8, 11 and 12
+  module _ (ok : shaped letters targets priorities ≡ true) (s : Seen) (a : ℕ) (state : s .run .state < rowStates letters targets priorities) (letter : a < letters) where
+    pub seen-strays : rowStates letters targets priorities ≤ getD targets (rowOf letters (s .run .state) a) 0
+        → record { run = s .run; least = s .least; stray = true } ≡ seenStep letters targets priorities s a
+    unfolding seenStep readingOf
+    seen-strays h =
+        rw (ok, lt-ltb _ _ state, lt-ltb _ _ letter, le-ltb _ _ h)
+        (ap (λ (b : Bool). record { run = s .run; least = s .least; stray = b }) (sym (or-true (s .stray))))
+
+    pub seen-moves : getD targets (rowOf letters (s .run .state) a) 0 < rowStates letters targets priorities → (k : ℕ)
+        → k ≡ cond (ltb (getD priorities (rowOf letters (s .run .state) a) 0) (s .least)) (getD priorities (rowOf letters (s .run .state) a) 0) (s .least)
+        → record { run = record { state = getD targets (rowOf letters (s .run .state) a) 0 }; least = k; stray = s .stray } ≡ seenStep letters targets priorities s a
+    unfolding seenStep readingOf
+    seen-moves h k e =
+        rw (ok, lt-ltb _ _ state, lt-ltb _ _ letter, lt-ltb _ _ h)
+        (ap (λ (x : ℕ). record { run = record { state = getD targets (rowOf letters (s .run .state) a) 0 }; least = x; stray = s .stray }) e)
+
   pub moves : (s : Seen) (a : ℕ) → seenStep letters targets priorities s a .run ≡ rowStep letters targets priorities (s .run) a
   unfolding seenStep rowStep
   moves s a = seen-run s (readingOf letters targets priorities (s .run) a)
@@ -64,6 +82,19 @@ module _ (letters : ℕ) (targets priorities : List ℕ) where
 
   stays : (r : Run) (a : ℕ) → r .state < rowStates letters targets priorities → rowStep letters targets priorities r a .state < rowStates letters targets priorities
   stays r a h = row-within letters targets priorities r a h
+
+  pub step-stays : (s : Seen) (a : ℕ) → s .run .state < rowStates letters targets priorities → seenStep letters targets priorities s a .run .state < rowStates letters targets priorities
+  step-stays s a h = subst (λ (r : Run). r .state < rowStates letters targets priorities) (sym (moves s a)) (stays (s .run) a h)
+
+  pub word-stays : (w : List ℕ) (s : Seen) → s .run .state < rowStates letters targets priorities → seenAfter letters targets priorities w s .run .state < rowStates letters targets priorities
+  word-stays w s h =
+      subst (λ (x : Run). x .state < rowStates letters targets priorities)
+      (sym (through-run (rowStep letters targets priorities) (rowMeets letters targets priorities) (seenStep letters targets priorities) (λ s. s .run) (λ s. s .least) leastOf moves adds-least w s))
+      (after-keeps (rowStep letters targets priorities) (rowMeets letters targets priorities) (λ r. r .state < rowStates letters targets priorities) stays w (s .run) h)
+
+  pub rounds-stay : (loop : List ℕ) (k : ℕ) (s : Seen) → s .run .state < rowStates letters targets priorities
+      → iter (seenAfter letters targets priorities loop) k s .run .state < rowStates letters targets priorities
+  rounds-stay loop k s h = iter-keeps (seenAfter letters targets priorities loop) (λ s. s .run .state < rowStates letters targets priorities) (λ s h. word-stays loop s h) s h k
 
   abbrev n : ℕ
   n = rowStates letters targets priorities
@@ -123,6 +154,11 @@ module _ (letters : ℕ) (targets priorities : List ℕ) where
     LeastHeld t i k = Held step meets next (λ s. s .run) (λ s. s .least) leastOf moves adds-least loop (s .run) t i k
 
     module _ (t : Seen) (w : Watch) (round : ℕ) (h : SeenSeeking t w round) where
+      pub seeking-stays : s .run .state < rowStates letters targets priorities → t .run .state < rowStates letters targets priorities
+      seeking-stays l =
+          subst (λ (x : Run). x .state < n) (sym (h .stray .at))
+          (iter-keeps (after step strays loop) (λ r. r .state < n) (λ r l. after-keeps step strays (λ r. r .state < n) stays loop r l) (s .run) l (0 + round))
+
       -- a round by itself, and joined to what was met before it
       module _ (one : Seen) (e : one ≡ seenAfter letters targets priorities loop (seenAnew t)) where
         one-least : LeastHeld one round 1
@@ -188,12 +224,6 @@ module _ (letters : ℕ) (targets priorities : List ℕ) where
             (held-rounds step strays next (λ s. s .run) (λ s. s .stray) (strayIn (s .stray)) moves (adds-stray (s .stray)) loop (s .run) (seenAnew t) 0 round (stray-same t (seenAnew t) round refl refl (h .stray)) n)
             (omega arith),
       )
-
-  pub seen-within : (r : Run) (stem : List ℕ) → r .state < rowStates letters targets priorities
-      → (s : Seen) → s ≡ seenAfter letters targets priorities stem (record { run = r; least = 255; stray = false }) → s .run .state < rowStates letters targets priorities
-  seen-within r stem l s e =
-      subst (λ (x : Run). x .state < n) (sym (ap (λ (s : Seen). s .run) e ∙ through-run step meets next (λ s. s .run) (λ s. s .least) leastOf moves adds-least stem (record { run = r; least = 255; stray = false })))
-      (after-keeps step meets (λ r. r .state < n) stays stem r l)
 
   module _ (r : Run) (stem loop : List ℕ) where
     -- the stem leads to where the rounds begin

@@ -7,6 +7,8 @@ use mathlib.Core.List.{List, _∷_}
 use lib.Dec.{ltb}
 use lib.ListN.{length, getD, drop, drop-of-length-le}
 use lib.Seq.{drop-cons}
+use Rattle.lists.proofs.Bools.{lt-true}
+use Rattle.lists.proofs.Lists.{all-each, getD-mem}
 use Rattle.recurrence.specs.Recurs.{iter}
 use Rattle.judging.specs.Judging.{inRange}
 use Rattle.judging.specs.Rounds.{through}
@@ -27,6 +29,11 @@ range-turn letters w i b h = ap (λ (l : List ℕ). b && inRange letters l) (dro
 pub range-end : (letters : ℕ) (w : List ℕ) (i : ℕ) (b : Bool) → length w ≤ i → b && inRange letters (drop i w) ≡ b
 unfolding inRange
 range-end letters w i b h = ap (λ (l : List ℕ). b && inRange letters l) (drop-of-length-le w h) ∙ and-true b
+
+-- then each is below the number of letters
+pub range-at : (letters : ℕ) (w : List ℕ) → inRange letters w ≡ true → (i : ℕ) → i < length w → getD w i 0 < letters
+unfolding inRange
+range-at letters w h i l = lt-true (getD w i 0) letters (all-each (λ a. ltb a letters) w h (getD w i 0) (getD-mem w i 0 l))
 
 -- ---- a word
 module _ {T : Type 0} (next : T → ℕ → T) (w : List ℕ) (i : ℕ) (t : T) where

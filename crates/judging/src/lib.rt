@@ -5,11 +5,10 @@ ghost use mathlib.Core.List.{[]};
 ghost use Prim.Native.Nat.{_<_};
 ghost use Rattle.recurrence.specs.Recurs.{iter};
 ghost use Rattle.policy.specs.Policies.{legal};
-ghost use Rattle.running.specs.Running.{rowStates};
+ghost use Rattle.running.specs.Running.{rowStates, shaped};
 ghost use Rattle.judging.specs.Judging.{inRange, recurringColours, everStray, leastRecurring, policyVerdict, rowsVerdict};
-ghost use Rattle.judging.specs.Rounds.{watchNext, seenWith, seenAfter, seenSince, seenJoined, colouredStep, colouredAfter, colouredSince, colouredJoined};
+ghost use Rattle.judging.specs.Rounds.{watchNext, seenStep, seenAfter, seenSince, seenJoined, colouredStep, colouredAfter, colouredSince, colouredJoined};
 use policy::Policy;
-use running::Reading;
 use running::Run;
 
 // The colours that recur and whether their set is in the family; or document 01's number.
@@ -70,62 +69,67 @@ struct Seen {
     pub stray: bool,
 }
 
-// After a reading more.
-fn seen_with(s: Seen, x: Reading) -> Seen
-    ensures { λ r. ⌜ r ≡ seenWith s x ⌝ }
+// After a letter more, over rows of n states that question 8 lets through: of running's questions only 13 is left to ask.
+fn seen_with(s: Seen, letter: u8, n: usize, letters: u8, targets: &[u16], priorities: &[u8]) -> Seen
+    requires { ⌜ (shaped letters (now targets) (now priorities) ≡ true) × (n ≡ rowStates letters (now targets) (now priorities)) × (s .run .state < n) × (letter < letters) ⌝ }
+    ensures { λ r. ⌜ r ≡ seenStep letters (now (targets .entry)) (now (priorities .entry)) s letter ⌝ }
 {
-    match x {
-        Reading::Moved(run, k) => {
-            if k < s.least {
-                return Seen {
-                    run: run,
-                    least: k,
-                    stray: s.stray,
-                };
-            }
-            Seen {
-                run: run,
-                least: s.least,
-                stray: s.stray,
-            }
-        }
-        Reading::Refused(number, run) => Seen {
+    let run = s.run;
+    let row = run.state as usize * letters as usize + letter as usize;
+    let t = targets[row];
+    if n <= t as usize {
+        return Seen {
             run: run,
             least: s.least,
-            stray: s.stray | (number == 13),
-        },
+            stray: true,
+        };
+    }
+    let met = priorities[row];
+    let least = if met < s.least { met } else { s.least };
+    Seen {
+        run: Run { state: t },
+        least: least,
+        stray: s.stray,
     }
 }
 
 // After a list of letters.
-fn seen_word(s: Seen, word: &[u8], letters: u8, targets: &[u16], priorities: &[u8]) -> Seen
+fn seen_word(
+    s: Seen,
+    word: &[u8],
+    n: usize,
+    letters: u8,
+    targets: &[u16],
+    priorities: &[u8],
+) -> Seen
+    requires { ⌜ (shaped letters (now targets) (now priorities) ≡ true) × (n ≡ rowStates letters (now targets) (now priorities)) × (s .run .state < n) × (inRange letters (now word) ≡ true) ⌝ }
     ensures { λ r. ⌜ r ≡ seenAfter letters (now (targets .entry)) (now (priorities .entry)) (now (word .entry)) s ⌝ }
 {
     let mut t = s;
     let mut i = 0;
     while i < word.len() {
-        let run = t.run;
-        t = seen_with(t, run.read(word[i], letters, targets, priorities));
+        t = seen_with(t, word[i], n, letters, targets, priorities);
         i += 1;
     }
     t
 }
 
-// After k rounds.
+// After n rounds.
 fn seen_rounds(
     s: Seen,
-    k: usize,
     cycle: &[u8],
+    n: usize,
     letters: u8,
     targets: &[u16],
     priorities: &[u8],
 ) -> Seen
-    ensures { λ r. ⌜ r ≡ iter (seenAfter letters (now (targets .entry)) (now (priorities .entry)) (now (cycle .entry))) k s ⌝ }
+    requires { ⌜ (shaped letters (now targets) (now priorities) ≡ true) × (n ≡ rowStates letters (now targets) (now priorities)) × (s .run .state < n) × (inRange letters (now cycle) ≡ true) ⌝ }
+    ensures { λ r. ⌜ r ≡ iter (seenAfter letters (now (targets .entry)) (now (priorities .entry)) (now (cycle .entry))) n s ⌝ }
 {
     let mut t = s;
     let mut i = 0;
-    while i < k {
-        t = seen_word(t, cycle, letters, targets, priorities);
+    while i < n {
+        t = seen_word(t, cycle, n, letters, targets, priorities);
         i += 1;
     }
     t
@@ -169,13 +173,13 @@ fn seen_joined(s: Seen, one: Seen) -> Seen
 // the run comes back to it; or, where n rounds do not come back, in n rounds more.
 fn seen_recurring(
     s: Seen,
-    n: usize,
     cycle: &[u8],
+    n: usize,
     letters: u8,
     targets: &[u16],
     priorities: &[u8],
 ) -> Seen
-    requires { ⌜ (n ≡ rowStates letters (now targets) (now priorities)) × (n < 65536) × (s .run .state < n) ⌝ }
+    requires { ⌜ (shaped letters (now targets) (now priorities) ≡ true) × (n ≡ rowStates letters (now targets) (now priorities)) × (s .run .state < n) × (inRange letters (now cycle) ≡ true) ⌝ }
     ensures { λ r. ⌜ (r .least ≡ leastRecurring letters (now (targets .entry)) (now (priorities .entry)) (s .run) [] (now (cycle .entry))) × (r .stray ≡ s .stray || everStray letters (now (targets .entry)) (now (priorities .entry)) (s .run) [] (now (cycle .entry))) ⌝ }
 {
     let first = s.run;
@@ -188,7 +192,7 @@ fn seen_recurring(
     let mut round = 0;
     while round < n {
         let from = t.run;
-        let one = seen_word(seen_since(t, 0), cycle, letters, targets, priorities);
+        let one = seen_word(seen_since(t, 0), cycle, n, letters, targets, priorities);
         let run = one.run;
         if run.state == from.state {
             return one;
@@ -201,7 +205,7 @@ fn seen_recurring(
         t = seen_since(t, w.since);
         round += 1;
     }
-    seen_rounds(seen_since(t, 0), n, cycle, letters, targets, priorities)
+    seen_rounds(seen_since(t, 0), cycle, n, letters, targets, priorities)
 }
 
 // The least priority that the run over the rows meets again and again, from a state over the stem and then the loop without end.
@@ -215,10 +219,10 @@ pub fn judge_rows(
 ) -> RowsVerdict
     ensures { λ r. ⌜ r ≡ rowsVerdict letters (now (targets .entry)) (now (priorities .entry)) (record { state = state }) (now (stem .entry)) (now (cycle .entry)) ⌝ }
 {
-    if !running::is_shaped(letters, targets, priorities) {
+    let n = running::states_of(letters, targets, priorities);
+    if 65535 < n {
         return RowsVerdict::Refused(8);
     }
-    let n = targets.len() / letters as usize;
     if n <= state as usize {
         return RowsVerdict::Refused(11);
     }
@@ -233,8 +237,8 @@ pub fn judge_rows(
         least: 255,
         stray: false,
     };
-    let before = seen_word(start, stem, letters, targets, priorities);
-    let all = seen_recurring(before, n, cycle, letters, targets, priorities);
+    let before = seen_word(start, stem, n, letters, targets, priorities);
+    let all = seen_recurring(before, cycle, n, letters, targets, priorities);
     if all.stray {
         return RowsVerdict::Refused(13);
     }
@@ -247,8 +251,7 @@ struct Coloured {
     pub colours: u8,
 }
 
-// After a letter more. A letter that the policy lacks is refused: nothing is met, and the state stays. The heads and the hues are the targets and the colours of p's edges,
-// lent, since p's own would be copied at each letter.
+// After a letter more. The heads and the hues are the targets and the colours of p's edges, lent, since p's own would be copied at each letter.
 fn coloured_with<'a>(
     p: Policy,
     heads: &'a [u8; 64],
@@ -256,12 +259,9 @@ fn coloured_with<'a>(
     m: Coloured,
     letter: u8,
 ) -> Coloured
-    requires { ⌜ (legal p ≡ true) × (m .state < p .states) × (now heads ≡ p .target) × (now hues ≡ p .colour) ⌝ }
+    requires { ⌜ (legal p ≡ true) × (m .state < p .states) × (letter < p .letters) × (now heads ≡ p .target) × (now hues ≡ p .colour) ⌝ }
     ensures { λ r. ⌜ r ≡ colouredStep p m letter ⌝ }
 {
-    if p.letters <= letter {
-        return m;
-    }
     let e = m.state as usize * p.letters as usize + letter as usize;
     Coloured {
         state: heads[e],
@@ -277,7 +277,7 @@ fn coloured_word<'a>(
     m: Coloured,
     word: &[u8],
 ) -> Coloured
-    requires { ⌜ (legal p ≡ true) × (m .state < p .states) × (now heads ≡ p .target) × (now hues ≡ p .colour) ⌝ }
+    requires { ⌜ (legal p ≡ true) × (m .state < p .states) × (inRange (p .letters) (now word) ≡ true) × (now heads ≡ p .target) × (now hues ≡ p .colour) ⌝ }
     ensures { λ r. ⌜ r ≡ colouredAfter p (now (word .entry)) m ⌝ }
 {
     let mut t = m;
@@ -298,7 +298,7 @@ fn coloured_rounds<'a>(
     k: usize,
     cycle: &[u8],
 ) -> Coloured
-    requires { ⌜ (legal p ≡ true) × (m .state < p .states) × (now heads ≡ p .target) × (now hues ≡ p .colour) ⌝ }
+    requires { ⌜ (legal p ≡ true) × (m .state < p .states) × (inRange (p .letters) (now cycle) ≡ true) × (now heads ≡ p .target) × (now hues ≡ p .colour) ⌝ }
     ensures { λ r. ⌜ r ≡ iter (colouredAfter p (now (cycle .entry))) k m ⌝ }
 {
     let mut t = m;
@@ -342,7 +342,7 @@ fn coloured_recurring<'a>(
     m: Coloured,
     cycle: &[u8],
 ) -> Coloured
-    requires { ⌜ (legal p ≡ true) × (m .state < p .states) × (now heads ≡ p .target) × (now hues ≡ p .colour) ⌝ }
+    requires { ⌜ (legal p ≡ true) × (m .state < p .states) × (inRange (p .letters) (now cycle) ≡ true) × (now heads ≡ p .target) × (now hues ≡ p .colour) ⌝ }
     ensures { λ r. ⌜ r .colours ≡ recurringColours p (m .state) [] (now (cycle .entry)) ⌝ }
 {
     let n = p.states as usize;

@@ -58,7 +58,7 @@ unfolding colouredSince
 coloured-word-requires c κs =
     let l = c .before .before in
     let d = l .before .before .before .before .before in
-    (d .pre .0, subst (λ (x : Coloured). x .state < d .args .p .states) (sym (c .coloured-since2 .ensures)) (within l), d .pre .2, d .pre .3)
+    (d .pre .0, subst (λ (x : Coloured). x .state < d .args .p .states) (sym (c .coloured-since2 .ensures)) (within l), d .pre .2, d .pre .3, d .pre .4)
 
 -- a round, run with nothing met yet
 one : (c : tie.After-coloured-word Inv-loop μ-loop) → let a = c .before .before .before .before .before .before .before .before .args in c .coloured-word .result ≡ colouredAfter (a .p) (a .cycle .now) (colouredAnew (c .before .before .before .loop .t))
@@ -128,7 +128,7 @@ unfolding colouredSince
 coloured-rounds-requires c κs =
     let l = c .before .before in
     let d = l .before .before .before .before .before in
-    (d .pre .0, subst (λ (x : Coloured). x .state < d .args .p .states) (sym (c .coloured-since4 .ensures)) (within l), d .pre .2, d .pre .3)
+    (d .pre .0, subst (λ (x : Coloured). x .state < d .args .p .states) (sym (c .coloured-since4 .ensures)) (within l), d .pre .2, d .pre .3, d .pre .4)
 
 returns-3 : tie.Need-returns-3 Inv-loop μ-loop
 unfolding colouredSince

@@ -25,7 +25,7 @@ coloured-word-requires : tie.Need-coloured-word-requires Inv-loop μ-loop
 coloured-word-requires c κs =
     let l = c .before in
     let d = l .before .before in
-    (d .pre .0, subst (λ (m : Coloured). m .state < d .args .p .states) (sym (l .loop .inv .1)) (rounds-within (d .args .p) (d .pre .0) (d .args .cycle .now) (l .loop .i) (d .args .m) (d .pre .1)), d .pre .2, d .pre .3)
+    (d .pre .0, subst (λ (m : Coloured). m .state < d .args .p .states) (sym (l .loop .inv .1)) (rounds-within (d .args .p) (d .pre .0) (d .args .cycle .now) (l .loop .i) (d .args .m) (d .pre .1)), d .pre .2, d .pre .3, d .pre .4)
 
 add-i : tie.Need-add-i Inv-loop μ-loop
 add-i c = omega arith

@@ -1,4 +1,4 @@
--- A letter of the policy takes its edge, and any other leaves the run as it is. Assumes nothing.
+-- The letter takes its edge. Assumes nothing.
 use Prim.Native.Nat.{ℕ, _+_, _*_, _<_}
 use native.Mathlib.Omega.{arith}
 use mathlib.Core.Path.{ap, _∙_, subst, sym}
@@ -6,13 +6,10 @@ use mathlib.Core.List.{List}
 use lib.ListN.{getD}
 use Rattle.masks.specs.Masks.{insert}
 use Rattle.policy.specs.Policies.{targetOf, colourOf}
-use Rattle.judging.proofs.Colours.{coloured-stays, coloured-moves, edge-small, colour-small}
+use Rattle.judging.proofs.Colours.{coloured-moves, edge-small, colour-small}
 use borrow.Author.Needs.{needs}
 use Rattle.judging.proofs.coloured_with.Statement.{statement}
 use Rattle.judging.proofs.coloured_with.Tie as tie
-
-returns : tie.Need-returns
-returns c = coloured-stays (c .before .before .args .p) (c .before .before .args .m) (c .before .before .args .letter) (c .if1 .taken)
 
 cast-e : tie.Need-cast-e
 cast-e c = search needs
@@ -20,9 +17,9 @@ cast-e c = search needs
 cast-e-2 : tie.Need-cast-e-2
 cast-e-2 c = search needs
 
--- past the test the letter has an edge
-edge : (c : tie.Else1) → let a = c .before .before .args in a .m .state * a .p .letters + a .letter < 64
-edge c = let s = c .before .before in edge-small (s .args .p) (s .pre .0) (s .args .m .state) (s .args .letter) (s .pre .1) (c .if1 .left)
+-- the letter has an edge
+edge : (c : tie.Start) → let a = c .args in a .m .state * a .p .letters + a .letter < 64
+edge c = edge-small (c .args .p) (c .pre .0) (c .args .m .state) (c .args .letter) (c .pre .1) (c .pre .2)
 
 mul-e : tie.Need-mul-e
 mul-e c = omega (arith, edge (c .before .before))
@@ -30,8 +27,8 @@ mul-e c = omega (arith, edge (c .before .before))
 add-e : tie.Need-add-e
 add-e c = omega (arith, edge (c .before .before))
 
-element-copy-out-t14 : tie.Need-element-copy-out-t14
-element-copy-out-t14 c = edge (c .before .before)
+element-copy-out-t13 : tie.Need-element-copy-out-t13
+element-copy-out-t13 c = edge (c .before .before)
 
 element-copy-out-set-with : tie.Need-element-copy-out-set-with
 element-copy-out-set-with c = edge (c .before .before .before)
@@ -39,29 +36,26 @@ element-copy-out-set-with c = edge (c .before .before .before)
 set-with-requires : tie.Need-set-with-requires
 unfolding colourOf
 set-with-requires c κs =
-    let d = c .before .before .before .before in
-    let s = d .before .before in
-    subst (λ (l : List ℕ). getD l (s .args .m .state * s .args .p .letters + s .args .letter) 0 < 8) (sym (s .pre .3)) (colour-small (s .args .p) (s .pre .0) (s .args .m .state) (s .args .letter) (s .pre .1) (d .if1 .left))
+    let s = c .before .before .before .before in
+    subst (λ (l : List ℕ). getD l (s .args .m .state * s .args .p .letters + s .args .letter) 0 < 8) (sym (s .pre .4)) (colour-small (s .args .p) (s .pre .0) (s .args .m .state) (s .args .letter) (s .pre .1) (s .pre .2))
 
-returns-2 : tie.Need-returns-2
+returns : tie.Need-returns
 unfolding targetOf colourOf
-returns-2 c =
-    let d = c .before .before .before .before .before in
-    let s = d .before .before in
+returns c =
+    let s = c .before .before .before .before .before in
     let a = s .args in
     let e = a .m .state * a .p .letters + a .letter in
-    coloured-moves (a .p) (a .m) (a .letter) (d .if1 .left) _ _ (ap (λ (l : List ℕ). getD l e 0) (s .pre .2)) (c .set-with .ensures ∙ ap (λ (l : List ℕ). insert (a .m .colours) (getD l e 0)) (s .pre .3))
+    coloured-moves (a .p) (a .m) (a .letter) (s .pre .2) _ _ (ap (λ (l : List ℕ). getD l e 0) (s .pre .3)) (c .set-with .ensures ∙ ap (λ (l : List ℕ). insert (a .m .colours) (getD l e 0)) (s .pre .4))
 
 pub coloured-with-spec : {M : Type 1} → statement M
 coloured-with-spec =
     tie.close
     (tie.spec
-    returns
     cast-e
     cast-e-2
     mul-e
     add-e
-    element-copy-out-t14
+    element-copy-out-t13
     element-copy-out-set-with
     set-with-requires
-    returns-2)
+    returns)

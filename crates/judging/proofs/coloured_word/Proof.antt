@@ -5,16 +5,16 @@ use mathlib.Core.Path.{_≡_, refl, sym, ap, _∙_, subst}
 use lib.ListN.{length, drop}
 use Rattle.judging.specs.declared.Coloured.{Coloured}
 use Rattle.judging.specs.Rounds.{colouredStep, colouredAfter}
-use Rattle.judging.proofs.Turns.{through-turn, through-end}
+use Rattle.judging.proofs.Turns.{range-at, through-turn, through-end}
 use Rattle.judging.proofs.Colours.{step-within}
 use Rattle.judging.proofs.coloured_word.Statement.{statement}
 use Rattle.judging.proofs.coloured_word.Tie as tie
 
 abbrev Inv-loop : tie.InvT-loop
-Inv-loop p heads colours word t₀ i₀ t i = (i ≤ length word) × (t .state < p .states) × (colouredAfter p (drop i word) t ≡ colouredAfter p word t₀)
+Inv-loop p heads hues word t₀ i₀ t i = (i ≤ length word) × (t .state < p .states) × (colouredAfter p (drop i word) t ≡ colouredAfter p word t₀)
 
 abbrev μ-loop : tie.MeasureT-loop
-μ-loop p heads colours word t₀ i₀ t i = length word - i
+μ-loop p heads hues word t₀ i₀ t i = length word - i
 
 loop-holds : tie.Need-loop-holds Inv-loop μ-loop
 loop-holds c = (omega arith, c .before .pre .1, refl)
@@ -23,7 +23,11 @@ shared-slice-read-coloured-with : tie.Need-shared-slice-read-coloured-with Inv-l
 shared-slice-read-coloured-with c = omega (arith, c .before .loop-test .taken)
 
 coloured-with-requires : tie.Need-coloured-with-requires Inv-loop μ-loop
-coloured-with-requires c κs = let d = c .before .before in let h = d .before .before .pre in (h .0, d .loop .inv .1, h .2, h .3)
+coloured-with-requires c κs =
+    let d = c .before .before in
+    let s = d .before .before in
+    let h = s .pre in
+    (h .0, d .loop .inv .1, range-at (s .args .p .letters) (s .args .word .now) (h .2) (d .loop .i) (c .before .loop-test .taken), h .3, h .4)
 
 add-i : tie.Need-add-i Inv-loop μ-loop
 add-i c = omega arith

@@ -4,8 +4,10 @@ use mathlib.Core.Path.{_≡_, refl, sym, ap, ap₂, _∙_, subst}
 use mathlib.Core.Bool.{true, _&&_}
 use borrow.Author.Tests.{not-true, not-false}
 use Rattle.policy.specs.Policies.{legal, inFamily}
+use Rattle.lists.proofs.Bools.{and-l, and-r}
 use Rattle.judging.specs.declared.PolicyVerdict.the-variants.{Judged}
 use Rattle.judging.specs.declared.Coloured.{Coloured}
+use Rattle.judging.specs.Judging.{inRange}
 use Rattle.judging.proofs.Colours.{word-within, colours-after, policy-7, policy-11, policy-14, policy-12, policy-judged}
 use borrow.Author.Needs.{needs}
 use Rattle.judging.proofs.judge_policy.Statement.{statement}
@@ -46,15 +48,29 @@ returns-4 c =
     sym (policy-12 (a .t1) (a .state) (a .stem .now) (a .cycle .now) (ok (e .before .before)) (e .before .if2 .left) (e .if3 .left)
     (sym (ap₂ _&&_ (c .before .before .in-range .ensures) (c .before .in-range2 .ensures)) ∙ not-true _ (c .if4 .taken)))
 
+-- past question 12
+range : (c : tie.Else4) → let a = c .before .before .before .before .before .before .before .before .before .args in inRange (a .t1 .letters) (a .stem .now) && inRange (a .t1 .letters) (a .cycle .now) ≡ true
+range c = sym (ap₂ _&&_ (c .before .before .in-range .ensures) (c .before .in-range2 .ensures)) ∙ not-false _ (c .if4 .left)
+
 coloured-word-requires : tie.Need-coloured-word-requires
-coloured-word-requires c κs = let e = c .before .before .before .before .before .before in (ok (e .before .before), e .before .if2 .left, refl, refl)
+coloured-word-requires c κs =
+    let d = c .before .before .before in
+    let e = d .before .before .before in
+    let a = e .before .before .before .before .before .before .args in
+    (ok (e .before .before), e .before .if2 .left, and-l (inRange (a .t1 .letters) (a .stem .now)) (inRange (a .t1 .letters) (a .cycle .now)) (range d), refl, refl)
 
 coloured-recurring-requires : tie.Need-coloured-recurring-requires
 coloured-recurring-requires c κs =
     let w = c .before .before .before in
-    let e = w .before .before .before .before .before .before .before in
-    let a = e .before .before .before .before .before .before .args in
-    (ok (e .before .before), subst (λ (m : Coloured). m .state < a .t1 .states) (sym (w .coloured-word .ensures)) (word-within (a .t1) (ok (e .before .before)) (a .stem .now) _ (e .before .if2 .left)), refl, refl)
+    let d = w .before .before .before .before in
+    let e = d .before .before .before in
+    let a = e .before .before .before .before .before .before .args in (
+      ok (e .before .before),
+      subst (λ (m : Coloured). m .state < a .t1 .states) (sym (w .coloured-word .ensures)) (word-within (a .t1) (ok (e .before .before)) (a .stem .now) _ (e .before .if2 .left)),
+      and-r (inRange (a .t1 .letters) (a .stem .now)) (inRange (a .t1 .letters) (a .cycle .now)) (range d),
+      refl,
+      refl,
+    )
 
 cast-t13 : tie.Need-cast-t13
 cast-t13 c = search needs
@@ -72,8 +88,7 @@ returns-5 c =
     let a = e .before .before .before .before .before .before .args in
     let is = r .coloured-recurring .ensures ∙ colours-after (a .t1) (a .state) (a .stem .now) (a .cycle .now) _ (f .coloured-word .ensures) in
     ap₂ Judged is (ap (inFamily (a .t1)) is)
-    ∙ sym (policy-judged (a .t1) (a .state) (a .stem .now) (a .cycle .now) (ok (e .before .before)) (e .before .if2 .left) (e .if3 .left)
-    (sym (ap₂ _&&_ (d .before .before .in-range .ensures) (d .before .in-range2 .ensures)) ∙ not-false _ (d .if4 .left)))
+    ∙ sym (policy-judged (a .t1) (a .state) (a .stem .now) (a .cycle .now) (ok (e .before .before)) (e .before .if2 .left) (e .if3 .left) (range d))
 
 pub judge-policy-spec : {M : Type 1} → statement M
 judge-policy-spec =

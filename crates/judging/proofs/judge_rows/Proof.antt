@@ -1,44 +1,48 @@
 -- Each answer is the definition's by the questions that led there; what the search holds is what the definition's window holds. Assumes nothing.
-use native.Mathlib.Omega.{arith}
-use mathlib.Core.Path.{_≡_, refl, sym, ap, ap₂, _∙_}
+use Prim.Native.Nat.{ℕ, _≤_, _<_}
+use mathlib.Core.Path.{_≡_, sym, ap, ap₂, _∙_, subst}
 use mathlib.Core.Bool.{true, _&&_}
+use Rattle.lists.proofs.Bools.{and-l, and-r}
 use borrow.Author.Tests.{not-true, not-false}
 use Rattle.running.specs.declared.Run.{Run}
 use Rattle.running.specs.Running.{rowStates, shaped}
-use Rattle.running.proofs.Laws.{shaped-facts}
+use Rattle.running.proofs.Shapes.{states-shaped, states-unshaped}
 use Rattle.judging.specs.declared.RowsVerdict.the-variants.{Least}
+use Rattle.judging.specs.declared.Seen.{Seen}
 use Rattle.judging.specs.Judging.{inRange}
-use Rattle.judging.proofs.Rows.{seen-within, least-after, stray-after, rows-8, rows-11, rows-14, rows-12, rows-13, rows-least}
+use Rattle.judging.proofs.Rows.{word-stays, least-after, stray-after, rows-8, rows-11, rows-14, rows-12, rows-13, rows-least}
 use borrow.Author.Needs.{needs}
 use Rattle.judging.proofs.judge_rows.Statement.{statement}
 use Rattle.judging.proofs.judge_rows.Tie as tie
 
-is-shaped-requires : tie.Need-is-shaped-requires
-is-shaped-requires c κs = search needs
+states-of-requires : tie.Need-states-of-requires
+states-of-requires c κs = search needs
 
 returns : tie.Need-returns
 returns c =
     let a = c .before .before .before .before .before .before .args in
-    sym (rows-8 (a .letters) (a .targets .now) (a .priorities .now) (record { state = a .state }) (a .stem .now) (a .cycle .now) (sym (c .before .is-shaped .ensures) ∙ not-true _ (c .if1 .taken)))
+    sym (rows-8 (a .letters) (a .targets .now) (a .priorities .now) (record { state = a .state }) (a .stem .now) (a .cycle .now) (states-unshaped _ _ _ _ (c .before .states-of .ensures) (c .if1 .taken)))
 
 -- past question 8
 shape : (c : tie.Else1) → let a = c .before .before .before .before .before .before .args in shaped (a .letters) (a .targets .now) (a .priorities .now) ≡ true
-shape c = sym (c .before .is-shaped .ensures) ∙ not-false _ (c .if1 .left)
+shape c = states-shaped _ _ _ _ (c .before .states-of .ensures) (c .if1 .left) .0
 
-div-n : tie.Need-div-n
-div-n c = omega (arith, shaped-facts _ _ _ (shape c))
+counted : (c : tie.Else1) → let a = c .before .before .before .before .before .before .args in c .before .states-of .result ≡ rowStates (a .letters) (a .targets .now) (a .priorities .now)
+counted c = states-shaped _ _ _ _ (c .before .states-of .ensures) (c .if1 .left) .1
+
+-- past question 11
+state : (c : tie.Else2) → let a = c .before .before .before .before .before .before .before .args in a .state < rowStates (a .letters) (a .targets .now) (a .priorities .now)
+state c = subst (λ (n : ℕ). c .before .before .before .before .before .before .before .args .state < n) (counted (c .before)) (c .if2 .left)
 
 returns-2 : tie.Need-returns-2
-unfolding rowStates
 returns-2 c =
     let a = c .before .before .before .before .before .before .before .args in
-    sym (rows-11 (a .letters) (a .targets .now) (a .priorities .now) (record { state = a .state }) (a .stem .now) (a .cycle .now) (shape (c .before)) (c .if2 .taken))
+    sym (rows-11 (a .letters) (a .targets .now) (a .priorities .now) (record { state = a .state }) (a .stem .now) (a .cycle .now) (shape (c .before)) (subst (λ (n : ℕ). n ≤ a .state) (counted (c .before)) (c .if2 .taken)))
 
 returns-3 : tie.Need-returns-3
-unfolding rowStates
 returns-3 c =
     let a = c .before .before .before .before .before .before .before .before .args in
-    sym (rows-14 (a .letters) (a .targets .now) (a .priorities .now) (record { state = a .state }) (a .stem .now) (a .cycle .now) (shape (c .before .before)) (c .before .if2 .left) (c .if3 .taken))
+    sym (rows-14 (a .letters) (a .targets .now) (a .priorities .now) (record { state = a .state }) (a .stem .now) (a .cycle .now) (shape (c .before .before)) (state (c .before)) (c .if3 .taken))
 
 in-range-requires : tie.Need-in-range-requires
 in-range-requires c κs = search needs
@@ -47,11 +51,10 @@ in-range-requires-2 : tie.Need-in-range-requires-2
 in-range-requires-2 c κs = search needs
 
 returns-4 : tie.Need-returns-4
-unfolding rowStates
 returns-4 c =
     let a = c .before .before .before .before .before .before .before .before .before .before .before .args in
     let d = c .before .before .before in
-    sym (rows-12 (a .letters) (a .targets .now) (a .priorities .now) (record { state = a .state }) (a .stem .now) (a .cycle .now) (shape (d .before .before)) (d .before .if2 .left) (d .if3 .left)
+    sym (rows-12 (a .letters) (a .targets .now) (a .priorities .now) (record { state = a .state }) (a .stem .now) (a .cycle .now) (shape (d .before .before)) (state (d .before)) (d .if3 .left)
     (sym (ap₂ _&&_ (c .before .before .in-range .ensures) (c .before .in-range2 .ensures)) ∙ not-true _ (c .if4 .taken)))
 
 -- past question 12
@@ -59,28 +62,34 @@ range : (c : tie.Else4) → let a = c .before .before .before .before .before .b
 range c = sym (ap₂ _&&_ (c .before .before .in-range .ensures) (c .before .in-range2 .ensures)) ∙ not-false _ (c .if4 .left)
 
 seen-word-requires : tie.Need-seen-word-requires
-seen-word-requires c κs = search needs
+seen-word-requires c κs =
+    let e = c .before .before .before in
+    let a = e .before .before .before .before .before .before .before .before .args in
+    (shape (e .before .before), counted (e .before .before), e .before .if2 .left, and-l (inRange (a .letters) (a .stem .now)) (inRange (a .letters) (a .cycle .now)) (range c))
 
 seen-recurring-requires : tie.Need-seen-recurring-requires
-unfolding rowStates
 seen-recurring-requires c κs =
-    let e = c .before .before .before .before in
-    let a = e .before .before .before .before .before .before .before .before .args in
-    (refl, omega (arith, shaped-facts _ _ _ (shape (e .before .before)) .few), seen-within (a .letters) (a .targets .now) (a .priorities .now) (record { state = a .state }) (a .stem .now) (e .before .if2 .left) _ (c .seen-word .ensures))
+    let d = c .before in
+    let e = d .before .before .before in
+    let a = e .before .before .before .before .before .before .before .before .args in (
+      shape (e .before .before),
+      counted (e .before .before),
+      subst (λ (n : ℕ). c .seen-word .result .run .state < n) (sym (counted (e .before .before)))
+          (subst (λ (s : Seen). s .run .state < rowStates (a .letters) (a .targets .now) (a .priorities .now)) (sym (c .seen-word .ensures)) (word-stays (a .letters) (a .targets .now) (a .priorities .now) (a .stem .now) _ (state (e .before)))),
+      and-r (inRange (a .letters) (a .stem .now)) (inRange (a .letters) (a .cycle .now)) (range d),
+    )
 
 returns-5 : tie.Need-returns-5
-unfolding rowStates
 returns-5 c =
     let f = c .before .before in
     let d = f .before in
     let e = d .before .before .before in
     let a = e .before .before .before .before .before .before .before .before .args in
     let r : Run = record { state = a .state } in
-    sym (rows-13 (a .letters) (a .targets .now) (a .priorities .now) r (a .stem .now) (a .cycle .now) (shape (e .before .before)) (e .before .if2 .left) (e .if3 .left) (range d)
+    sym (rows-13 (a .letters) (a .targets .now) (a .priorities .now) r (a .stem .now) (a .cycle .now) (shape (e .before .before)) (state (e .before)) (e .if3 .left) (range d)
     (sym (c .before .seen-recurring .ensures .1 ∙ stray-after (a .letters) (a .targets .now) (a .priorities .now) r (a .stem .now) (a .cycle .now) _ (f .seen-word .ensures)) ∙ c .if5 .taken))
 
 returns-6 : tie.Need-returns-6
-unfolding rowStates
 returns-6 c =
     let f = c .before .before in
     let d = f .before in
@@ -88,16 +97,15 @@ returns-6 c =
     let a = e .before .before .before .before .before .before .before .before .args in
     let r : Run = record { state = a .state } in
     ap Least (c .before .seen-recurring .ensures .0 ∙ least-after (a .letters) (a .targets .now) (a .priorities .now) r (a .stem .now) (a .cycle .now) _ (f .seen-word .ensures))
-    ∙ sym (rows-least (a .letters) (a .targets .now) (a .priorities .now) r (a .stem .now) (a .cycle .now) (shape (e .before .before)) (e .before .if2 .left) (e .if3 .left) (range d)
+    ∙ sym (rows-least (a .letters) (a .targets .now) (a .priorities .now) r (a .stem .now) (a .cycle .now) (shape (e .before .before)) (state (e .before)) (e .if3 .left) (range d)
     (sym (c .before .seen-recurring .ensures .1 ∙ stray-after (a .letters) (a .targets .now) (a .priorities .now) r (a .stem .now) (a .cycle .now) _ (f .seen-word .ensures)) ∙ c .if5 .left))
 
 pub judge-rows-spec : {M : Type 1} → statement M
 judge-rows-spec =
     tie.close
     (tie.spec
-    is-shaped-requires
+    states-of-requires
     returns
-    div-n
     returns-2
     returns-3
     in-range-requires

@@ -6,19 +6,20 @@ use mathlib.Core.Bool.{_||_}
 use mathlib.Core.List.{[]}
 use Rattle.recurrence.specs.Recurs.{iter}
 use Rattle.running.specs.Running.{rowStates}
+use Rattle.running.proofs.Laws.{shaped-facts}
 use Rattle.judging.specs.declared.Seen.{Seen}
 use Rattle.judging.specs.Judging.{leastRecurring, everStray}
 use Rattle.judging.specs.Rounds.{seenAfter, seenAnew, seenSince}
-use Rattle.judging.proofs.Rows.{SeenSeeking, seen-start, seen-next, seen-alone, seen-found, seen-end}
+use Rattle.judging.proofs.Rows.{SeenSeeking, seen-start, seeking-stays, seen-next, seen-alone, seen-found, seen-end}
 use borrow.Author.Needs.{needs}
 use Rattle.judging.proofs.seen_recurring.Statement.{statement}
 use Rattle.judging.proofs.seen_recurring.Tie as tie
 
 abbrev Inv-loop : tie.InvT-loop
-Inv-loop n cycle letters targets priorities t₀ w₀ round₀ t w round = SeenSeeking letters targets priorities cycle t₀ t w round
+Inv-loop cycle n letters targets priorities t₀ w₀ round₀ t w round = SeenSeeking letters targets priorities cycle t₀ t w round
 
 abbrev μ-loop : tie.MeasureT-loop
-μ-loop n cycle letters targets priorities t₀ w₀ round₀ t w round = n - round
+μ-loop cycle n letters targets priorities t₀ w₀ round₀ t w round = n - round
 
 seen-since-requires : tie.Need-seen-since-requires Inv-loop μ-loop
 seen-since-requires c κs = search needs
@@ -39,7 +40,20 @@ low : (c : tie.At-loop Inv-loop μ-loop) → let a = c .before .before .before .
 low c =
     let d = c .before .before .before .before .before .before in
     let a = d .args in
-    subst (λ (x : Seen). x .run .state < rowStates (a .letters) (a .targets .now) (a .priorities .now)) (sym (starts c)) (subst (λ (k : ℕ). a .s .run .state < k) (d .pre .0) (d .pre .2))
+    subst (λ (x : Seen). x .run .state < rowStates (a .letters) (a .targets .now) (a .priorities .now)) (sym (starts c)) (subst (λ (k : ℕ). a .s .run .state < k) (d .pre .1) (d .pre .2))
+
+-- where a round begins
+within : (c : tie.At-loop Inv-loop μ-loop) → let d = c .before .before .before .before .before .before in c .loop .t .run .state < d .args .n
+within c =
+    let d = c .before .before .before .before .before .before in
+    let a = d .args in
+    subst (λ (k : ℕ). c .loop .t .run .state < k) (sym (d .pre .1))
+    (seeking-stays (a .letters) (a .targets .now) (a .priorities .now) (a .cycle .now) (c .before .seen-since .result) (c .loop .t) (c .loop .w) (c .loop .round) (c .loop .inv) (low c))
+
+-- there are at most 65,535 states
+few : (c : tie.At-loop Inv-loop μ-loop) → let d = c .before .before .before .before .before .before in d .args .n ≤ 65535
+unfolding rowStates
+few c = let d = c .before .before .before .before .before .before in subst (λ (k : ℕ). k ≤ 65535) (sym (d .pre .1)) (shaped-facts _ _ _ (d .pre .0) .few)
 
 -- what is found from there is what is found from s
 from-s : (c : tie.At-loop Inv-loop μ-loop) (r : Seen) → let a = c .before .before .before .before .before .before .args in let x = c .before .seen-since .result in
@@ -53,7 +67,11 @@ seen-since-requires-2 : tie.Need-seen-since-requires-2 Inv-loop μ-loop
 seen-since-requires-2 c κs = search needs
 
 seen-word-requires : tie.Need-seen-word-requires Inv-loop μ-loop
-seen-word-requires c κs = search needs
+unfolding seenSince
+seen-word-requires c κs =
+    let l = c .before .before .before in
+    let d = l .before .before .before .before .before .before in
+    (d .pre .0, d .pre .1, subst (λ (x : Seen). x .run .state < d .args .n) (sym (c .seen-since2 .ensures)) (within l), d .pre .3)
 
 -- a round, run with no priority met yet
 one : (c : tie.After-seen-word Inv-loop μ-loop) → let a = c .before .before .before .before .before .before .before .before .before .before .args in c .seen-word .result ≡ seenAfter (a .letters) (a .targets .now) (a .priorities .now) (a .cycle .now) (seenAnew (c .before .before .before .before .loop .t))
@@ -86,8 +104,7 @@ watch-next-requires : tie.Need-watch-next-requires Inv-loop μ-loop
 watch-next-requires c κs =
     let l = c .before .before .before .before .before .before .before .before .before .before .before .before in
     let h = l .loop .inv .least in
-    let p = l .before .before .before .before .before .before .pre in
-    (omega (arith, h .now, h .within, p .0, p .1), omega (arith, h .small, h .within, p .0, p .1))
+    (omega (arith, h .now, h .within, few l, l .before .before .before .before .before .before .pre .1), omega (arith, h .small, h .within, few l, l .before .before .before .before .before .before .pre .1))
 
 seen-since-requires-3 : tie.Need-seen-since-requires-3 Inv-loop μ-loop
 seen-since-requires-3 c κs = search needs
@@ -95,8 +112,7 @@ seen-since-requires-3 c κs = search needs
 add-round : tie.Need-add-round Inv-loop μ-loop
 add-round c =
     let l = c .before .before .before .before .before .before .before .before .before .before .before .before .before .before in
-    let p = l .before .before .before .before .before .before .pre in
-    omega (arith, l .loop .inv .least .within, p .0, p .1)
+    omega (arith, l .loop .inv .least .within, few l, l .before .before .before .before .before .before .pre .1)
 
 loop-less : tie.Need-loop-less Inv-loop μ-loop
 loop-less c = omega (arith, c .before .before .before .before .before .before .before .before .before .before .before .before .before .loop-test .taken)
@@ -109,13 +125,17 @@ loop-again c =
     let d = l .before .before .before .before .before .before in
     let a = d .args in
     seen-next (a .letters) (a .targets .now) (a .priorities .now) (a .cycle .now) (l .before .seen-since .result) (l .loop .t) (l .loop .w) (l .loop .round) (l .loop .inv) (r .seen-word .result) (one r)
-    (j .seen-joined .result) (j .seen-joined .ensures) (subst (λ (k : ℕ). l .loop .round < k) (d .pre .0) (r .before .before .before .loop-test .taken)) (c .before .watch-next .result) (c .before .watch-next .ensures) _ (c .seen-since3 .ensures)
+    (j .seen-joined .result) (j .seen-joined .ensures) (subst (λ (k : ℕ). l .loop .round < k) (d .pre .1) (r .before .before .before .loop-test .taken)) (c .before .watch-next .result) (c .before .watch-next .ensures) _ (c .seen-since3 .ensures)
 
 seen-since-requires-4 : tie.Need-seen-since-requires-4 Inv-loop μ-loop
 seen-since-requires-4 c κs = search needs
 
 seen-rounds-requires : tie.Need-seen-rounds-requires Inv-loop μ-loop
-seen-rounds-requires c κs = search needs
+unfolding seenSince
+seen-rounds-requires c κs =
+    let l = c .before .before in
+    let d = l .before .before .before .before .before .before in
+    (d .pre .0, d .pre .1, subst (λ (x : Seen). x .run .state < d .args .n) (sym (c .seen-since4 .ensures)) (within l), d .pre .3)
 
 returns-3 : tie.Need-returns-3 Inv-loop μ-loop
 unfolding seenSince
@@ -125,10 +145,10 @@ returns-3 c =
     let a = d .args in
     let f = seenAfter (a .letters) (a .targets .now) (a .priorities .now) (a .cycle .now) in
     let is : c .seen-rounds .result ≡ iter f (rowStates (a .letters) (a .targets .now) (a .priorities .now)) (seenAnew (l .loop .t))
-    = c .seen-rounds .ensures ∙ ap (iter f (a .n)) (c .before .seen-since4 .ensures) ∙ ap (λ (k : ℕ). iter f k (seenAnew (l .loop .t))) (d .pre .0) in
+    = c .seen-rounds .ensures ∙ ap (iter f (a .n)) (c .before .seen-since4 .ensures) ∙ ap (λ (k : ℕ). iter f k (seenAnew (l .loop .t))) (d .pre .1) in
     from-s l (c .seen-rounds .result)
     (seen-end (a .letters) (a .targets .now) (a .priorities .now) (a .cycle .now) (l .before .seen-since .result) (l .loop .t) (l .loop .w) (l .loop .round) (l .loop .inv)
-    (low l) (subst (λ (k : ℕ). k ≤ l .loop .round) (d .pre .0) (c .before .before .loop-test .left)) (c .seen-rounds .result) is)
+    (low l) (subst (λ (k : ℕ). k ≤ l .loop .round) (d .pre .1) (c .before .before .loop-test .left)) (c .seen-rounds .result) is)
 
 pub seen-recurring-spec : {M : Type 1} → statement M
 seen-recurring-spec =
