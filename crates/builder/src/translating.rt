@@ -347,7 +347,15 @@ fn fill<'a>(
     ensures answer { λ r. ⌜ r ≡ translationOf p (tables (now (masks .entry)) (now (parents .entry)) (now (ranks .entry)) (now (sources .entry)) (now (leaves .entry)) (now (targets .entry)) (now (priorities .entry))) ⌝ }
     ensures tables { λ _. ⌜ Hold (tablesAfter p (tables (now (masks .entry)) (now (parents .entry)) (now (ranks .entry)) (now (sources .entry)) (now (leaves .entry)) (now (targets .entry)) (now (priorities .entry)))) (now (masks .exit)) (now (parents .exit)) (now (ranks .exit)) (now (sources .exit)) (now (leaves .exit)) (now (targets .exit)) (now (priorities .exit)) ⌝ }
 {
-    let Filled::Nodes(nodes) = decomposition::nodes::fill_nodes(p, masks, parents, ranks) else {
+    let Filled::Nodes(nodes) = decomposition::nodes::fill_nodes(
+        p,
+        heads,
+        hues,
+        family,
+        masks,
+        parents,
+        ranks,
+    ) else {
         clear_built(sources, leaves, targets, priorities);
         return Translation::Refused(9);
     };

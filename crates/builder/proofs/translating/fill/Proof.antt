@@ -12,7 +12,7 @@ fill-nodes-requires : tie.Need-fill-nodes-requires
 fill-nodes-requires c κs =
     let s = c .before .before .before .before .before .before .before .before .before .before in
     let z = fit-lengths (s .args .p) (s .args .masks .now) (s .args .parents .now) (s .args .ranks .now) (s .args .sources .now) (s .args .leaves .now) (s .args .targets .now) (s .args .priorities .now) (s .pre .1 .1) in
-    (s .pre .1 .0, z .0, z .1)
+    (s .pre .0, (s .pre .1 .0, z .0, z .1))
 
 enum-known-nodes : tie.Need-enum-known-nodes
 enum-known-nodes c = search needs
@@ -57,7 +57,7 @@ build-requires c κs =
     let n = c .before .before .before .before .before .before .before .before .before .before .before .before .before .before .before .before .fill-nodes in
     let z = fit-lengths (s .args .p) (s .args .masks .now) (s .args .parents .now) (s .args .ranks .now) (s .args .sources .now) (s .args .leaves .now) (s .args .targets .now) (s .args .priorities .now) (s .pre .1 .1) in
     let f = nodes-fits (s .args .p) (s .args .masks .now) (s .args .parents .now) (s .args .ranks .now) (n .ensures .0) (c .before .before .before .before .before .before .before .before .nodes .given .1) in
-    (s .pre .1 .0, s .pre .0 .0, nodes-are (s .args .p) (s .args .masks .now) (s .args .parents .now) (s .args .ranks .now) _ _ _ (n .ensures .1) (f .0) (z .0) (z .1) (n .kept .1 .0) (n .kept .1 .1 .0) (n .kept .1 .1 .1 .0), f .1, z .2)
+    (s .pre .1 .0, s .pre .0 .0, nodes-are (s .args .p) (s .args .masks .now) (s .args .parents .now) (s .args .ranks .now) _ _ _ (n .ensures .1) (f .0) (z .0) (z .1) (n .kept .1 .1 .1 .1 .0) (n .kept .1 .1 .1 .1 .1 .0) (n .kept .1 .1 .1 .1 .1 .1 .0), f .1, z .2)
 
 enum-known-states : tie.Need-enum-known-states
 enum-known-states c = search needs
@@ -103,9 +103,9 @@ returns-2 c =
     let f = nodes-fits (s .args .p) (s .args .masks .now) (s .args .parents .now) (s .args .ranks .now) (n .ensures .0) (c .before .before .before .before .before .before .before .before .before .before .before .before .before .before .before .before .before .before .before .before .before .before .before .before .before .before .before .before .before .before .before .nodes .given .1) in
     let g = none-fits (s .args .p) (s .args .sources .now) (b .ensures .0) (c .before .before .before .before .before .before .before .before .before .before .before .before .enum-told2 .given .1) in
     refused-ten (s .args .p) (s .args .masks .now) (s .args .parents .now) (s .args .ranks .now) (s .args .sources .now) (s .args .leaves .now) (s .args .targets .now) (s .args .priorities .now) (s .pre .1 .0) (s .pre .1 .1) _ _ _ _ _ _ _ (f .0) g (
-      c .before .before .before .before .before .before .before .before .before .before .clear64 .ensures ∙ zeros-same (n .last .1 .0) (s .args .masks .now) (n .kept .1 .0),
-      c .before .before .before .before .before .before .clear16 .ensures ∙ zeros-same (n .last .1 .1 .0) (s .args .parents .now) (n .kept .1 .1 .0),
-      c .before .before .clear8 .ensures ∙ zeros-same (n .last .1 .1 .1 .0) (s .args .ranks .now) (n .kept .1 .1 .1 .0),
+      c .before .before .before .before .before .before .before .before .before .before .clear64 .ensures ∙ zeros-same (n .last .1 .1 .1 .1 .0) (s .args .masks .now) (n .kept .1 .1 .1 .1 .0),
+      c .before .before .before .before .before .before .clear16 .ensures ∙ zeros-same (n .last .1 .1 .1 .1 .1 .0) (s .args .parents .now) (n .kept .1 .1 .1 .1 .1 .0),
+      c .before .before .clear8 .ensures ∙ zeros-same (n .last .1 .1 .1 .1 .1 .1 .0) (s .args .ranks .now) (n .kept .1 .1 .1 .1 .1 .1 .0),
     ) (b .ensures .1)
 
 cast-t53 : tie.Need-cast-t53
