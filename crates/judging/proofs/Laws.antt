@@ -1,8 +1,8 @@
 -- What the values that judging collects say of the lists behind them: the least priority, the set of the colours, whether there is a member. Each depends on
 -- the members alone. Assumes nothing.
-use Prim.Native.Nat.{ℕ, _^_, _≤_, min}
+use Prim.Native.Nat.{ℕ, _≤_, min}
 use native.Mathlib.Omega.{arith}
-use mathlib.Core.Path.{_≡_, refl, sym, ap, _∙_}
+use mathlib.Core.Path.{_≡_, refl, sym, _∙_}
 use mathlib.Core.Logic.{_⊎_, inl, inr, _↔_}
 use mathlib.Core.Bool.{true, false, _||_, cond, false≢true}
 use mathlib.Core.List.{List, [], _∷_, _++_, List·Memᴰ, List·Memᴰ·head, List·Memᴰ·tail, List·Memᴰ·not-nil, List·Memᴰ·append-cases, Memᴰ·append-left, Memᴰ·append-right, Memᴰ·cast}
@@ -10,7 +10,7 @@ use lib.Bits.{bitOr}
 use lib.Dec.{eqb, ltb}
 use lib.ListN.{length}
 use Rattle.lists.proofs.Bools.{test, eqb≡, ≡eqb, lt-true, lt-false, or-cases, or-left, or-right, bool-ext}
-use Rattle.masks.specs.Masks.{has, insert}
+use Rattle.masks.specs.Masks.{has}
 use Rattle.masks.proofs.Bits.{has-or, has-none, has-insert, mask-ext}
 use Rattle.judging.specs.Judging.{nonEmpty, setOf, leastOf}
 
@@ -108,11 +108,6 @@ set-append l r = sym (sets-equal (bitOr (setOf l) (setOf r)) (l ++ r) (λ c. (λ
     from : (c : ℕ) → List·Memᴰ c l ⊎ List·Memᴰ c r → has (setOf l) c || has (setOf r) c ≡ true
     from c (inl m) = or-left (has (setOf l) c) (has (setOf r) c) (set-has l c .1 m)
     from c (inr m) = or-right (has (setOf l) c) (has (setOf r) c) (set-has r c .1 m)
-
--- one more at the end, as the code takes it
-pub set-with : (l : List ℕ) (c s : ℕ) → s ≡ setOf l → insert s c ≡ setOf (l ++ (c ∷ []))
-unfolding setOf insert
-set-with l c s e = ap (λ (x : ℕ). bitOr x (2 ^ c)) e ∙ ap (bitOr (setOf l)) (sym (lib.Bits.or-zero-l (2 ^ c))) ∙ sym (set-append l (c ∷ []))
 
 -- ---- whether there is a member
 pub some-member : {A : Type 0} (l : List A) → nonEmpty l ≡ true → (y : A) × List·Memᴰ y l

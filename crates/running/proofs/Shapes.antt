@@ -5,7 +5,7 @@ use native.Mathlib.Nat.{div-mul-le-self, lt-div-mul-add, div-add-mod', mul-assoc
 use native.Mathlib.Omega.{arith}
 use mathlib.Core.Path.{_≡_, refl, sym, ap, _∙_, subst}
 use mathlib.Core.Logic.{_⊎_, inl, inr, _≢_}
-use mathlib.Core.Bool.{Bool, true, false, cond}
+use mathlib.Core.Bool.{true, false, cond}
 use mathlib.Core.List.{List}
 use lib.Arith.{digits-div}
 use lib.ListN.{length}
@@ -58,19 +58,18 @@ module _ (letters : ℕ) (targets priorities : List ℕ) where
       go (inl t) = absurd (h (shaped-facts letters targets priorities t))
       go (inr f) = rw f refl
 
-  -- more than 65,535 states, whole or not
+  -- more rows than those of 65,535 states
   pub states-many : 65535 * letters < length targets → Shaped letters targets priorities → ⊥
   states-many h s = omega (arith, h, div-add-mod' (length targets) letters, s .whole, mul-le-mul-right letters (s .few))
 
-  module _ (q : ℕ) (is : q ≡ length targets * share letters / 4294967296) where
-    -- the share gives the number of states, or no states are there
-    pub states-broken : q * letters ≢ length targets → Shaped letters targets priorities → ⊥
-    states-broken h s =
-        let n = length targets in
-        let m = n / letters in
-        let whole : m * letters ≡ n = omega (arith, div-add-mod' n letters, s .whole) in
-        let same : q ≡ m = is ∙ ap (λ (x : ℕ). x * share letters / 4294967296) (sym whole) ∙ share-whole letters m (s .some) (s .most) (s .few) in
-        h (ap (λ (x : ℕ). x * letters) same ∙ whole)
+  -- the product gives the number of states, if there is one
+  pub states-broken : (q : ℕ) → q ≡ length targets * share letters / 4294967296 → q * letters ≢ length targets → Shaped letters targets priorities → ⊥
+  states-broken q is h s =
+      let n = length targets in
+      let m = n / letters in
+      let whole : m * letters ≡ n = omega (arith, div-add-mod' n letters, s .whole) in
+      let same : q ≡ m = is ∙ ap (λ (x : ℕ). x * share letters / 4294967296) (sym whole) ∙ share-whole letters m (s .some) (s .most) (s .few) in
+      h (ap (λ (x : ℕ). x * letters) same ∙ whole)
 
   pub states-some : (q : ℕ) → 1 ≤ letters → letters ≤ 8 → length targets ≡ length priorities → length targets ≤ 65535 * letters → q * letters ≡ length targets → q ≡ statesOf letters targets priorities
   unfolding statesOf rowStates

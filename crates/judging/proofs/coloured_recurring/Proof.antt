@@ -1,6 +1,6 @@
 -- The loop seeks: it holds what was met since the kept state was kept, so that meeting that state again is a repeat; and so is a round that ends where it began. Assumes nothing.
 use native.Mathlib.Omega.{arith}
-use Prim.Native.Nat.{ℕ, _-_, _<_}
+use Prim.Native.Nat.{_-_, _<_}
 use mathlib.Core.Path.{_≡_, refl, sym, ap, _∙_, subst}
 use mathlib.Core.List.{[]}
 use Rattle.recurrence.specs.Recurs.{iter}

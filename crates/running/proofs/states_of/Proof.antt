@@ -3,7 +3,6 @@ use Prim.Native.Nat.{ℕ, _*_, _/_, _≤_}
 use native.Mathlib.Nat.{mul-le-mul}
 use native.Mathlib.Omega.{arith}
 use mathlib.Core.Path.{sym, ap, subst}
-use borrow.Author.Needs.{needs}
 use lib.ListN.{length}
 use Rattle.running.proofs.Shapes.{share-fits, states-none, states-many, states-broken, states-some}
 use Rattle.running.proofs.states_of.Statement.{statement}
