@@ -1,20 +1,19 @@
--- One turn of the loops that test every number below n, and of the one that collects the colours of an edge set. Assumes nothing.
+-- One turn of the loops that test every number below n. Assumes nothing.
 use Prim.Native.Nat.{ℕ, zero, suc, _+_, _-_, _^_, _≤_, _<_}
 use native.Mathlib.Omega.{arith}
 use native.Mathlib.Decide.{ℕ-discrete}
 use native.Mathlib.Numerals.{add-one}
 use mathlib.Core.Path.{_≡_, refl, sym, ap, ap₂, _∙_}
 use mathlib.Core.Logic.{_⊎_, inl, inr}
-use mathlib.Core.Bool.{Bool, true, false, not, _&&_, _||_, cond, and-true, or-true, or-false}
+use mathlib.Core.Bool.{Bool, true, false, not, _&&_, _||_, and-true, or-true, or-false}
 use mathlib.Core.List.{List, [], _∷_, _++_}
 use lib.Dec.{eqb, ltb}
 use lib.Pow.{pow-pos}
 use borrow.Author.Tests.{lt-ltb, le-ltb}
 use Rattle.lists.specs.Lists.{all, below}
 use Rattle.lists.proofs.Bools.{≡eqb, neqb}
-use Rattle.masks.specs.Masks.{has, insert}
 use Rattle.policy.specs.declared.Policy.{Policy}
-use Rattle.policy.specs.Policies.{edges, targetOf, colourOf, coloursBelow, inFamily, legalCounts, legalEdge, legalSet, legal}
+use Rattle.policy.specs.Policies.{edges, targetOf, colourOf, inFamily, legalCounts, legalEdge, legalSet, legal}
 
 -- a member more at the end
 pub all-snoc : {A : Type 0} (t : A → Bool) (l : List A) (x : A) → all t (l ++ (x ∷ [])) ≡ all t l && t x
@@ -86,13 +85,3 @@ module _ (p : Policy) where
   pub legal-counted : legalCounts p ≡ true → (a b : Bool) → a ≡ all (legalEdge p) (below 64) → b ≡ all (legalSet p) (below 256) → a && b ≡ legal p
   unfolding legal
   legal-counted t a b q r = ap₂ _&&_ q r ∙ ap (λ (x : Bool). x && all (legalEdge p) (below 64) && all (legalSet p) (below 256)) (sym t)
-
-  -- ---- the colours of an edge set
-  pub colours-none : (m : ℕ) → coloursBelow p 0 m ≡ 0
-  unfolding coloursBelow
-  colours-none m = refl
-
-  -- with edge n, where m has it
-  pub colours-next : (n m : ℕ) → coloursBelow p (n + 1) m ≡ cond (has m n) (insert (coloursBelow p n m) (colourOf p n)) (coloursBelow p n m)
-  unfolding coloursBelow
-  colours-next n m = rw add-one refl

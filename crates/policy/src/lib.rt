@@ -1,11 +1,11 @@
 // A policy: a deterministic Muller automaton with 1 to 16 states, 1 to 8 letters, 1 to 8 colours and at most 64 edges.
 // Edge number = state times letters plus letter. Entries past the last edge are 0. family[s] says whether the colour set s is in the family.
 ghost use mathlib.Core.Path.{_≡_};
-ghost use Prim.Native.Nat.{_<_, _≤_};
+ghost use Prim.Native.Nat.{_≤_};
 ghost use mathlib.Core.Bool.{true};
 ghost use Rattle.lists.specs.Lists.{all, below};
 ghost use Rattle.policy.specs.ByColour.{byColour, tableEdges, tableColours};
-ghost use Rattle.policy.specs.Policies.{edges, targetOf, colourOf, coloursOf, inFamily, accepting, legalCounts, legalEdge, legalSet, legal};
+ghost use Rattle.policy.specs.Policies.{edges, inFamily, accepting, legalCounts, legalEdge, legalSet, legal};
 
 pub struct Policy {
     pub states: u8,
@@ -24,48 +24,11 @@ pub fn edges(p: Policy) -> usize
     p.states as usize * p.letters as usize
 }
 
-// The state that edge e leads to.
-pub fn target_of(p: Policy, e: usize) -> u8
-    requires { ⌜ e < 64 ⌝ }
-    ensures { λ r. ⌜ r ≡ targetOf p e ⌝ }
-{
-    p.target[e]
-}
-
-// The colour of edge e.
-pub fn colour_of(p: Policy, e: usize) -> u8
-    requires { ⌜ e < 64 ⌝ }
-    ensures { λ r. ⌜ r ≡ colourOf p e ⌝ }
-{
-    p.colour[e]
-}
-
 // Whether a colour set is in the family.
 pub fn in_family(p: Policy, s: u8) -> bool
     ensures { λ r. ⌜ r ≡ inFamily p s ⌝ }
 {
     p.family[s as usize]
-}
-
-// The colours of an edge set.
-pub fn colours_of(p: Policy, m: u64) -> u8
-    requires { ⌜ legal p ≡ true ⌝ }
-    ensures { λ r. ⌜ r ≡ coloursOf p m ⌝ }
-{
-    let mut s: u8 = 0;
-    let n = edges(p);
-    for e in 0..n {
-        s = masks::set_with_if(s, p.colour[e], masks::has(m, e));
-    }
-    s
-}
-
-// The verdict of an edge set.
-pub fn is_accepting(p: Policy, m: u64) -> bool
-    requires { ⌜ legal p ≡ true ⌝ }
-    ensures { λ r. ⌜ r ≡ accepting p m ⌝ }
-{
-    in_family(p, colours_of(p, m))
 }
 
 // ---- the edges by colour
