@@ -96,7 +96,7 @@ pub extern "C" fn wulfrenda_translate_bytes(
         *counts = [0, 0, 0];
         return number;
     }
-    let t = builder::translating::translate(
+    let t = builder::translating::translate_legal(
         p,
         masks,
         parents,

@@ -1,9 +1,10 @@
 -- `wulfrenda::wulfrenda_translate_bytes` meets its contract: after a refused reading nothing is translated, and a policy that was read is legal. Assumes nothing.
-use mathlib.Core.Path.{_≡_, sym, ap, _∙_, subst}
+use mathlib.Core.Path.{sym, ap, _∙_}
+use Rattle.policy.specs.Policies.{legal}
 use Rattle.reading.specs.declared.Answer.{Answer}
 use Rattle.reading.specs.Reading.{offsetOf, numberOf as readNumberOf}
 use Rattle.reading.proofs.Legal.{number-legal, number-illegal}
-use Rattle.builder.specs.Tables.{Hold, translationOf, tablesAfter, tables, countsOf, numberOf}
+use Rattle.builder.specs.Tables.{translationOf, tables, countsOf, numberOf}
 use Rattle.wulfrenda.proofs.Bytes.{illegal-counts, illegal-tables, first-refused, first-passed}
 use borrow.Author.Needs.{needs}
 use Rattle.wulfrenda.proofs.wulfrenda_translate_bytes.Statement.{statement}
@@ -34,8 +35,11 @@ returns c =
       ),
     )
 
-translate-requires : tie.Need-translate-requires
-translate-requires c κs = search needs
+translate-legal-requires : tie.Need-translate-legal-requires
+translate-legal-requires c κs =
+    let is = c .before .before .before .before .before .before .before .before .before .before .before .read .ensures in
+    let n = c .before .before .before .before .before .before .before .before .read-number .ensures ∙ ap (λ (x : Answer). readNumberOf (x .outcome)) is in
+    ap (λ (x : Answer). legal (x .policy)) is ∙ number-legal (c .before .before .before .before .before .before .before .before .before .before .before .before .before .before .before .before .before .before .before .before .args .bytes .now) (sym n ∙ c .before .before .before .before .before .before .before .if1 .left)
 
 translate-counts-requires : tie.Need-translate-counts-requires
 translate-counts-requires c κs = search needs
@@ -69,7 +73,7 @@ returns-2 c =
     let a = c .before .before .before .before .before .before .before .before .before .before .before .before .before .before .before .before .before .before .before .before .before .before .before .before .before .before .before .before .before .before .before .before .before .before .before .before .before .args in
     let is = c .before .before .before .before .before .before .before .before .before .before .before .before .before .before .before .before .before .before .before .before .before .before .before .before .before .before .before .before .read .ensures in
     let n = c .before .before .before .before .before .before .before .before .before .before .before .before .before .before .before .before .before .before .before .before .before .before .before .before .before .read-number .ensures ∙ ap (λ (x : Answer). readNumberOf (x .outcome)) is in
-    let t = c .before .before .before .before .before .before .before .before .before .before .before .before .before .before .before .before .translate in
+    let t = c .before .before .before .before .before .before .before .before .before .before .before .before .before .before .before .before .translate-legal in
     let before = tables (a .masks .now) (a .parents .now) (a .ranks .now) (a .sources .now) (a .leaves .now) (a .targets .now) (a .priorities .now) in
     let translated = t .ensures .0 ∙ ap (λ (x : Answer). translationOf (x .policy) before) is in (
       first-passed _ _ _ (sym n ∙ c .before .before .before .before .before .before .before .before .before .before .before .before .before .before .before .before .before .before .before .before .before .before .before .before .if1 .left) (c .translate-number .ensures ∙ ap numberOf translated),
@@ -87,7 +91,7 @@ wulfrenda-translate-bytes-spec =
     read-offset-requires
     read-number-requires
     returns
-    translate-requires
+    translate-legal-requires
     translate-counts-requires
     translate-number-requires
     same-length
