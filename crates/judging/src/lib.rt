@@ -69,31 +69,7 @@ struct Seen {
     pub stray: bool,
 }
 
-// After a letter more, over rows of n states that question 8 lets through: of running's questions only 13 is left to ask.
-fn seen_with(s: Seen, letter: u8, n: usize, letters: u8, targets: &[u16], priorities: &[u8]) -> Seen
-    requires { ⌜ (shaped letters (now targets) (now priorities) ≡ true) × (n ≡ rowStates letters (now targets) (now priorities)) × (s .run .state < n) × (letter < letters) ⌝ }
-    ensures { λ r. ⌜ r ≡ seenStep letters (now (targets .entry)) (now (priorities .entry)) s letter ⌝ }
-{
-    let run = s.run;
-    let row = run.state as usize * letters as usize + letter as usize;
-    let t = targets[row];
-    if n <= t as usize {
-        return Seen {
-            run: run,
-            least: s.least,
-            stray: true,
-        };
-    }
-    let met = priorities[row];
-    let least = if met < s.least { met } else { s.least };
-    Seen {
-        run: Run { state: t },
-        least: least,
-        stray: s.stray,
-    }
-}
-
-// After a list of letters.
+// After a list of letters in range, over rows of n states that question 8 lets through: of running's questions only 13 is left to ask.
 fn seen_word(
     s: Seen,
     word: &[u8],
@@ -105,13 +81,31 @@ fn seen_word(
     requires { ⌜ (shaped letters (now targets) (now priorities) ≡ true) × (n ≡ rowStates letters (now targets) (now priorities)) × (s .run .state < n) × (inRange letters (now word) ≡ true) ⌝ }
     ensures { λ r. ⌜ r ≡ seenAfter letters (now (targets .entry)) (now (priorities .entry)) (now (word .entry)) s ⌝ }
 {
-    let mut t = s;
+    let k = letters as usize;
+    let run = s.run;
+    let mut at = run.state as usize;
+    let mut least = s.least;
+    let mut stray = s.stray;
     let mut i = 0;
     while i < word.len() {
-        t = seen_with(t, word[i], n, letters, targets, priorities);
+        let row = at * k + word[i] as usize;
+        let t = targets[row] as usize;
+        if n <= t {
+            stray = true;
+        } else {
+            let met = priorities[row];
+            if met < least {
+                least = met;
+            }
+            at = t;
+        }
         i += 1;
     }
-    t
+    Seen {
+        run: Run { state: at as u16 },
+        least: least,
+        stray: stray,
+    }
 }
 
 // After n rounds.
