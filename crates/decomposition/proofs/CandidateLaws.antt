@@ -1,35 +1,38 @@
 -- The laws behind the listing of candidates: appending to a list, and the candidates state by state and colour set by colour set. Assumes nothing.
 use Prim.Native.Nat.{ℕ, _+_, _*_, _-_, _^_, _≤_, _<_}
 use native.Mathlib.Omega.{arith}
+use native.Mathlib.Decide.{decLt}
 use native.Mathlib.Nat.{mul-le-mul-right, mul-comm, suc-mul}
 use native.Mathlib.Numerals.{add-one}
 use mathlib.Core.Path.{_≡_, refl, sym, ap, _∙_, subst}
 use mathlib.Core.Logic.{_⊎_, inl, inr, _≢_}
-use mathlib.Core.Bool.{Bool, Bool·beq, true, false, not, _&&_, cond, true≢false}
-use mathlib.Core.List.{List, [], _∷_, _++_, map, append-nil, append-assoc, List·Memᴰ, List·Memᴰ·head, List·Memᴰ·tail, List·Memᴰ·not-nil, List·Memᴰ·eq-of-singleton}
+use mathlib.Core.Bool.{Bool, true, false, not, cond, true≢false, false≢true}
+use mathlib.Core.List.{List, [], _∷_, _++_, map, append-nil, append-assoc, List·Memᴰ, List·Memᴰ·head, List·Memᴰ·tail}
+use lib.Bits.{bitOr, or-zero-r}
 use lib.Dec.{eqb}
-use lib.ListN.{length, take, set, length-set, length-append}
-use lib.Pow.{pow-mono}
-use lib.Seq.{take-suc-set}
-use Rattle.lists.specs.Lists.{any, filter, flat, below}
-use Rattle.lists.proofs.Bools.{eqb≡, ≡eqb, neqb, and-l, and-r, not-true, bool-ext, same-or-not}
-use Rattle.lists.proofs.Lists.{all-each, each-all, flat-mem}
+use lib.ListN.{length, take, getD, set, length-set, length-append}
+use lib.Pow.{pow-mono, pow-pos}
+use lib.Seq.{take-suc, take-suc-set}
+use Rattle.lists.specs.Lists.{filter, flat, below}
+use Rattle.lists.proofs.Bools.{≡eqb, neqb, bool-ext, same-or-not}
+use Rattle.lists.proofs.Lists.{all-each, each-all}
 use Rattle.masks.specs.Masks.{has, inside}
-use Rattle.masks.proofs.Bits.{has-full, mask-ext, inside-trans}
+use Rattle.masks.proofs.Bits.{has-full, has-high, has-none, mask-ext, inside-all, inside-trans}
 use Rattle.policy.specs.declared.Policy.{Policy}
 use Rattle.policy.specs.Policies.{edges, edgeColours, coloursOf, inFamily, accepting, legal}
 use Rattle.policy.specs.ByColour.{byColour, edgesIn, tableEdges, tableColours}
-use Rattle.policy.proofs.Laws.{legal-counts, colours-up, accepting-is}
-use Rattle.policy.proofs.ByColour.{edges-in-some, some-edges-in, table-edges-are}
-use Rattle.graph.specs.Cycles.{contains}
+use Rattle.policy.proofs.Laws.{legal-counts, some-colours, colours-up, accepting-is, edge-coloured}
+use Rattle.policy.proofs.ByColour.{edges-in-some, some-edges-in, table-edges-are, table-colours-are}
 use Rattle.graph.specs.Coloured.{coloured}
 use Rattle.graph.specs.Through.{cycleThrough}
 use Rattle.graph.proofs.Coloured.{coloured-some, some-coloured, coloured-inside}
 use Rattle.graph.proofs.Through.{through-inside}
+use Rattle.decomposition.specs.declared.listing.Counts.{Counts}
 use Rattle.decomposition.specs.Forest.{differs, full}
-use Rattle.decomposition.specs.Candidates.{lowestIs, candidateAt, candidatesOf, coloursAt, candidates, judged, rootAt, rootCandidates}
-use Rattle.decomposition.specs.Listed.{single, Appended, lowestCycle, keptIn, candidatesTo, judgedOf, judgedTo, rootsTo}
-use Rattle.decomposition.proofs.Distinct.{length-below, flat-few}
+use Rattle.decomposition.specs.Candidates.{lowestIs, largestAt, largestIn, candidatesOf, coloursAt, candidates, judged, rootCandidates}
+use Rattle.decomposition.specs.Listed.{single, Appended, isOpen, lowestCycle, keptIn, largestTo, judgedOf, judgedTo, Found, Finding, Put, Listing, Listed}
+use Rattle.decomposition.proofs.Candidates.{lowest-some, largest-in-mem, of-mem, of-colours, of-few}
+use Rattle.decomposition.proofs.Covered.{open-cycle, shut-cycle, covered-none, covered-next}
 
 -- ---- appending
 pub single-none : (x : ℕ) → x ≡ 0 → single x ≡ []
@@ -47,10 +50,10 @@ appended-none t n xs e = record {
   long = refl;
 }
 
-pub appended-one : (t : List ℕ) (n x : ℕ) → n < length t → x ≢ 0 → Appended t (set t n x) n (n + 1) (single x)
-appended-one t n x h k = record {
-  first-are = ap (λ (r : ℕ). take r (set t n x)) (add-one n) ∙ take-suc-set t n x h ∙ ap (λ (l : List ℕ). take n t ++ l) (sym (single-one x k));
-  next-is = omega (arith, ap length (single-one x k));
+pub appended-one : (t : List ℕ) (n x : ℕ) → n < length t → Appended t (set t n x) n (n + 1) (x ∷ [])
+appended-one t n x h = record {
+  first-are = ap (λ (r : ℕ). take r (set t n x)) (add-one n) ∙ take-suc-set t n x h;
+  next-is = omega arith;
   long = length-set t n x;
 }
 
@@ -63,6 +66,42 @@ appended-join {t₀} {t₁} {t₂} {n} {i} {j} {xs} {ys} a b zs e = record {
 
 pub appended-is : {t₀ t : List ℕ} {n r : ℕ} {xs : List ℕ} → Appended t₀ t n r xs → (ys : List ℕ) → ys ≡ xs → Appended t₀ t n r ys
 appended-is {t₀} {t} {n} {r} {xs} a ys e = subst (Appended t₀ t n r) (sym e) a
+
+-- ---- by verdict
+pub put-none : (b : Bool) (xs a r : List ℕ) (n : Counts) → xs ≡ [] → Put b xs a a r r n n
+put-none b xs a r n e = record {
+  accepting-are = appended-none a (n .accepting) (cond b xs []) (go b);
+  rejecting-are = appended-none r (n .rejecting) (cond b [] xs) (stop b);
+  roots-same = refl;
+}
+  where
+    go : (b : Bool) → cond b xs [] ≡ []
+    go true = e
+    go false = refl
+
+    stop : (b : Bool) → cond b [] xs ≡ []
+    stop true = refl
+    stop false = e
+
+pub put-accepting : {b : Bool} {xs a₀ a : List ℕ} (k : Counts) {m : ℕ} → b ≡ true → Appended a₀ a (k .accepting) m xs → (r : List ℕ)
+    → Put b xs a₀ a r r k (record { accepting = m; rejecting = k .rejecting; roots = k .roots })
+put-accepting {b} {xs} {a₀} {a} k {m} e h r = record {
+  accepting-are = appended-is h (cond b xs []) (rw e refl);
+  rejecting-are = appended-none r (k .rejecting) (cond b [] xs) (rw e refl);
+  roots-same = refl;
+}
+
+pub put-rejecting : {b : Bool} {xs r₀ r : List ℕ} (k : Counts) {m : ℕ} → b ≡ false → (a : List ℕ) → Appended r₀ r (k .rejecting) m xs
+    → Put b xs a a r₀ r k (record { accepting = k .accepting; rejecting = m; roots = k .roots })
+put-rejecting {b} {xs} {r₀} {r} k {m} e a h = record {
+  accepting-are = appended-none a (k .accepting) (cond b xs []) (rw e refl);
+  rejecting-are = appended-is h (cond b [] xs) (rw e refl);
+  roots-same = refl;
+}
+
+pub put-is : {b d : Bool} {xs ys a₀ a r₀ r : List ℕ} {k n : Counts} → Put b xs a₀ a r₀ r k n → b ≡ d → xs ≡ ys → Put d ys a₀ a r₀ r k n
+put-is {b} {d} {xs} {ys} {a₀} {a} {r₀} {r} {k} {n} h e q =
+    subst (λ (zs : List ℕ). Put d zs a₀ a r₀ r k n) q (subst (λ (f : Bool). Put f xs a₀ a r₀ r k n) e h)
 
 -- ---- lists made piece by piece
 flat-last : (f : ℕ → List ℕ) (l : List ℕ) (n : ℕ) → flat (map f (l ++ (n ∷ []))) ≡ flat (map f l) ++ f n
@@ -100,56 +139,43 @@ single-few x = go (eqb x 0)
     go true = omega arith
     go false = omega arith
 
-one-few : (b : Bool) (x : ℕ) → length (cond b (x ∷ []) []) ≤ 1
-one-few true x = omega arith
-one-few false x = omega arith
-
-one-mem : (b : Bool) (x y : ℕ) → List·Memᴰ y (cond b (x ∷ []) []) → (b ≡ true) × (y ≡ x)
-one-mem true x y k = (refl, List·Memᴰ·eq-of-singleton k)
-one-mem false x y k = absurd (List·Memᴰ·not-nil k)
-
 one-single : (b : Bool) (y : ℕ) → (b ≡ true → y ≢ 0) → cond b (y ∷ []) [] ≡ single (cond b y 0)
 one-single true y h = sym (single-one y (h refl))
 one-single false y h = sym (single-none 0 refl)
 
-kept-single : (b : Bool) (f : ℕ → Bool) (y : ℕ) → (b ≡ true → y ≢ 0) → cond (b && f y) (y ∷ []) [] ≡ single (cond (f (cond b y 0)) (cond b y 0) 0)
-kept-single true f y h = one-single (f y) y (λ t. h refl)
-kept-single false f y h = go (f 0)
+-- ---- cycles kept by their colours
+pub kept-none : (by : List ℕ) (c : ℕ) (l : List ℕ) → keptIn by c (take 0 l) ≡ []
+unfolding keptIn
+kept-none by c l = refl
+
+kept-next : (by : List ℕ) (c : ℕ) (l : List ℕ) (i : ℕ) → i < length l → keptIn by c (take (i + 1) l) ≡ keptIn by c (take i l) ++ keptIn by c (getD l i 0 ∷ [])
+unfolding keptIn
+kept-next by c l i h =
+    ap (filter (λ (x : ℕ). eqb (tableColours by x) c)) (ap (λ (k : ℕ). take k l) (add-one i) ∙ take-suc l i 0 h)
+    ∙ filter-append (λ (x : ℕ). eqb (tableColours by x) c) (take i l) (getD l i 0 ∷ [])
+
+-- one turn: the member at place i, whose colours are d
+pub kept-in : {t₀ t u : List ℕ} {at next k : ℕ} (by : List ℕ) (c : ℕ) (l : List ℕ) (i : ℕ) {d : ℕ} → Appended t₀ t at next (keptIn by c (take i l)) → i < length l → next < length t
+    → d ≡ tableColours by (getD l i 0) → d ≡ c → u ≡ set t next (getD l i 0) → k ≡ next + 1 → Appended t₀ u at k (keptIn by c (take (i + 1) l))
+unfolding keptIn
+kept-in {t₀} {t} {u} {at} {next} {k} by c l i {d} a h room e q eu ek =
+    rw (eu, ek) (appended-join a (appended-one t next (getD l i 0) room) (keptIn by c (take (i + 1) l)) is)
   where
-    go : (d : Bool) → [] ≡ single (cond d 0 0)
-    go true = sym (single-none 0 refl)
-    go false = sym (single-none 0 refl)
+    is : keptIn by c (take (i + 1) l) ≡ keptIn by c (take i l) ++ (getD l i 0 ∷ [])
+    is = kept-next by c l i h ∙ ap (λ (b : Bool). keptIn by c (take i l) ++ cond b (getD l i 0 ∷ []) []) (≡eqb (tableColours by (getD l i 0)) c (sym e ∙ q))
 
--- ---- a cycle kept by its colours
-pub kept-none : (by : List ℕ) (c x : ℕ) → x ≡ 0 → 0 ≡ keptIn by c x
+pub kept-out : {t₀ t u : List ℕ} {at next k : ℕ} (by : List ℕ) (c : ℕ) (l : List ℕ) (i : ℕ) {d : ℕ} → Appended t₀ t at next (keptIn by c (take i l)) → i < length l
+    → d ≡ tableColours by (getD l i 0) → d ≢ c → u ≡ t → k ≡ next → Appended t₀ u at k (keptIn by c (take (i + 1) l))
 unfolding keptIn
-kept-none by c x e = rw e (go (eqb (tableColours by 0) c))
+kept-out {t₀} {t} {u} {at} {next} {k} by c l i {d} a h e q eu ek = rw (eu, ek) (appended-is a (keptIn by c (take (i + 1) l)) is)
   where
-    go : (b : Bool) → _≡_ {A = ℕ} 0 (cond b 0 0)
-    go true = refl
-    go false = refl
-
-pub kept-in : (by : List ℕ) (c x : ℕ) → tableColours by x ≡ c → x ≡ keptIn by c x
-unfolding keptIn
-kept-in by c x e = rw (≡eqb (tableColours by x) c e) refl
-
-pub kept-out : (by : List ℕ) (c x : ℕ) → tableColours by x ≢ c → 0 ≡ keptIn by c x
-unfolding keptIn
-kept-out by c x e = rw (neqb (tableColours by x) c e) refl
+    is : keptIn by c (take (i + 1) l) ≡ keptIn by c (take i l)
+    is =
+        kept-next by c l i h
+        ∙ ap (λ (b : Bool). keptIn by c (take i l) ++ cond b (getD l i 0 ∷ []) []) (neqb (tableColours by (getD l i 0)) c (λ z. q (e ∙ z)))
+        ∙ append-nil (keptIn by c (take i l))
 
 -- ---- tests
-alike : (a b : Bool) → Bool·beq a b ≡ true → a ≡ b
-alike true true h = refl
-alike true false h = absurd (true≢false (sym h))
-alike false true h = absurd (true≢false (sym h))
-alike false false h = refl
-
-unlike : (a b : Bool) → Bool·beq a b ≡ false → a ≡ not b
-unlike true true h = absurd (true≢false h)
-unlike true false h = refl
-unlike false true h = refl
-unlike false false h = absurd (true≢false h)
-
 differs-same : (b a : Bool) → a ≡ b → differs b a ≡ false
 differs-same true a e = rw e
 differs-same false a e = e
@@ -159,59 +185,59 @@ differs-other true a e = rw e
 differs-other false a e = e
 
 module _ (p : Policy) where
-  lowest-some : (v x : ℕ) → lowestIs p v x ≡ true → x ≢ 0
-  unfolding lowestIs
-  lowest-some v x t e = true≢false (sym (≡eqb x 0 e) ∙ not-true (eqb x 0) (and-l (not (eqb x 0)) (not (any (λ (u : ℕ). contains p u x) (below v))) t))
+  -- ---- the largest cycles inside m, state by state
+  largest-is : (m v x : ℕ) → x ≡ lowestCycle p m v → largestAt p m v ≡ single x
+  unfolding largestAt lowestCycle
+  largest-is m v x q = let y = cycleThrough p m v in one-single (lowestIs p v y) y (λ t. lowest-some p v y t .0) ∙ ap single (sym q)
 
-  -- ---- the candidate of a colour set at a state, and the candidate for a root, from the cycle x found there
-  pub candidate-is : (by : List ℕ) (c v m x r : ℕ) → tableColours by x ≡ coloursOf p x → m ≡ coloured p (full p) c → x ≡ lowestCycle p m v → r ≡ keptIn by c x → candidateAt p c v ≡ single r
-  unfolding candidateAt keptIn lowestCycle
-  candidate-is by c v m x r same e q k =
-      ap (λ (n : ℕ). cond (lowestIs p v (cycleThrough p n v) && fits (cycleThrough p n v)) (cycleThrough p n v ∷ []) []) (sym e)
-      ∙ kept-single (lowestIs p v y) fits y (lowest-some v y)
-      ∙ ap (λ (z : ℕ). single (cond (fits z) z 0)) (sym q)
-      ∙ ap single (ap (λ (d : ℕ). cond (eqb d c) x 0) (sym same) ∙ sym k)
-    where
-      y : ℕ
-      y = cycleThrough p m v
+  to-none : (m : ℕ) → largestTo p m 0 ≡ []
+  unfolding largestTo
+  to-none m = refl
 
-      fits : ℕ → Bool
-      fits z = eqb (coloursOf p z) c
+  to-next : (m v x : ℕ) → x ≡ lowestCycle p m v → largestTo p m (v + 1) ≡ largestTo p m v ++ single x
+  unfolding largestTo
+  to-next m v x e = flat-next (largestAt p m) v ∙ ap (λ (l : List ℕ). largestTo p m v ++ l) (largest-is m v x e)
 
-  pub root-is : (v m x : ℕ) → m ≡ full p → x ≡ lowestCycle p m v → rootAt p v ≡ single x
-  unfolding rootAt lowestCycle
-  root-is v m x e q =
-      ap (λ (n : ℕ). cond (lowestIs p v (cycleThrough p n v)) (cycleThrough p n v ∷ []) []) (sym e)
-      ∙ one-single (lowestIs p v (cycleThrough p m v)) (cycleThrough p m v) (lowest-some v (cycleThrough p m v)) ∙ ap single (sym q)
+  to-all : (m n : ℕ) → n ≡ p .states → largestTo p m n ≡ largestIn p m
+  unfolding largestTo largestIn
+  to-all m n e = ap (λ (k : ℕ). flat (map (largestAt p m) (below k))) e
 
-  -- ---- the candidates of a colour set, state by state
-  pub to-none : (c : ℕ) → candidatesTo p c 0 ≡ []
-  unfolding candidatesTo
-  to-none c = refl
+  module _ (lawful : legal p ≡ true) (m : ℕ) where
+    pub finding-none : (t : List ℕ) → Finding p m t t 0 0 0
+    finding-none t = record { at-most = omega arith; seen-is = sym (covered-none p lawful m); found = appended-none t 0 (largestTo p m 0) (to-none m) }
 
-  pub to-next : (c n x : ℕ) → candidateAt p c n ≡ single x → candidatesTo p c (n + 1) ≡ candidatesTo p c n ++ single x
-  unfolding candidatesTo
-  to-next c n x e = flat-next (candidateAt p c) n ∙ ap (λ (l : List ℕ). candidatesTo p c n ++ l) e
+    -- a state that is open: the largest cycle through it
+    pub finding-open : {t₀ t t₁ : List ℕ} {seen n v : ℕ} → Finding p m t₀ t seen n v → v < p .states → isOpen p m seen v ≡ true
+        → (x s k : ℕ) → x ≡ cycleThrough p m v → s ≡ bitOr seen x → Appended t t₁ n k (single x) → Finding p m t₀ t₁ s k (v + 1)
+    finding-open {t₀} {t} {t₁} {seen} {n} {v} f l o x s k ex es a =
+        let e = ex ∙ open-cycle p lawful m v l seen (f .seen-is) o in
+        record {
+          at-most = omega (arith, f .at-most, a .next-is, single-few x);
+          seen-is = covered-next p lawful m v seen x s (f .seen-is) e es;
+          found = appended-join (f .found) a (largestTo p m (v + 1)) (to-next m v x e);
+        }
 
-  pub to-all : (c n : ℕ) → n ≡ p .states → candidatesTo p c n ≡ candidatesOf p c
-  unfolding candidatesTo candidatesOf
-  to-all c n e = ap (λ (k : ℕ). flat (map (candidateAt p c) (below k))) e
+    -- one that is not: nothing
+    pub finding-shut : {t₀ t : List ℕ} {seen n v : ℕ} → Finding p m t₀ t seen n v → v < p .states → isOpen p m seen v ≡ false → Finding p m t₀ t seen n (v + 1)
+    finding-shut {t₀} {t} {seen} {n} {v} f l o =
+        let e = shut-cycle p lawful m v l seen (f .seen-is) o in
+        record {
+          at-most = omega (arith, f .at-most);
+          seen-is = covered-next p lawful m v seen 0 seen (f .seen-is) e (sym (or-zero-r seen));
+          found = appended-is (f .found) (largestTo p m (v + 1)) (to-next m v 0 e ∙ ap (λ (l : List ℕ). largestTo p m v ++ l) (single-none 0 refl) ∙ append-nil (largestTo p m v));
+        }
 
-  of-cycle : (c x : ℕ) → List·Memᴰ x (candidatesOf p c) → (v : ℕ) × (x ≡ cycleThrough p (coloured p (full p) c) v) × (coloursOf p x ≡ c)
-  unfolding candidatesOf candidateAt
-  of-cycle c x k =
-      let r = flat-mem (candidateAt p c) (below (p .states)) x k in
-      let y = cycleThrough p (coloured p (full p) c) (r .0) in
-      let s = one-mem (lowestIs p (r .0) y && eqb (coloursOf p y) c) y x (r .2) in
-      (r .0, s .1, ap (coloursOf p) (s .1) ∙ eqb≡ (coloursOf p y) c (and-r (lowestIs p (r .0) y) (eqb (coloursOf p y) c) (s .0)))
+    pub finding-is : {t₀ t u : List ℕ} {seen n v s k : ℕ} → Finding p m t₀ t seen n v → u ≡ t → s ≡ seen → k ≡ n → Finding p m t₀ u s k v
+    finding-is {t₀} {t} {u} {seen} {n} {v} {s} {k} f eu es ek = rw (eu, es, ek) f
 
-  of-colours : (c x : ℕ) → List·Memᴰ x (candidatesOf p c) → coloursOf p x ≡ c
-  of-colours c x k = of-cycle c x k .2
+    pub finding-all : {t₀ t : List ℕ} {seen n v : ℕ} → Finding p m t₀ t seen n v → v ≡ p .states → length t₀ ≡ 16 → Found p m t n
+    finding-all {t₀} {t} {seen} {n} {v} f e l = record { cycles-are = f .found .first-are ∙ to-all m v e; few = omega (arith, f .at-most); long = f .found .long ∙ l }
 
+  -- ---- the candidates of a colour set
   of-inside : (c x : ℕ) → List·Memᴰ x (candidatesOf p c) → inside x (full p) ≡ true
   of-inside c x k =
-      let r = of-cycle c x k in
-      subst (λ (y : ℕ). inside y (full p) ≡ true) (sym (r .1)) (inside-trans (cycleThrough p m (r .0)) m (full p) (through-inside p m (r .0)) (coloured-inside p (full p) c))
+      let r = largest-in-mem p m x (of-mem p c x k .0) in
+      subst (λ (y : ℕ). inside y (full p) ≡ true) (sym (r .2)) (inside-trans (cycleThrough p m (r .0)) m (full p) (through-inside p m (r .0)) (coloured-inside p (full p) c))
     where
       m : ℕ
       m = coloured p (full p) c
@@ -221,37 +247,62 @@ module _ (p : Policy) where
   candidates-none c d e f = none-mem (candidatesOf p c) (λ x k. true≢false (sym (subst (λ (r : ℕ). inside c r ≡ true) (sym e) (within x k)) ∙ f))
     where
       within : (x : ℕ) → List·Memᴰ x (candidatesOf p c) → inside c (coloursOf p (full p)) ≡ true
-      within x k = subst (λ (r : ℕ). inside r (coloursOf p (full p)) ≡ true) (of-colours c x k) (colours-up p x (full p) (of-inside c x k))
+      within x k = subst (λ (r : ℕ). inside r (coloursOf p (full p)) ≡ true) (of-colours p c x k) (colours-up p x (full p) (of-inside c x k))
+
+  -- and none where the set is empty, since every edge has a colour
+  pub candidates-empty : (c : ℕ) → c ≡ 0 → candidatesOf p c ≡ []
+  candidates-empty c z = none-mem (candidatesOf p c) off
+    where
+      m : ℕ
+      m = coloured p (full p) c
+
+      edge : (e : ℕ) → has m e ≡ true → ⊥
+      edge e h =
+          let d = edge-coloured p e in
+          false≢true (sym (has-none (d .0)) ∙ ap (λ (k : ℕ). has k (d .0)) (sym z) ∙ coloured-some p (full p) c e h .2 (d .0) (d .1))
+
+      none : (x : ℕ) → inside x m ≡ true → x ≡ 0
+      none x i = mask-ext x 0 (λ e. bool-ext (has x e) (has 0 e) (λ h. absurd (edge e (inside-all x m i e h))) (λ h. absurd (false≢true (sym (has-none e) ∙ h))))
+
+      off : (x : ℕ) → List·Memᴰ x (candidatesOf p c) → ⊥
+      off x k =
+          let r = largest-in-mem p m x (of-mem p c x k .0) in
+          lowest-some p (r .0) x (r .3) .0 (none x (subst (λ (y : ℕ). inside y m ≡ true) (sym (r .2)) (through-inside p m (r .0))))
+
+  -- those of the largest cycles that are kept by the table
+  filter-same : (t u : ℕ → Bool) → ((x : ℕ) → t x ≡ u x) → (l : List ℕ) → filter t l ≡ filter u l
+  filter-same t u h [] = refl
+  filter-same t u h (x ∷ l) = rw (h x, filter-same t u h l) refl
+
+  pub kept-candidates : legal p ≡ true → (by : List ℕ) (c m : ℕ) (l : List ℕ) → by ≡ byColour p → m ≡ coloured p (full p) c → l ≡ largestIn p m → keptIn by c l ≡ candidatesOf p c
+  unfolding keptIn candidatesOf
+  kept-candidates lawful by c m l e q k =
+      filter-same (λ (x : ℕ). eqb (tableColours by x) c) (λ (x : ℕ). eqb (coloursOf p x) c) (λ x. ap (λ (d : ℕ). eqb d c) (ap (λ (t : List ℕ). tableColours t x) e ∙ table-colours-are p lawful x)) l
+      ∙ ap (filter (λ (x : ℕ). eqb (coloursOf p x) c)) (k ∙ ap (largestIn p) q)
+
+  -- every edge has its colours among those on edges
+  pub all-coloured : (c : ℕ) → c ≡ coloursOf p (full p) → full p ≡ coloured p (full p) c
+  unfolding full
+  all-coloured c e = mask-ext (full p) (coloured p (full p) c) (λ f. bool-ext (has (full p) f) (has (coloured p (full p) c) f) (there f (decLt f (edges p))) (λ h. coloured-some p (full p) c f h .1))
+    where
+      there : (f : ℕ) → Dec (f < edges p) → has (full p) f ≡ true → has (coloured p (full p) c) f ≡ true
+      there f (yes l) h = some-coloured p (full p) c f l h (λ d k. ap (λ (s : ℕ). has s d) e ∙ some-colours p (full p) f d l h k)
+      there f (no n) h = absurd (true≢false (sym h ∙ has-high (edges p) f (full p) (omega (arith, pow-pos (edges p))) (omega arith)))
 
   -- ---- the candidates by verdict, colour set by colour set
   judged-same : (b : Bool) (c : ℕ) → inFamily p c ≡ b → judgedOf p b c ≡ candidatesOf p c
   unfolding judgedOf
   judged-same b c e = ap (λ (d : Bool). cond d [] (candidatesOf p c)) (differs-same b (inFamily p c) e)
 
-  pub judged-empty : (b : Bool) (c : ℕ) → candidatesOf p c ≡ [] → judgedOf p b c ≡ []
-  unfolding judgedOf
-  judged-empty b c e = go (differs b (inFamily p c))
-    where
-      go : (d : Bool) → cond d [] (candidatesOf p c) ≡ []
-      go true = refl
-      go false = e
-
   judged-other : (b : Bool) (c : ℕ) → inFamily p c ≡ not b → judgedOf p b c ≡ []
   unfolding judgedOf
   judged-other b c e = ap (λ (d : Bool). cond d [] (candidatesOf p c)) (differs-other b (inFamily p c) e)
-
-  -- by the code's comparison of the two verdicts
-  pub judged-alike : (b v : Bool) (c : ℕ) → v ≡ inFamily p c → Bool·beq v b ≡ true → judgedOf p b c ≡ candidatesOf p c
-  judged-alike b v c e h = judged-same b c (sym e ∙ alike v b h)
-
-  pub judged-differs : (b v : Bool) (c : ℕ) → v ≡ inFamily p c → Bool·beq v b ≡ false → judgedOf p b c ≡ []
-  judged-differs b v c e h = judged-other b c (sym e ∙ unlike v b h)
 
   judged-of : (b : Bool) (c : ℕ) → filter (λ (m : ℕ). not (differs b (accepting p m))) (candidatesOf p c) ≡ judgedOf p b c
   judged-of b c = go (same-or-not (inFamily p c) b)
     where
       verdict : (x : ℕ) → List·Memᴰ x (candidatesOf p c) → accepting p x ≡ inFamily p c
-      verdict x k = accepting-is p x ∙ ap (inFamily p) (of-colours c x k)
+      verdict x k = accepting-is p x ∙ ap (inFamily p) (of-colours p c x k)
 
       go : (inFamily p c ≡ b) ⊎ (inFamily p c ≡ not b) → filter (λ (m : ℕ). not (differs b (accepting p m))) (candidatesOf p c) ≡ judgedOf p b c
       go (inl e) =
@@ -293,34 +344,56 @@ module _ (p : Policy) where
   unfolding judgedTo judged candidates
   judged-all b n e = ap (λ (k : ℕ). filter (λ (m : ℕ). not (differs b (accepting p m))) (flat (map (λ (j : ℕ). candidatesOf p (coloursAt p j)) (below k)))) e
 
-  -- at most one candidate for each state
-  of-few : (c : ℕ) → length (candidatesOf p c) ≤ p .states
-  unfolding candidatesOf candidateAt
-  of-few c = omega (arith, flat-few (candidateAt p c) 1 at-few (below (p .states)), length-below (p .states))
-    where
-      at-few : (v : ℕ) → length (candidateAt p c v) ≤ 1
-      at-few v = let y = cycleThrough p (coloured p (full p) c) v in one-few (lowestIs p v y && eqb (coloursOf p y) c) y
+  -- ---- listing, colour set by colour set
+  pub listing-none : (a r : List ℕ) (k : ℕ) → Listing p 0 a a r r (record { accepting = 0; rejecting = 0; roots = k })
+  listing-none a r k = record {
+    accepting-are = appended-none a 0 (judgedTo p true 0) (judged-none true);
+    rejecting-are = appended-none r 0 (judgedTo p false 0) (judged-none false);
+    accepting-few = omega arith;
+    rejecting-few = omega arith;
+  }
 
-  pub judged-fit : (b : Bool) (c : ℕ) → length (judgedOf p b c) ≤ p .states
+  pub listing-next : {i : ℕ} {a₀ a a₁ r₀ r r₁ : List ℕ} {k n : Counts} → Listing p i a₀ a r₀ r k → (sets : ℕ) → sets ≡ 2 ^ p .colours
+      → Put (inFamily p (sets - 1 - i)) (candidatesOf p (sets - 1 - i)) a a₁ r r₁ k n → Listing p (i + 1) a₀ a₁ r₀ r₁ n
   unfolding judgedOf
-  judged-fit b c = go (differs b (inFamily p c))
+  listing-next {i} {a₀} {a} {a₁} {r₀} {r} {r₁} {k} {n} l sets e q = record {
+    accepting-are = appended-join (l .accepting-are) (q .accepting-are) (judgedTo p true (i + 1)) (judged-next true i sets e ∙ ap (λ (x : List ℕ). judgedTo p true i ++ x) (turned (inFamily p c)));
+    rejecting-are = appended-join (l .rejecting-are) (q .rejecting-are) (judgedTo p false (i + 1)) (judged-next false i sets e);
+    accepting-few = room-next i (k .accepting) (n .accepting) _ (l .accepting-few) (q .accepting-are .next-is) (some-few (inFamily p c));
+    rejecting-few = room-next i (k .rejecting) (n .rejecting) _ (l .rejecting-few) (q .rejecting-are .next-is) (none-few (inFamily p c));
+  }
     where
-      go : (d : Bool) → length (cond d [] (candidatesOf p c)) ≤ p .states
-      go true = omega arith
-      go false = of-few c
+      c : ℕ
+      c = sets - 1 - i
 
-  -- ---- the candidates for a root, state by state
-  pub roots-none : rootsTo p 0 ≡ []
-  unfolding rootsTo
-  roots-none = refl
+      turned : (b : Bool) → cond (not b) [] (candidatesOf p c) ≡ cond b (candidatesOf p c) []
+      turned true = refl
+      turned false = refl
 
-  pub roots-next : (n x : ℕ) → rootAt p n ≡ single x → rootsTo p (n + 1) ≡ rootsTo p n ++ single x
-  unfolding rootsTo
-  roots-next n x e = flat-next (rootAt p) n ∙ ap (λ (l : List ℕ). rootsTo p n ++ l) e
+      some-few : (b : Bool) → length (cond b (candidatesOf p c) []) ≤ p .states
+      some-few true = of-few p c
+      some-few false = omega arith
 
-  pub roots-all : (n : ℕ) → n ≡ p .states → rootsTo p n ≡ rootCandidates p
-  unfolding rootsTo rootCandidates
-  roots-all n e = ap (λ (k : ℕ). flat (map (rootAt p) (below k))) e
+      none-few : (b : Bool) → length (cond b [] (candidatesOf p c)) ≤ p .states
+      none-few true = omega arith
+      none-few false = of-few p c
+
+  pub listing-all : {i : ℕ} {a₀ a r₀ r : List ℕ} {n : Counts} → Listing p i a₀ a r₀ r n → i ≡ 2 ^ p .colours → Listed p a₀ a r₀ r n
+  listing-all {i} {a₀} {a} {r₀} {r} {n} l e = record {
+    accepting-are = l .accepting-are .first-are ∙ judged-all true i e;
+    rejecting-are = l .rejecting-are .first-are ∙ judged-all false i e;
+    accepting-few = room-all i (n .accepting) e (l .accepting-few);
+    rejecting-few = room-all i (n .rejecting) e (l .rejecting-few);
+    accepting-long = l .accepting-are .long;
+    rejecting-long = l .rejecting-are .long;
+  }
+
+  pub found-is : {m k n j : ℕ} {t : List ℕ} → Found p m t n → m ≡ k → j ≡ n → Found p k t j
+  found-is {m} {k} {n} {j} {t} f e q = rw (← e, q) f
+
+  pub found-roots : {n : ℕ} {t : List ℕ} → Found p (full p) t n → take n t ≡ rootCandidates p
+  unfolding rootCandidates
+  found-roots f = f .cycles-are
 
   pub full-is : (n m : ℕ) → n ≡ edges p → m ≡ 2 ^ n - 1 → m ≡ full p
   unfolding full

@@ -6,7 +6,7 @@ use native.Mathlib.Omega.{arith}
 use native.Mathlib.Decide.{decLt}
 use mathlib.Core.Path.{_≡_, refl, sym, ap, _∙_, subst}
 use mathlib.Core.Logic.{_⊎_, inl, inr, _≢_}
-use mathlib.Core.Bool.{Bool, true, false, not, _&&_, cond, true≢false, false≢true}
+use mathlib.Core.Bool.{Bool, true, false, not, cond, true≢false, false≢true}
 use mathlib.Core.List.{List, [], _∷_, List·Memᴰ, List·Memᴰ·head, List·Memᴰ·not-nil, List·Memᴰ·eq-of-singleton, Memᴰ·cast}
 use lib.Dec.{eqb}
 use lib.ListN.{length}
@@ -24,11 +24,11 @@ use Rattle.graph.proofs.Cycles.{Targets, some-nonzero, contains-some, contains-
 use Rattle.graph.proofs.Through.{through-cycle, through-largest, through-same}
 use Rattle.decomposition.specs.Forest.{Node, isRoot, node, differs, full, inOrder, largest, roots, children}
 use Rattle.decomposition.specs.Laws.{ForestLaws, maskAt, parentAt}
-use Rattle.decomposition.specs.Candidates.{lowestIs, candidateAt, candidatesOf, coloursAt, candidates, judged, rootAt, rootCandidates}
+use Rattle.decomposition.specs.Candidates.{lowestIs, largestAt, largestIn, candidatesOf, coloursAt, candidates, judged, rootCandidates}
 use Rattle.decomposition.specs.Siblings.{childrenIn}
 use Rattle.decomposition.proofs.Order.{order-mem, mem-order}
 use Rattle.decomposition.proofs.Largest.{largest-order-mem, in-largest-order}
-use Rattle.decomposition.proofs.Distinct.{distinct-filter, distinct-below, distinct-flat, distinct-ordered, distinct-largest}
+use Rattle.decomposition.proofs.Distinct.{distinct-filter, distinct-below, distinct-flat, length-below, flat-few, distinct-ordered, distinct-largest}
 use Rattle.decomposition.proofs.Children.{root-cycle, root-largest}
 use Rattle.decomposition.proofs.Full.{inColours, Full, contains-lt, cycle-state, inside-full, full-cycle, full-state, fill, fill-inside}
 
@@ -58,6 +58,14 @@ one-distinct false x = tt
 one-few : (b : Bool) (x : ℕ) → length (cond b (x ∷ []) []) ≤ 1
 one-few true x = omega arith
 one-few false x = omega arith
+
+filter-few : (t : ℕ → Bool) (l : List ℕ) → length (filter t l) ≤ length l
+filter-few t [] = omega arith
+filter-few t (x ∷ l) = go (t x) (filter-few t l)
+  where
+    go : (b : Bool) → length (filter t l) ≤ length l → length (cond b (x ∷ filter t l) (filter t l)) ≤ suc (length l)
+    go true h = omega arith
+    go false h = omega arith
 
 -- ---- verdicts
 same-verdict : (b a : Bool) → not (differs b a) ≡ true → a ≡ b
@@ -103,22 +111,43 @@ module _ (p : Policy) where
       let r = least (λ (u : ℕ). contains p u x) v on in
       (r .0, r .1, both (not (eqb x 0)) (not (any (λ (u : ℕ). contains p u x) (below (r .0)))) (ap not (neqb x 0 (contains-nonzero v x on))) (ap not (r .2)))
 
-  -- ---- the candidate of a colour set at a state
-  abbrev fits : ℕ → ℕ → Bool
-  fits c v = let x = cycleThrough p (inColours p c) v in lowestIs p v x && eqb (coloursOf p x) c
+  -- ---- the largest cycles inside m
+  largest-at : (m v x : ℕ) → List·Memᴰ x (largestAt p m v) → (x ≡ cycleThrough p m v) × (lowestIs p v x ≡ true)
+  unfolding largestAt
+  largest-at m v x k = let y = cycleThrough p m v in let r = one-mem (lowestIs p v y) y x k in (r .1, ap (lowestIs p v) (r .1) ∙ r .0)
 
-  at-mem : (c v x : ℕ) → List·Memᴰ x (candidateAt p c v) → (x ≡ cycleThrough p (inColours p c) v) × (lowestIs p v x ≡ true) × (coloursOf p x ≡ c)
-  unfolding candidateAt
-  at-mem c v x k =
-      let y = cycleThrough p (inColours p c) v in
-      let r = one-mem (fits c v) y x k in
-      (r .1, ap (lowestIs p v) (r .1) ∙ and-l (lowestIs p v y) (eqb (coloursOf p y) c) (r .0), ap (coloursOf p) (r .1) ∙ eqb≡ (coloursOf p y) c (and-r (lowestIs p v y) (eqb (coloursOf p y) c) (r .0)))
+  pub largest-in-mem : (m x : ℕ) → List·Memᴰ x (largestIn p m) → (v : ℕ) × (v < p .states) × (x ≡ cycleThrough p m v) × (lowestIs p v x ≡ true)
+  unfolding largestIn
+  largest-in-mem m x k =
+      let r = flat-mem (largestAt p m) (below (p .states)) x k in
+      let s = largest-at m (r .0) x (r .2) in
+      (r .0, below-lt (p .states) (r .0) (r .1), s .0, s .1)
 
-  mem-at : (c v x : ℕ) → x ≡ cycleThrough p (inColours p c) v → lowestIs p v x ≡ true → coloursOf p x ≡ c → List·Memᴰ x (candidateAt p c v)
-  unfolding candidateAt
-  mem-at c v x e t d =
-      let y = cycleThrough p (inColours p c) v in
-      Memᴰ·cast e (mem-one (fits c v) y (both (lowestIs p v y) (eqb (coloursOf p y) c) (ap (lowestIs p v) (sym e) ∙ t) (≡eqb (coloursOf p y) c (ap (coloursOf p) (sym e) ∙ d))))
+  mem-largest-in : (m v x : ℕ) → v < p .states → x ≡ cycleThrough p m v → lowestIs p v x ≡ true → List·Memᴰ x (largestIn p m)
+  unfolding largestIn largestAt
+  mem-largest-in m v x l e t =
+      mem-flat (largestAt p m) (below (p .states)) v x (mem-below (p .states) v l) (Memᴰ·cast e (mem-one (lowestIs p v (cycleThrough p m v)) (cycleThrough p m v) (ap (lowestIs p v) (sym e) ∙ t)))
+
+  -- at most one for each state
+  pub largest-in-few : (m : ℕ) → length (largestIn p m) ≤ p .states
+  unfolding largestIn largestAt
+  largest-in-few m = omega (arith, flat-few (largestAt p m) 1 (λ v. one-few (lowestIs p v (cycleThrough p m v)) (cycleThrough p m v)) (below (p .states)), length-below (p .states))
+
+  -- ---- the candidates of a colour set
+  pub of-few : (c : ℕ) → length (candidatesOf p c) ≤ p .states
+  unfolding candidatesOf
+  of-few c = omega (arith, filter-few (λ (x : ℕ). eqb (coloursOf p x) c) (largestIn p (inColours p c)), largest-in-few (inColours p c))
+
+  pub of-mem : (c x : ℕ) → List·Memᴰ x (candidatesOf p c) → List·Memᴰ x (largestIn p (inColours p c)) × (coloursOf p x ≡ c)
+  unfolding candidatesOf
+  of-mem c x k = let r = filter-mem (λ (x : ℕ). eqb (coloursOf p x) c) (largestIn p (inColours p c)) x k in (r .0, eqb≡ (coloursOf p x) c (r .1))
+
+  mem-of : (c x : ℕ) → List·Memᴰ x (largestIn p (inColours p c)) → coloursOf p x ≡ c → List·Memᴰ x (candidatesOf p c)
+  unfolding candidatesOf
+  mem-of c x k e = mem-filter (λ (x : ℕ). eqb (coloursOf p x) c) (largestIn p (inColours p c)) x k (≡eqb (coloursOf p x) c e)
+
+  pub of-colours : (c x : ℕ) → List·Memᴰ x (candidatesOf p c) → coloursOf p x ≡ c
+  of-colours c x k = of-mem c x k .1
 
   -- ---- the sets of colours, by position
   colours-at : (c : ℕ) → c < 2 ^ p .colours → coloursAt p (2 ^ p .colours - 1 - c) ≡ c
@@ -130,23 +159,22 @@ module _ (p : Policy) where
   colours-once i j l k e = omega arith
 
   -- ---- the candidates
-  candidates-at : (x : ℕ) → List·Memᴰ x (candidates p) → (i v : ℕ) × (i < 2 ^ p .colours) × (v < p .states) × List·Memᴰ x (candidateAt p (coloursAt p i) v)
-  unfolding candidates candidatesOf
+  candidates-at : (x : ℕ) → List·Memᴰ x (candidates p) → (i : ℕ) × (i < 2 ^ p .colours) × List·Memᴰ x (candidatesOf p (coloursAt p i))
+  unfolding candidates
   candidates-at x k =
       let r = flat-mem (λ (i : ℕ). candidatesOf p (coloursAt p i)) (below (2 ^ p .colours)) x k in
-      let s = flat-mem (candidateAt p (coloursAt p (r .0))) (below (p .states)) x (r .2) in
-      (r .0, s .0, below-lt (2 ^ p .colours) (r .0) (r .1), below-lt (p .states) (s .0) (s .1), s .2)
+      (r .0, below-lt (2 ^ p .colours) (r .0) (r .1), r .2)
 
-  at-candidates : (x i v : ℕ) → i < 2 ^ p .colours → v < p .states → List·Memᴰ x (candidateAt p (coloursAt p i) v) → List·Memᴰ x (candidates p)
-  unfolding candidates candidatesOf
-  at-candidates x i v h l k =
-      mem-flat (λ (i : ℕ). candidatesOf p (coloursAt p i)) (below (2 ^ p .colours)) i x (mem-below (2 ^ p .colours) i h) (mem-flat (candidateAt p (coloursAt p i)) (below (p .states)) v x (mem-below (p .states) v l) k)
+  at-candidates : (x i : ℕ) → i < 2 ^ p .colours → List·Memᴰ x (candidatesOf p (coloursAt p i)) → List·Memᴰ x (candidates p)
+  unfolding candidates
+  at-candidates x i h k = mem-flat (λ (i : ℕ). candidatesOf p (coloursAt p i)) (below (2 ^ p .colours)) i x (mem-below (2 ^ p .colours) i h) k
 
   pub candidate-full : (x : ℕ) → List·Memᴰ x (candidates p) → Full p x
   candidate-full x k =
       let r = candidates-at x k in
-      let s = at-mem (coloursAt p (r .0)) (r .1) x (r .4) in
-      record { some = lowest-some (r .1) x (s .1) .0; state = r .1; state-lt = r .3; is = s .0 ∙ ap (λ (c : ℕ). cycleThrough p (inColours p c) (r .1)) (sym (s .2)) }
+      let c = of-mem (coloursAt p (r .0)) x (r .2) in
+      let s = largest-in-mem (inColours p (coloursAt p (r .0))) x (c .0) in
+      record { some = lowest-some (s .0) x (s .3) .0; state = s .0; state-lt = s .1; is = s .2 ∙ ap (λ (c : ℕ). cycleThrough p (inColours p c) (s .0)) (sym (c .1)) }
 
   -- ---- those with a given verdict
   pub judged-mem : (b : Bool) (x : ℕ) → List·Memᴰ x (judged p b) → List·Memᴰ x (candidates p) × (accepting p x ≡ b)
@@ -162,7 +190,7 @@ module _ (p : Policy) where
     targets e l = legal-target p lawful e l
 
     pub full-candidate : (x : ℕ) → Full p x → List·Memᴰ x (candidates p)
-    full-candidate x f = at-candidates x i u (omega (arith, colours-lt p lawful x)) (contains-lt p lawful u x on) (mem-at (coloursAt p i) u x is low (sym set))
+    full-candidate x f = at-candidates x i (omega (arith, colours-lt p lawful x)) (mem-of (coloursAt p i) x (mem-largest-in (inColours p (coloursAt p i)) u x (contains-lt p lawful u x on) is low) (sym set))
       where
         c : ℕ
         c = coloursOf p x
@@ -192,26 +220,26 @@ module _ (p : Policy) where
     candidate-cycle x k = full-cycle p lawful x (candidate-full x k)
 
     -- ---- each once
-    at-state : (c v x : ℕ) → v < p .states → List·Memᴰ x (candidateAt p c v) → contains p v x ≡ true
-    at-state c v x l k =
-        let r = at-mem c v x k in
-        ap (contains p v) (r .0) ∙ through-cycle p targets (inColours p c) v l (λ z. lowest-some v x (r .1) .0 (r .0 ∙ z)) .1
+    largest-in-state : (m v x : ℕ) → v < p .states → List·Memᴰ x (largestAt p m v) → contains p v x ≡ true
+    largest-in-state m v x l k =
+        let r = largest-at m v x k in
+        ap (contains p v) (r .0) ∙ through-cycle p targets m v l (λ z. lowest-some v x (r .1) .0 (r .0 ∙ z)) .1
 
-    at-distinct : (c v : ℕ) → Distinct (candidateAt p c v)
-    unfolding candidateAt
-    at-distinct c v = one-distinct (fits c v) (cycleThrough p (inColours p c) v)
+    at-distinct : (m v : ℕ) → Distinct (largestAt p m v)
+    unfolding largestAt
+    at-distinct m v = one-distinct (lowestIs p v (cycleThrough p m v)) (cycleThrough p m v)
+
+    largest-in-distinct : (m : ℕ) → Distinct (largestIn p m)
+    unfolding largestIn
+    largest-in-distinct m = distinct-flat (largestAt p m) (below (p .states)) (distinct-below (p .states)) (λ v k. at-distinct m v) same
+      where
+        same : (v u z : ℕ) → List·Memᴰ v (below (p .states)) → List·Memᴰ u (below (p .states)) → List·Memᴰ z (largestAt p m v) → List·Memᴰ z (largestAt p m u) → v ≡ u
+        same v u z k n a b =
+            lowest-same v u z (largest-at m v z a .1) (largest-at m u z b .1) (largest-in-state m v z (below-lt (p .states) v k) a) (largest-in-state m u z (below-lt (p .states) u n) b)
 
     of-distinct : (c : ℕ) → Distinct (candidatesOf p c)
     unfolding candidatesOf
-    of-distinct c = distinct-flat (candidateAt p c) (below (p .states)) (distinct-below (p .states)) (λ v m. at-distinct c v) same
-      where
-        same : (v u z : ℕ) → List·Memᴰ v (below (p .states)) → List·Memᴰ u (below (p .states)) → List·Memᴰ z (candidateAt p c v) → List·Memᴰ z (candidateAt p c u) → v ≡ u
-        same v u z m n a b =
-            lowest-same v u z (at-mem c v z a .1) (at-mem c u z b .1) (at-state c v z (below-lt (p .states) v m) a) (at-state c u z (below-lt (p .states) u n) b)
-
-    pub of-colours : (c x : ℕ) → List·Memᴰ x (candidatesOf p c) → coloursOf p x ≡ c
-    unfolding candidatesOf
-    of-colours c x k = let r = flat-mem (candidateAt p c) (below (p .states)) x k in at-mem c (r .0) x (r .2) .2
+    of-distinct c = distinct-filter (λ (x : ℕ). eqb (coloursOf p x) c) (largestIn p (inColours p c)) (largest-in-distinct (inColours p c))
 
     pub candidates-distinct : Distinct (candidates p)
     unfolding candidates
@@ -267,43 +295,19 @@ module _ (p : Policy) where
         let z = fill p lawful r (root-cycle p r k) in
         Memᴰ·cast (root-largest p r (z .0) k (full-cycle p lawful (z .0) (z .1 .filled)) (z .1 .above)) (full-candidate (z .0) (z .1 .filled))
 
-    -- the largest cycle through v, if v is its lowest state
-    root-at : (v x : ℕ) → v < p .states → List·Memᴰ x (rootAt p v) → (x ≡ cycleThrough p (full p) v) × (lowestIs p v x ≡ true) × (isCycle p x ≡ true) × (contains p v x ≡ true)
-    unfolding rootAt
-    root-at v x l k =
-        let y = cycleThrough p (full p) v in
-        let r = one-mem (lowestIs p v y) y x k in
-        let s = through-cycle p targets (full p) v l (lowest-some v y (r .0) .0) in
-        (r .1, ap (lowestIs p v) (r .1) ∙ r .0, ap (isCycle p) (r .1) ∙ s .0, ap (contains p v) (r .1) ∙ s .1)
-
-    at-root : (v x : ℕ) → x ≡ cycleThrough p (full p) v → lowestIs p v x ≡ true → List·Memᴰ x (rootAt p v)
-    unfolding rootAt
-    at-root v x e t = Memᴰ·cast e (mem-one (lowestIs p v (cycleThrough p (full p) v)) (cycleThrough p (full p) v) (ap (lowestIs p v) (sym e) ∙ t))
-
     root-candidates-at : (x : ℕ) → List·Memᴰ x (rootCandidates p) → (v : ℕ) × (v < p .states) × (x ≡ cycleThrough p (full p) v) × (isCycle p x ≡ true)
     unfolding rootCandidates
     root-candidates-at x k =
-        let r = flat-mem (rootAt p) (below (p .states)) x k in
-        let l = below-lt (p .states) (r .0) (r .1) in
-        let s = root-at (r .0) x l (r .2) in
-        (r .0, l, s .0, s .2)
+        let r = largest-in-mem (full p) x k in
+        let s = through-cycle p targets (full p) (r .0) (r .1) (λ z. lowest-some (r .0) x (r .3) .0 (r .2 ∙ z)) in
+        (r .0, r .1, r .2, ap (isCycle p) (r .2) ∙ s .0)
 
     pub root-candidates-cycle : (x : ℕ) → List·Memᴰ x (rootCandidates p) → isCycle p x ≡ true
     root-candidates-cycle x k = root-candidates-at x k .3
 
-    root-distinct : (v : ℕ) → Distinct (rootAt p v)
-    unfolding rootAt
-    root-distinct v = one-distinct (lowestIs p v (cycleThrough p (full p) v)) (cycleThrough p (full p) v)
-
     pub root-candidates-distinct : Distinct (rootCandidates p)
     unfolding rootCandidates
-    root-candidates-distinct = distinct-flat (rootAt p) (below (p .states)) (distinct-below (p .states)) (λ v m. root-distinct v) same
-      where
-        same : (v u z : ℕ) → List·Memᴰ v (below (p .states)) → List·Memᴰ u (below (p .states)) → List·Memᴰ z (rootAt p v) → List·Memᴰ z (rootAt p u) → v ≡ u
-        same v u z m n a b =
-            let r = root-at v z (below-lt (p .states) v m) a in
-            let s = root-at u z (below-lt (p .states) u n) b in
-            lowest-same v u z (r .1) (s .1) (r .3) (s .3)
+    root-candidates-distinct = largest-in-distinct (full p)
 
     -- the largest cycle through any state stands at its lowest
     whole-candidate : (v : ℕ) → v < p .states → contains p v (cycleThrough p (full p) v) ≡ true → List·Memᴰ (cycleThrough p (full p) v) (rootCandidates p)
@@ -311,7 +315,7 @@ module _ (p : Policy) where
     whole-candidate v l on =
         let x = cycleThrough p (full p) v in
         let r = some-lowest v x on in
-        mem-flat (rootAt p) (below (p .states)) (r .0) x (mem-below (p .states) (r .0) (contains-lt p lawful (r .0) x (r .1))) (at-root (r .0) x (sym (through-same p targets (full p) v (r .0) l (r .1))) (r .2))
+        mem-largest-in (full p) (r .0) x (contains-lt p lawful (r .0) x (r .1)) (sym (through-same p targets (full p) v (r .0) l (r .1))) (r .2)
 
     root-candidates-same : (x y : ℕ) → List·Memᴰ x (rootCandidates p) → List·Memᴰ y (rootCandidates p) → inside x y ≡ true → x ≡ y
     root-candidates-same x y k l i =

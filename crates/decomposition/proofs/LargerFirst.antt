@@ -88,8 +88,8 @@ module _ (p : Policy) (lawful : legal p ≡ true) where
   unfolding candidates coloursAt
   colours-fall =
       falling-flat (coloursOf p) (λ (i : ℕ). candidatesOf p (coloursAt p i)) (below (2 ^ p .colours)) (ascending-below (2 ^ p .colours))
-      (λ i. falling-same (coloursOf p) (coloursAt p i) (candidatesOf p (coloursAt p i)) (of-colours p lawful (coloursAt p i)))
-      (λ i j x y l m n. omega (arith, of-colours p lawful (coloursAt p i) x m, of-colours p lawful (coloursAt p j) y n))
+      (λ i. falling-same (coloursOf p) (coloursAt p i) (candidatesOf p (coloursAt p i)) (of-colours p (coloursAt p i)))
+      (λ i j x y l m n. omega (arith, of-colours p (coloursAt p i) x m, of-colours p (coloursAt p j) y n))
 
   pub larger-first : (b : Bool) → LargerFirst (judged p b)
   unfolding judged

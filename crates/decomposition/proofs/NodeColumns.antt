@@ -6,9 +6,8 @@ use native.Mathlib.Nat.{mul-comm, mul-le-mul-left, mul-le-mul-right}
 use native.Mathlib.Numerals.{add-one}
 use mathlib.Core.Path.{_≡_, refl, sym, ap, ap₂, _∙_, subst}
 use mathlib.Core.Logic.{_⊎_, inl, inr, _≢_}
-use mathlib.Core.Bool.{Bool, true, false, not, _&&_, cond}
+use mathlib.Core.Bool.{Bool, true, false, not, cond}
 use mathlib.Core.List.{List, [], _∷_, _++_, map}
-use lib.Dec.{eqb}
 use lib.ListN.{length, getD, take, drop, set, replicate, length-set, length-map, length-append, length-replicate}
 use lib.Seq.{sets, sets-eq, take-suc, take-all, length-take-le, getD-take}
 use borrow.Author.Tests.{le-leb, lt-leb}
@@ -17,17 +16,16 @@ use Rattle.lists.proofs.Bools.{test}
 use Rattle.tables.specs.Tables.{padded, zeros}
 use Rattle.tables.proofs.Tables.{zeros-padded, zeros-same, length-zeros, getD-padded, padded-more}
 use Rattle.policy.specs.declared.Policy.{Policy}
-use Rattle.policy.specs.Policies.{coloursOf, accepting, legal}
+use Rattle.policy.specs.Policies.{accepting, legal}
 use Rattle.policy.proofs.Laws.{legal-counts}
-use Rattle.graph.specs.Coloured.{coloured}
-use Rattle.graph.specs.Through.{cycleThrough}
 use Rattle.decomposition.specs.declared.nodes.Filled.the-variants.{Nodes, TooMany}
-use Rattle.decomposition.specs.Forest.{Node, differs, full, forest, node, priority}
+use Rattle.decomposition.specs.Forest.{Node, differs, forest, node, priority}
 use Rattle.decomposition.specs.Laws.{ForestLaws, maskAt, parentAt, rootAt}
-use Rattle.decomposition.specs.Candidates.{lowestIs, candidateAt, candidatesOf, coloursAt, candidates, judged}
+use Rattle.decomposition.specs.Candidates.{candidatesOf, coloursAt, candidates, judged}
 use Rattle.decomposition.specs.NodeTables.{nodeMasks, nodeParents, nodeRanks, Sought, Cleared, Written, Lent, Spare, Space, nodeTables, nodesFit, fillingOf, filledOf}
 use Rattle.decomposition.specs.Growing.{Ground, Room, AllGrown}
 use Rattle.decomposition.proofs.Distinct.{length-below, flat-few}
+use Rattle.decomposition.proofs.Candidates.{of-few}
 use Rattle.decomposition.proofs.CandidateLaws.{room-few}
 use Rattle.decomposition.proofs.Children.{root-few, child-fewer, ordered-children, ordered-roots}
 use Rattle.decomposition.proofs.Priorities.{priority-root, priority-child, priority-few}
@@ -117,18 +115,8 @@ module _ (p : Policy) where
       go false e = omega arith
 
   candidates-few : length (candidates p) ≤ p .states * 2 ^ p .colours
-  unfolding candidates candidatesOf candidateAt
-  candidates-few = omega (arith, flat-few (λ (i : ℕ). candidatesOf p (coloursAt p i)) (p .states) of-few (below (2 ^ p .colours)), ap (λ (k : ℕ). k * p .states) (length-below (2 ^ p .colours)), mul-comm (p .states) (2 ^ p .colours))
-    where
-      one-few : (b : Bool) (x : ℕ) → length (cond b (x ∷ []) []) ≤ 1
-      one-few true x = omega arith
-      one-few false x = omega arith
-
-      at-few : (c v : ℕ) → length (candidateAt p c v) ≤ 1
-      at-few c v = let x = cycleThrough p (coloured p (full p) c) v in one-few (lowestIs p v x && eqb (coloursOf p x) c) x
-
-      of-few : (i : ℕ) → length (candidatesOf p (coloursAt p i)) ≤ p .states
-      of-few i = omega (arith, flat-few (candidateAt p (coloursAt p i)) 1 (at-few (coloursAt p i)) (below (p .states)), length-below (p .states))
+  unfolding candidates
+  candidates-few = omega (arith, flat-few (λ (i : ℕ). candidatesOf p (coloursAt p i)) (p .states) (λ i. of-few p (coloursAt p i)) (below (2 ^ p .colours)), ap (λ (k : ℕ). k * p .states) (length-below (2 ^ p .colours)), mul-comm (p .states) (2 ^ p .colours))
 
   judged-few : length (judged p true) + length (judged p false) ≤ p .states * 2 ^ p .colours
   unfolding judged

@@ -16,12 +16,17 @@ module _ (p : Policy) where
   unfoldable pub lowestIs : ℕ → ℕ → Bool
   lowestIs v x = not (eqb x 0) && not (any (λ u. contains p u x) (below v))
 
-  -- the largest cycle through v with colours in c, if its colours are exactly c and v is its lowest state
-  unfoldable pub candidateAt : ℕ → ℕ → List ℕ
-  candidateAt c v = let x = cycleThrough p (coloured p (full p) c) v in cond (lowestIs v x && eqb (coloursOf p x) c) (x ∷ []) []
+  -- the largest cycle through v inside m, if v is its lowest state
+  unfoldable pub largestAt : ℕ → ℕ → List ℕ
+  largestAt m v = let x = cycleThrough p m v in cond (lowestIs v x) (x ∷ []) []
 
+  -- the largest cycles inside m, by their lowest states
+  unfoldable pub largestIn : ℕ → List ℕ
+  largestIn m = flat (map (largestAt m) (below (p .states)))
+
+  -- the largest cycles with colours in c, if their colours are exactly c
   unfoldable pub candidatesOf : ℕ → List ℕ
-  candidatesOf c = flat (map (candidateAt c) (below (p .states)))
+  candidatesOf c = filter (λ x. eqb (coloursOf p x) c) (largestIn (coloured p (full p) c))
 
   -- the sets of the policy's colours, by falling mask: the one at position i
   unfoldable pub coloursAt : ℕ → ℕ
@@ -35,9 +40,6 @@ module _ (p : Policy) where
   unfoldable pub judged : Bool → List ℕ
   judged b = filter (λ m. not (differs b (accepting p m))) candidates
 
-  -- the largest cycle through v, if v is its lowest state
-  unfoldable pub rootAt : ℕ → List ℕ
-  rootAt v = let x = cycleThrough p (full p) v in cond (lowestIs v x) (x ∷ []) []
-
+  -- the candidates for a root: the largest cycles of all
   unfoldable pub rootCandidates : List ℕ
-  rootCandidates = flat (map rootAt (below (p .states)))
+  rootCandidates = largestIn (full p)

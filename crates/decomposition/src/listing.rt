@@ -2,19 +2,18 @@
 ghost use mathlib.Core.Path.{_≡_};
 ghost use mathlib.Core.Bool.{true};
 ghost use Prim.Native.Nat.{_+_, _*_, _^_, _<_, _≤_};
-ghost use lib.ListN.{length};
-ghost use Rattle.policy.specs.Policies.{coloursOf, inFamily, legal};
+ghost use lib.ListN.{length, take};
+ghost use Rattle.policy.specs.Policies.{inFamily, legal};
 ghost use Rattle.policy.specs.ByColour.{byColour};
-ghost use Rattle.graph.specs.Through.{Rows};
-ghost use Rattle.decomposition.specs.Forest.{full};
-ghost use Rattle.decomposition.specs.Candidates.{candidatesOf, judged};
-ghost use Rattle.decomposition.specs.Listed.{single, Appended, ownEdges, isOpen, lowestCycle, covered, keptIn, judgedOf, Listed, RootsListed};
+ghost use Rattle.decomposition.specs.Candidates.{candidatesOf, rootCandidates};
+ghost use Rattle.decomposition.specs.Listed.{single, Appended, ownEdges, isOpen, keptIn, Found, Put, Ready, Listed};
 use policy::Policy;
 
-// How many candidates each list holds.
+// How many candidates each list holds, and how many candidates for a root there are.
 pub struct Counts {
     pub accepting: usize,
     pub rejecting: usize,
+    pub roots: usize,
 }
 
 // The edges that leave state v.
@@ -36,90 +35,139 @@ fn is_open(p: Policy, m: u64, k: u64, v: usize) -> bool
     (masks::both(own, m) != 0) & (masks::both(own, k) == 0)
 }
 
-// The largest cycle through v inside m, if v is its lowest state; else 0. `seen` has these cycles for the states below v, so v is the lowest state of its
-// own exactly if it is in none of them. The heads are the targets of p's edges, and the rows are those of m.
-fn lowest_cycle(p: Policy, heads: &[u8; 64], rows: &[u64; 16], m: u64, seen: u64, v: usize) -> u64
-    requires { ⌜ (legal p ≡ true) × (now heads ≡ p .target) × (v < p .states) × Rows p m (now rows) × (seen ≡ covered p m v) ⌝ }
-    ensures { λ r. ⌜ r ≡ lowestCycle p m v ⌝ }
-{
-    if is_open(p, m, seen, v) {
-        return graph::cycle_through(p, heads, rows, m, v);
-    }
-    0
-}
-
-// x, if its colours are exactly c; else 0.
-fn kept(by: &[u64; 8], c: u8, x: u64) -> u64
-    ensures { λ r. ⌜ r ≡ keptIn (now (by .entry)) c x ⌝ }
-{
-    if x == 0 {
-        return 0;
-    }
-    let d = policy::colours_in(by, x);
-    if d == c {
-        return x;
-    }
-    0
-}
-
-// x after the first n masks of a list; nothing where x is 0.
-fn append(list: &mut [u64], n: usize, x: u64) -> usize
-    requires { ⌜ n < length (now list) ⌝ }
-    ensures { λ r. ⌜ Appended (now (list .entry)) (now (list .exit)) n r (single x) ⌝ }
+// x after the first n cycles of a list; nothing where x is 0.
+fn append(cycles: &mut [u64; 16], n: usize, x: u64) -> usize
+    requires { ⌜ (n < 16) × (length (now cycles) ≡ 16) ⌝ }
+    ensures { λ r. ⌜ Appended (now (cycles .entry)) (now (cycles .exit)) n r (single x) ⌝ }
 {
     if x == 0 {
         return n;
     }
-    list[n] = x;
+    cycles[n] = x;
     n + 1
 }
 
-// The candidates of the colour set c after the first n masks of a list. `by` has the edges of each colour.
-fn append_candidates(
+// The largest cycles inside m, by their lowest states. `seen` has those of the states below v, so v is the lowest state of its own exactly if it is in none of
+// them. The rows are space that is lent.
+fn fill_cycles(
     p: Policy,
     heads: &[u8; 64],
-    by: &[u64; 8],
-    c: u8,
-    list: &mut [u64],
-    n: usize,
+    m: u64,
+    rows: &mut [u64; 16],
+    cycles: &mut [u64; 16],
 ) -> usize
-    requires { ⌜ (legal p ≡ true) × (now heads ≡ p .target) × (now by ≡ byColour p) × (n + p .states ≤ length (now list)) ⌝ }
-    ensures { λ r. ⌜ Appended (now (list .entry)) (now (list .exit)) n r (candidatesOf p c) ⌝ }
+    requires { ⌜ (legal p ≡ true) × (now heads ≡ p .target) × (length (now rows) ≡ 16) × (length (now cycles) ≡ 16) ⌝ }
+    ensures { λ r. ⌜ Found p m (now (cycles .exit)) r × (length (now (rows .exit)) ≡ 16) ⌝ }
 {
-    let m = policy::edges_in(by, c);
-    let rows = graph::reach_all(p, heads, m);
+    graph::reach_all(p, heads, m, rows);
     let states = p.states as usize;
     let mut seen: u64 = 0;
-    let mut next = n;
+    let mut n: usize = 0;
     for v in 0..states {
-        let x = lowest_cycle(p, heads, &rows, m, seen, v);
-        seen = masks::either(seen, x);
-        next = append(list, next, kept(by, c, x));
+        if is_open(p, m, seen, v) {
+            let x = graph::cycle_through(p, heads, rows, m, v);
+            seen = masks::either(seen, x);
+            n = append(cycles, n, x);
+        }
+    }
+    n
+}
+
+// Those of the first n cycles whose colours by the table are exactly c, after the first `at` masks of a list.
+fn append_kept(
+    by: &[u64; 8],
+    c: u8,
+    cycles: &[u64; 16],
+    n: usize,
+    list: &mut [u64],
+    at: usize,
+) -> usize
+    requires { ⌜ (n ≤ 16) × (length (now cycles) ≡ 16) × (at + n ≤ length (now list)) ⌝ }
+    ensures { λ r. ⌜ Appended (now (list .entry)) (now (list .exit)) at r (keptIn (now (by .entry)) c (take n (now (cycles .entry)))) ⌝ }
+{
+    let mut next = at;
+    for i in 0..n {
+        let x = cycles[i];
+        let d = policy::colours_in(by, x);
+        if d == c {
+            list[next] = x;
+            next += 1;
+        }
     }
     next
 }
 
-// The candidates of the colour set c after the first n masks of a list, if the verdict of c is b. There are none where some colour of c is on no edge.
+// The same, in the list of the verdict of c.
 fn append_judged(
+    by: &[u64; 8],
+    c: u8,
+    verdict: bool,
+    cycles: &[u64; 16],
+    n: usize,
+    accepting: &mut [u64],
+    rejecting: &mut [u64],
+    listed: Counts,
+) -> Counts
+    requires { ⌜ (n ≤ 16) × (length (now cycles) ≡ 16) × (listed .accepting + n ≤ length (now accepting)) × (listed .rejecting + n ≤ length (now rejecting)) ⌝ }
+    ensures { λ r. ⌜ Put verdict (keptIn (now (by .entry)) c (take n (now (cycles .entry)))) (now (accepting .entry)) (now (accepting .exit)) (now (rejecting .entry)) (now (rejecting .exit)) listed r ⌝ }
+{
+    if verdict {
+        let a = append_kept(by, c, cycles, n, accepting, listed.accepting);
+        return Counts {
+            accepting: a,
+            rejecting: listed.rejecting,
+            roots: listed.roots,
+        };
+    }
+    let b = append_kept(by, c, cycles, n, rejecting, listed.rejecting);
+    Counts {
+        accepting: listed.accepting,
+        rejecting: b,
+        roots: listed.roots,
+    }
+}
+
+// The candidates of the colour set c, after those listed so far. There are none where c is empty or some colour of c is on no edge. Where c has every colour on
+// edges, the largest cycles are the roots. The rows and the cycles are space that is lent.
+fn list_set(
     p: Policy,
     heads: &[u8; 64],
     by: &[u64; 8],
+    family: &[bool; 256],
     used: u8,
-    b: bool,
     c: u8,
-    verdict: bool,
-    list: &mut [u64],
-    n: usize,
-) -> usize
-    requires { ⌜ (legal p ≡ true) × (now heads ≡ p .target) × (now by ≡ byColour p) × (used ≡ coloursOf p (full p)) × (verdict ≡ inFamily p c) × (n + p .states ≤ length (now list)) ⌝ }
-    ensures { λ r. ⌜ Appended (now (list .entry)) (now (list .exit)) n r (judgedOf p b c) ⌝ }
+    roots: &[u64; 16],
+    rows: &mut [u64; 16],
+    cycles: &mut [u64; 16],
+    accepting: &mut [u64],
+    rejecting: &mut [u64],
+    listed: Counts,
+) -> Counts
+    requires { ⌜ Ready p (now heads) (now by) (now family) used (now roots) (listed .roots) × (length (now rows) ≡ 16) × (length (now cycles) ≡ 16) × (listed .accepting + p .states ≤ length (now accepting)) × (listed .rejecting + p .states ≤ length (now rejecting)) ⌝ }
+    ensures { λ r. ⌜ Put (inFamily p c) (candidatesOf p c) (now (accepting .entry)) (now (accepting .exit)) (now (rejecting .entry)) (now (rejecting .exit)) listed r × (length (now (rows .exit)) ≡ 16) × (length (now (cycles .exit)) ≡ 16) ⌝ }
 {
-    if masks::set_inside(c, used) {
-        if verdict == b {
-            return append_candidates(p, heads, by, c, list, n);
-        }
+    if c == 0 {
+        return listed;
     }
-    n
+    if masks::set_inside(c, used) {
+        let verdict = family[c as usize];
+        if c == used {
+            return append_judged(
+                by,
+                c,
+                verdict,
+                roots,
+                listed.roots,
+                accepting,
+                rejecting,
+                listed,
+            );
+        }
+        let m = policy::edges_in(by, c);
+        let n = fill_cycles(p, heads, m, rows, cycles);
+        return append_judged(by, c, verdict, cycles, n, accepting, rejecting, listed);
+    }
+    listed
 }
 
 // How many sets of the policy's colours there are.
@@ -130,57 +178,48 @@ fn set_count(p: Policy) -> usize
     1 << p.colours
 }
 
-// The candidates of verdict b: by falling masks of their colours, and then by their lowest states.
-fn fill_judged(
+// The candidates of a policy by verdict, each list by falling masks of their colours and then by their lowest states; and the candidates for a root. `by` has the
+// edges of each colour.
+pub fn fill_candidates(
     p: Policy,
     heads: &[u8; 64],
     by: &[u64; 8],
-    used: u8,
-    b: bool,
-    list: &mut [u64],
-) -> usize
-    requires { ⌜ (legal p ≡ true) × (now heads ≡ p .target) × (now by ≡ byColour p) × (used ≡ coloursOf p (full p)) × (p .states * 2 ^ p .colours ≤ length (now list)) ⌝ }
-    ensures { λ r. ⌜ Appended (now (list .entry)) (now (list .exit)) 0 r (judged p b) × (r ≤ p .states * 2 ^ p .colours) ⌝ }
+    family: &[bool; 256],
+    accepting: &mut [u64],
+    rejecting: &mut [u64],
+    roots: &mut [u64; 16],
+) -> Counts
+    requires { ⌜ (legal p ≡ true) × (now heads ≡ p .target) × (now by ≡ byColour p) × (now family ≡ p .family) × (p .states * 2 ^ p .colours ≤ length (now accepting)) × (p .states * 2 ^ p .colours ≤ length (now rejecting)) × (length (now roots) ≡ 16) ⌝ }
+    ensures listed { λ r. ⌜ Listed p (now (accepting .entry)) (now (accepting .exit)) (now (rejecting .entry)) (now (rejecting .exit)) r ⌝ }
+    ensures rooted { λ r. ⌜ (take (r .roots) (now (roots .exit)) ≡ rootCandidates p) × (r .roots ≤ 16) × (length (now (roots .exit)) ≡ 16) ⌝ }
 {
+    let all = masks::full(policy::edges(p));
+    let used = policy::colours_in(by, all);
     let sets = set_count(p);
-    let mut n: usize = 0;
+    let mut rows = [0u64; 16];
+    let mut cycles = [0u64; 16];
+    let rooted = fill_cycles(p, heads, all, &mut rows, roots);
+    let mut listed = Counts {
+        accepting: 0,
+        rejecting: 0,
+        roots: rooted,
+    };
     for i in 0..sets {
         let c = (sets - 1 - i) as u8;
-        let verdict = p.family[c as usize];
-        n = append_judged(p, heads, by, used, b, c, verdict, list, n);
+        listed = list_set(
+            p,
+            heads,
+            by,
+            family,
+            used,
+            c,
+            roots,
+            &mut rows,
+            &mut cycles,
+            accepting,
+            rejecting,
+            listed,
+        );
     }
-    n
-}
-
-// The candidates of a policy, by verdict.
-pub fn fill_candidates(p: Policy, accepting: &mut [u64], rejecting: &mut [u64]) -> Counts
-    requires { ⌜ (legal p ≡ true) × (p .states * 2 ^ p .colours ≤ length (now accepting)) × (p .states * 2 ^ p .colours ≤ length (now rejecting)) ⌝ }
-    ensures { λ r. ⌜ Listed p (now (accepting .entry)) (now (accepting .exit)) (now (rejecting .entry)) (now (rejecting .exit)) r ⌝ }
-{
-    let by = policy::by_colour(p);
-    let used = policy::colours_in(&by, masks::full(policy::edges(p)));
-    let a = fill_judged(p, &p.target, &by, used, true, accepting);
-    let b = fill_judged(p, &p.target, &by, used, false, rejecting);
-    Counts {
-        accepting: a,
-        rejecting: b,
-    }
-}
-
-// The candidates for a root, in the order of their lowest states.
-pub fn fill_roots(p: Policy, roots: &mut [u64]) -> usize
-    requires { ⌜ (legal p ≡ true) × (16 ≤ length (now roots)) ⌝ }
-    ensures { λ r. ⌜ RootsListed p (now (roots .entry)) (now (roots .exit)) r ⌝ }
-{
-    let m = masks::full(policy::edges(p));
-    let rows = graph::reach_all(p, &p.target, m);
-    let states = p.states as usize;
-    let mut seen: u64 = 0;
-    let mut next: usize = 0;
-    for v in 0..states {
-        let x = lowest_cycle(p, &p.target, &rows, m, seen, v);
-        seen = masks::either(seen, x);
-        next = append(roots, next, x);
-    }
-    next
+    listed
 }

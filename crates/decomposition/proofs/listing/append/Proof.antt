@@ -1,28 +1,28 @@
 -- `decomposition::listing::append` meets its contract. Assumes nothing.
 use Rattle.decomposition.specs.Listed.{single}
-use Rattle.decomposition.proofs.CandidateLaws.{single-none, appended-none, appended-one}
+use Rattle.decomposition.proofs.CandidateLaws.{single-none, single-one, appended-none, appended-one, appended-is}
+use native.Mathlib.Omega.{arith}
 use borrow.Author.Needs.{needs}
 use Rattle.decomposition.proofs.listing.append.Statement.{statement}
 use Rattle.decomposition.proofs.listing.append.Tie as tie
 
 returns : tie.Need-returns
-returns c = appended-none (c .before .args .list .now) (c .before .args .n) (single (c .before .args .x)) (single-none (c .before .args .x) (c .if1 .taken))
+returns c = appended-none (c .before .args .cycles .now) (c .before .args .n) (single (c .before .args .x)) (single-none (c .before .args .x) (c .if1 .taken))
 
-mul-list : tie.Need-mul-list
-mul-list c = search needs
+mul-cycles : tie.Need-mul-cycles
+mul-cycles c = search needs
 
-slice-write-list : tie.Need-slice-write-list
-slice-write-list c = search needs
+element-write-cycles : tie.Need-element-write-cycles
+element-write-cycles c = search needs
 
 add-result : tie.Need-add-result
 add-result c = search needs
 
-same-length : tie.Need-same-length
-same-length c = search needs
-
 returns-2 : tie.Need-returns-2
-returns-2 c = appended-one (c .before .args .list .now) (c .before .args .n) (c .before .args .x) (c .before .pre) (c .if1 .left)
+returns-2 c =
+    let s = c .before in
+    appended-is (appended-one (s .args .cycles .now) (s .args .n) (s .args .x) (omega (arith, s .pre .0, s .pre .1))) (single (s .args .x)) (single-one (s .args .x) (c .if1 .left))
 
 pub append-spec : {M : Type 1} → statement M
 append-spec =
-    tie.close (tie.spec returns mul-list slice-write-list add-result same-length returns-2)
+    tie.close (tie.spec returns mul-cycles element-write-cycles add-result returns-2)
