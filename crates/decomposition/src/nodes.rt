@@ -259,11 +259,11 @@ fn fill_large(
 }
 
 // The nodes of the forest, in tables of one length. Where they do not fit, every place is 0.
-pub fn fill_nodes(
+pub fn fill_nodes<'a>(
     p: Policy,
-    heads: &[u8; 64],
-    hues: &[u8; 64],
-    family: &[bool; 256],
+    heads: &'a [u8; 64],
+    hues: &'a [u8; 64],
+    family: &'a [bool; 256],
     masks: &mut [u64],
     parents: &mut [u16],
     ranks: &mut [u8],

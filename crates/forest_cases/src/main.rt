@@ -61,7 +61,15 @@ fn show_forest(name: &[u8], bytes: &[u8]) {
         let mut masks = [7u64; 256];
         let mut parents = [7u16; 256];
         let mut ranks = [7u8; 256];
-        let f = decomposition::nodes::fill_nodes(p, &mut masks, &mut parents, &mut ranks);
+        let f = decomposition::nodes::fill_nodes(
+            p,
+            &p.target,
+            &p.colour,
+            &p.family,
+            &mut masks,
+            &mut parents,
+            &mut ranks,
+        );
         show_tables(show_filled(f), &masks, &parents, &ranks);
     } else {
         io::write_all(1, b": not legal\n");
@@ -77,7 +85,16 @@ fn show_short(bytes: &[u8]) {
         let mut masks = [7u64; 2];
         let mut parents = [7u16; 2];
         let mut ranks = [7u8; 2];
-        show_filled(decomposition::nodes::fill_nodes(p, &mut masks, &mut parents, &mut ranks));
+        let f = decomposition::nodes::fill_nodes(
+            p,
+            &p.target,
+            &p.colour,
+            &p.family,
+            &mut masks,
+            &mut parents,
+            &mut ranks,
+        );
+        show_filled(f);
         show_node(0, masks[0], parents[0], ranks[0]);
         show_node(1, masks[1], parents[1], ranks[1]);
     }
