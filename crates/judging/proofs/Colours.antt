@@ -14,7 +14,7 @@ use Rattle.recurrence.proofs.Repeats.{iter-keeps}
 use Rattle.masks.specs.Masks.{insert}
 use Rattle.policy.specs.declared.Policy.{Policy}
 use Rattle.policy.specs.Policies.{legal, edgeOf, targetOf, colourOf, edgeColours, inFamily}
-use Rattle.policy.proofs.Laws.{legal-counts, legal-colour, edges-le, edge-lt}
+use Rattle.policy.proofs.Laws.{legal-counts, legal-target, legal-colour, edges-le, edge-lt}
 use Rattle.running.specs.Running.{policyStep, policyMeets}
 use Rattle.running.proofs.Steps.{policy-moves, policy-within}
 use Rattle.judging.specs.declared.PolicyVerdict.the-variants.{Judged, Refused as RefusedPolicy}
@@ -41,6 +41,10 @@ module _ (p : Policy) where
   pub edge-small : legal p ≡ true → (v a : ℕ) → v < p .states → a < p .letters → v * p .letters + a < 64
   unfolding edgeOf
   edge-small ok v a h l = omega (arith, edge-lt p v a h l, edges-le p ok)
+
+  pub target-small : legal p ≡ true → (v a : ℕ) → v < p .states → a < p .letters → targetOf p (v * p .letters + a) < 16
+  unfolding edgeOf
+  target-small ok v a h l = omega (arith, legal-target p ok (v * p .letters + a) (edge-lt p v a h l), legal-counts p ok .states-few)
 
   pub colour-small : legal p ≡ true → (v a : ℕ) → v < p .states → a < p .letters → colourOf p (v * p .letters + a) < 8
   unfolding edgeOf

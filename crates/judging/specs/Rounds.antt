@@ -5,6 +5,7 @@ use mathlib.Core.List.{List, [], _∷_}
 use lib.Bits.{bitOr}
 use lib.Dec.{eqb, ltb}
 use Rattle.policy.specs.declared.Policy.{Policy}
+use Rattle.running.specs.declared.Run.{Run}
 use Rattle.running.specs.declared.Reading.{Reading}
 use Rattle.running.specs.declared.Reading.the-variants.{Moved, Refused}
 use Rattle.running.specs.Running.{policyStep, policyMeets, readingOf}
@@ -27,25 +28,29 @@ watchNext w s =
     (record { kept = w .kept; since = w .since + 1; limit = w .limit })
 
 -- ---- rows
+-- the run
+abbrev pub runOf : Seen → Run
+runOf s = record { state = s .state }
+
 -- after a reading more
 abbrev pub seenWith : Seen → Reading → Seen
-seenWith s (Moved r k) = record { run = r; least = cond (ltb k (s .least)) k (s .least); stray = s .stray }
-seenWith s (Refused n r) = record { run = r; least = s .least; stray = s .stray || eqb n 13 }
+seenWith s (Moved r k) = record { state = r .state; least = cond (ltb k (s .least)) k (s .least); stray = s .stray }
+seenWith s (Refused n r) = record { state = r .state; least = s .least; stray = s .stray || eqb n 13 }
 
 -- with no priority met yet; so taken up where the kept state was kept 0 rounds ago
 abbrev pub seenAnew : Seen → Seen
-seenAnew s = record { run = s .run; least = 255; stray = s .stray }
+seenAnew s = record { state = s .state; least = 255; stray = s .stray }
 
 unfoldable pub seenSince : Seen → ℕ → Seen
 seenSince s since = cond (eqb since 0) (seenAnew s) s
 
 -- what s met and a round from there with no priority met yet, at its end
 abbrev pub seenJoined : Seen → Seen → Seen
-seenJoined s one = record { run = one .run; least = cond (ltb (one .least) (s .least)) (one .least) (s .least); stray = one .stray }
+seenJoined s one = record { state = one .state; least = cond (ltb (one .least) (s .least)) (one .least) (s .least); stray = one .stray }
 
 module _ (letters : ℕ) (targets priorities : List ℕ) where
   unfoldable pub seenStep : Seen → ℕ → Seen
-  seenStep s a = seenWith s (readingOf letters targets priorities (s .run) a)
+  seenStep s a = seenWith s (readingOf letters targets priorities (runOf s) a)
 
   -- after a list of letters
   abbrev pub seenAfter : List ℕ → Seen → Seen

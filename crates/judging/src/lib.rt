@@ -7,9 +7,8 @@ ghost use Rattle.recurrence.specs.Recurs.{iter};
 ghost use Rattle.policy.specs.Policies.{legal};
 ghost use Rattle.running.specs.Running.{rowStates, shaped};
 ghost use Rattle.judging.specs.Judging.{inRange, recurringColours, everStray, leastRecurring, policyVerdict, rowsVerdict};
-ghost use Rattle.judging.specs.Rounds.{watchNext, seenStep, seenAfter, seenSince, seenJoined, colouredStep, colouredAfter, colouredSince, colouredJoined};
+ghost use Rattle.judging.specs.Rounds.{watchNext, runOf, seenStep, seenAfter, seenSince, seenJoined, colouredStep, colouredAfter, colouredSince, colouredJoined};
 use policy::Policy;
-use running::Run;
 
 // The colours that recur and whether their set is in the family; or document 01's number.
 pub enum PolicyVerdict {
@@ -38,13 +37,13 @@ fn in_range(letters: u8, word: &[u8]) -> bool
 
 // What the search for a repeat keeps: the state at the end of an earlier round, how many rounds ago that was, and after how many rounds it gives way.
 struct Watch {
-    pub kept: u16,
+    pub kept: usize,
     pub since: usize,
     pub limit: usize,
 }
 
 // A round more, which ended in the state: the kept state gives way to it when its time is up, and the next one stays twice as long.
-fn watch_next(w: Watch, state: u16) -> Watch
+fn watch_next(w: Watch, state: usize) -> Watch
     requires { ⌜ (w .since < 65536) × (w .limit < 262144) ⌝ }
     ensures { λ r. ⌜ r ≡ watchNext w state ⌝ }
 {
@@ -62,14 +61,37 @@ fn watch_next(w: Watch, state: u16) -> Watch
     }
 }
 
-// What a run over rows has come to: the run, the least priority met (255 of none), and whether it read a row whose target is no state.
+// What a run over rows has come to: its state, the least priority met (255 of none), and whether it read a row whose target is no state.
 struct Seen {
-    pub run: Run,
+    pub state: usize,
     pub least: u8,
     pub stray: bool,
 }
 
-// After a list of letters in range, over rows of n states that question 8 lets through: of running's questions only 13 is left to ask.
+// After a letter more, over rows of n states that question 8 lets through: of running's questions only 13 is left to ask.
+fn seen_with(s: Seen, letter: u8, n: usize, letters: u8, targets: &[u16], priorities: &[u8]) -> Seen
+    requires { ⌜ (shaped letters (now targets) (now priorities) ≡ true) × (n ≡ rowStates letters (now targets) (now priorities)) × (s .state < n) × (letter < letters) ⌝ }
+    ensures { λ r. ⌜ r ≡ seenStep letters (now (targets .entry)) (now (priorities .entry)) s letter ⌝ }
+{
+    let row = s.state * letters as usize + letter as usize;
+    let t = targets[row] as usize;
+    if n <= t {
+        return Seen {
+            state: s.state,
+            least: s.least,
+            stray: true,
+        };
+    }
+    let met = priorities[row];
+    let least = if met < s.least { met } else { s.least };
+    Seen {
+        state: t,
+        least: least,
+        stray: s.stray,
+    }
+}
+
+// After a list of letters.
 fn seen_word(
     s: Seen,
     word: &[u8],
@@ -78,34 +100,16 @@ fn seen_word(
     targets: &[u16],
     priorities: &[u8],
 ) -> Seen
-    requires { ⌜ (shaped letters (now targets) (now priorities) ≡ true) × (n ≡ rowStates letters (now targets) (now priorities)) × (s .run .state < n) × (inRange letters (now word) ≡ true) ⌝ }
+    requires { ⌜ (shaped letters (now targets) (now priorities) ≡ true) × (n ≡ rowStates letters (now targets) (now priorities)) × (s .state < n) × (inRange letters (now word) ≡ true) ⌝ }
     ensures { λ r. ⌜ r ≡ seenAfter letters (now (targets .entry)) (now (priorities .entry)) (now (word .entry)) s ⌝ }
 {
-    let k = letters as usize;
-    let run = s.run;
-    let mut at = run.state as usize;
-    let mut least = s.least;
-    let mut stray = s.stray;
+    let mut t = s;
     let mut i = 0;
     while i < word.len() {
-        let row = at * k + word[i] as usize;
-        let t = targets[row] as usize;
-        if n <= t {
-            stray = true;
-        } else {
-            let met = priorities[row];
-            if met < least {
-                least = met;
-            }
-            at = t;
-        }
+        t = seen_with(t, word[i], n, letters, targets, priorities);
         i += 1;
     }
-    Seen {
-        run: Run { state: at as u16 },
-        least: least,
-        stray: stray,
-    }
+    t
 }
 
 // After n rounds.
@@ -117,7 +121,7 @@ fn seen_rounds(
     targets: &[u16],
     priorities: &[u8],
 ) -> Seen
-    requires { ⌜ (shaped letters (now targets) (now priorities) ≡ true) × (n ≡ rowStates letters (now targets) (now priorities)) × (s .run .state < n) × (inRange letters (now cycle) ≡ true) ⌝ }
+    requires { ⌜ (shaped letters (now targets) (now priorities) ≡ true) × (n ≡ rowStates letters (now targets) (now priorities)) × (s .state < n) × (inRange letters (now cycle) ≡ true) ⌝ }
     ensures { λ r. ⌜ r ≡ iter (seenAfter letters (now (targets .entry)) (now (priorities .entry)) (now (cycle .entry))) n s ⌝ }
 {
     let mut t = s;
@@ -134,9 +138,8 @@ fn seen_since(s: Seen, since: usize) -> Seen
     ensures { λ r. ⌜ r ≡ seenSince s since ⌝ }
 {
     if since == 0 {
-        let run = s.run;
         return Seen {
-            run: run,
+            state: s.state,
             least: 255,
             stray: s.stray,
         };
@@ -148,17 +151,14 @@ fn seen_since(s: Seen, since: usize) -> Seen
 fn seen_joined(s: Seen, one: Seen) -> Seen
     ensures { λ r. ⌜ r ≡ seenJoined s one ⌝ }
 {
-    let run = one.run;
-    if one.least < s.least {
-        return Seen {
-            run: run,
-            least: one.least,
-            stray: one.stray,
-        };
-    }
+    let least = if one.least < s.least {
+        one.least
+    } else {
+        s.least
+    };
     Seen {
-        run: run,
-        least: s.least,
+        state: one.state,
+        least: least,
         stray: one.stray,
     }
 }
@@ -173,29 +173,26 @@ fn seen_recurring(
     targets: &[u16],
     priorities: &[u8],
 ) -> Seen
-    requires { ⌜ (shaped letters (now targets) (now priorities) ≡ true) × (n ≡ rowStates letters (now targets) (now priorities)) × (s .run .state < n) × (inRange letters (now cycle) ≡ true) ⌝ }
-    ensures { λ r. ⌜ (r .least ≡ leastRecurring letters (now (targets .entry)) (now (priorities .entry)) (s .run) [] (now (cycle .entry))) × (r .stray ≡ s .stray || everStray letters (now (targets .entry)) (now (priorities .entry)) (s .run) [] (now (cycle .entry))) ⌝ }
+    requires { ⌜ (shaped letters (now targets) (now priorities) ≡ true) × (n ≡ rowStates letters (now targets) (now priorities)) × (s .state < n) × (inRange letters (now cycle) ≡ true) ⌝ }
+    ensures { λ r. ⌜ (r .least ≡ leastRecurring letters (now (targets .entry)) (now (priorities .entry)) (runOf s) [] (now (cycle .entry))) × (r .stray ≡ s .stray || everStray letters (now (targets .entry)) (now (priorities .entry)) (runOf s) [] (now (cycle .entry))) ⌝ }
 {
-    let first = s.run;
     let mut t = seen_since(s, 0);
     let mut w = Watch {
-        kept: first.state,
+        kept: s.state,
         since: 0,
         limit: 1,
     };
     let mut round = 0;
     while round < n {
-        let from = t.run;
         let one = seen_word(seen_since(t, 0), cycle, n, letters, targets, priorities);
-        let run = one.run;
-        if run.state == from.state {
+        if one.state == t.state {
             return one;
         }
         t = seen_joined(t, one);
-        if run.state == w.kept {
+        if one.state == w.kept {
             return t;
         }
-        w = watch_next(w, run.state);
+        w = watch_next(w, one.state);
         t = seen_since(t, w.since);
         round += 1;
     }
@@ -227,7 +224,7 @@ pub fn judge_rows(
         return RowsVerdict::Refused(12);
     }
     let start = Seen {
-        run: Run { state: state },
+        state: state as usize,
         least: 255,
         stray: false,
     };
@@ -241,7 +238,7 @@ pub fn judge_rows(
 
 // What a policy's run has come to: its state, and the colours met.
 struct Coloured {
-    pub state: u8,
+    pub state: usize,
     pub colours: u8,
 }
 
@@ -256,9 +253,9 @@ fn coloured_with<'a>(
     requires { ⌜ (legal p ≡ true) × (m .state < p .states) × (letter < p .letters) × (now heads ≡ p .target) × (now hues ≡ p .colour) ⌝ }
     ensures { λ r. ⌜ r ≡ colouredStep p m letter ⌝ }
 {
-    let e = m.state as usize * p.letters as usize + letter as usize;
+    let e = m.state * p.letters as usize + letter as usize;
     Coloured {
-        state: heads[e],
+        state: heads[e] as usize,
         colours: masks::set_with(m.colours, hues[e]),
     }
 }
@@ -342,7 +339,7 @@ fn coloured_recurring<'a>(
     let n = p.states as usize;
     let mut t = coloured_since(m, 0);
     let mut w = Watch {
-        kept: m.state as u16,
+        kept: m.state,
         since: 0,
         limit: 1,
     };
@@ -353,11 +350,10 @@ fn coloured_recurring<'a>(
             return one;
         }
         t = coloured_joined(t, one);
-        let state = one.state as u16;
-        if state == w.kept {
+        if one.state == w.kept {
             return t;
         }
-        w = watch_next(w, state);
+        w = watch_next(w, one.state);
         t = coloured_since(t, w.since);
         round += 1;
     }
@@ -381,7 +377,7 @@ pub fn judge_policy(p: Policy, state: u8, stem: &[u8], cycle: &[u8]) -> PolicyVe
         return PolicyVerdict::Refused(12);
     }
     let start = Coloured {
-        state: state,
+        state: state as usize,
         colours: 0,
     };
     let before = coloured_word(p, &p.target, &p.colour, start, stem);

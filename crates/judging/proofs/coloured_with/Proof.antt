@@ -6,16 +6,13 @@ use mathlib.Core.List.{List}
 use lib.ListN.{getD}
 use Rattle.masks.specs.Masks.{insert}
 use Rattle.policy.specs.Policies.{targetOf, colourOf}
-use Rattle.judging.proofs.Colours.{coloured-moves, edge-small, colour-small}
+use Rattle.judging.proofs.Colours.{coloured-moves, edge-small, target-small, colour-small}
 use borrow.Author.Needs.{needs}
 use Rattle.judging.proofs.coloured_with.Statement.{statement}
 use Rattle.judging.proofs.coloured_with.Tie as tie
 
 cast-e : tie.Need-cast-e
 cast-e c = search needs
-
-cast-e-2 : tie.Need-cast-e-2
-cast-e-2 c = search needs
 
 -- the letter has an edge
 edge : (c : tie.Start) → let a = c .args in a .m .state * a .p .letters + a .letter < 64
@@ -27,8 +24,16 @@ mul-e c = omega (arith, edge (c .before .before))
 add-e : tie.Need-add-e
 add-e c = omega (arith, edge (c .before .before))
 
-element-copy-out-t13 : tie.Need-element-copy-out-t13
-element-copy-out-t13 c = edge (c .before .before)
+element-copy-out-t12 : tie.Need-element-copy-out-t12
+element-copy-out-t12 c = edge (c .before .before)
+
+cast-t7 : tie.Need-cast-t7
+unfolding targetOf
+cast-t7 c =
+    let s = c .before .before .before in
+    let low : getD (s .args .heads .now) (s .args .m .state * s .args .p .letters + s .args .letter) 0 < 16
+    = subst (λ (l : List ℕ). getD l (s .args .m .state * s .args .p .letters + s .args .letter) 0 < 16) (sym (s .pre .3)) (target-small (s .args .p) (s .pre .0) (s .args .m .state) (s .args .letter) (s .pre .1) (s .pre .2)) in
+    omega (arith, low)
 
 element-copy-out-set-with : tie.Need-element-copy-out-set-with
 element-copy-out-set-with c = edge (c .before .before .before)
@@ -52,10 +57,10 @@ coloured-with-spec =
     tie.close
     (tie.spec
     cast-e
-    cast-e-2
     mul-e
     add-e
-    element-copy-out-t13
+    element-copy-out-t12
+    cast-t7
     element-copy-out-set-with
     set-with-requires
     returns)

@@ -74,8 +74,8 @@ seen-recurring-requires c κs =
     let a = e .before .before .before .before .before .before .before .before .args in (
       shape (e .before .before),
       counted (e .before .before),
-      subst (λ (n : ℕ). c .seen-word .result .run .state < n) (sym (counted (e .before .before)))
-          (subst (λ (s : Seen). s .run .state < rowStates (a .letters) (a .targets .now) (a .priorities .now)) (sym (c .seen-word .ensures)) (word-stays (a .letters) (a .targets .now) (a .priorities .now) (a .stem .now) _ (state (e .before)))),
+      subst (λ (n : ℕ). c .seen-word .result .state < n) (sym (counted (e .before .before)))
+          (subst (λ (s : Seen). s .state < rowStates (a .letters) (a .targets .now) (a .priorities .now)) (sym (c .seen-word .ensures)) (word-stays (a .letters) (a .targets .now) (a .priorities .now) (a .stem .now) _ (state (e .before)))),
       and-r (inRange (a .letters) (a .stem .now)) (inRange (a .letters) (a .cycle .now)) (range d),
     )
 

@@ -28,9 +28,9 @@ seen-word-requires c κs =
     let a = d .args in (
       d .pre .0,
       d .pre .1,
-      subst (λ (s : Seen). s .run .state < a .n) (sym (l .loop .inv .1))
-          (subst (λ (n : ℕ). iter (seenAfter (a .letters) (a .targets .now) (a .priorities .now) (a .cycle .now)) (l .loop .i) (a .s) .run .state < n) (sym (d .pre .1))
-          (rounds-stay (a .letters) (a .targets .now) (a .priorities .now) (a .cycle .now) (l .loop .i) (a .s) (subst (λ (n : ℕ). a .s .run .state < n) (d .pre .1) (d .pre .2)))),
+      subst (λ (s : Seen). s .state < a .n) (sym (l .loop .inv .1))
+          (subst (λ (n : ℕ). iter (seenAfter (a .letters) (a .targets .now) (a .priorities .now) (a .cycle .now)) (l .loop .i) (a .s) .state < n) (sym (d .pre .1))
+          (rounds-stay (a .letters) (a .targets .now) (a .priorities .now) (a .cycle .now) (l .loop .i) (a .s) (subst (λ (n : ℕ). a .s .state < n) (d .pre .1) (d .pre .2)))),
       d .pre .3,
     )
 

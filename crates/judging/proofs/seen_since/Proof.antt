@@ -7,7 +7,7 @@ use Rattle.judging.proofs.seen_since.Tie as tie
 
 returns : tie.Need-returns
 unfolding seenSince
-returns c = rw (eq-eqb _ _ (c .before .if1 .taken)) refl
+returns c = rw (eq-eqb _ _ (c .if1 .taken)) refl
 
 returns-2 : tie.Need-returns-2
 unfolding seenSince
