@@ -1,18 +1,21 @@
 -- What the tests in the code say: loops that end at the first number that fails, and the steps of comparing one pair of colour sets. Assumes nothing.
 use Prim.Native.Nat.{ℕ, _+_, _^_, _≤_, _<_}
 use native.Mathlib.Omega.{arith}
+use lib.Dec.{eqb}
+use lib.ListN.{getD}
 use lib.Pow.{pow-mono}
-use mathlib.Core.Path.{_≡_, sym, ap, _∙_}
+use mathlib.Core.Path.{_≡_, sym, ap, ap₂, _∙_}
 use mathlib.Core.Logic.{_⊎_, inl, inr, _≢_}
 use mathlib.Core.Bool.{Bool, true, false, not, _||_, true≢false}
+use mathlib.Core.List.{List}
 use Rattle.lists.specs.Lists.{all, below}
 use Rattle.lists.proofs.Bools.{test, ≡eqb, neqb}
 use Rattle.lists.proofs.Lists.{all-each, mem-below}
 use Rattle.policy.specs.declared.Policy.{Policy}
-use Rattle.policy.specs.Policies.{targetOf}
+use Rattle.policy.specs.Policies.{edges, targetOf}
 use Rattle.policy.proofs.Tests.{all-turn}
 use Rattle.graph.specs.Through.{cycleThrough}
-use Rattle.comparing.specs.Pairs.{sameTarget, pairEdges, exactly, freeAt}
+use Rattle.comparing.specs.Pairs.{sameTarget, sameTargets, pairEdges, exactly, freeAt, sameHead}
 
 -- ---- every number below n
 -- one more that passes
@@ -31,16 +34,21 @@ all-not t n i l f = go (test (all t (below n)))
 pub sets-few : (n d : ℕ) → n ≤ 8 → d < 2 ^ n → d < 256
 sets-few n d h l = omega (arith, pow-mono {i = n} {j = 8} h)
 
+-- ---- targets
+module _ (t u : List ℕ) where
+  pub head-same : (e : ℕ) → getD t e 0 ≡ getD u e 0 → sameHead t u e ≡ true
+  unfolding sameHead
+  head-same e h = ≡eqb (getD t e 0) (getD u e 0) h
+
+  pub head-other : (e : ℕ) → getD t e 0 ≢ getD u e 0 → sameHead t u e ≡ false
+  unfolding sameHead
+  head-other e h = neqb (getD t e 0) (getD u e 0) h
+
+  pub targets-by : (p q : Policy) → t ≡ p .target → u ≡ q .target → all (sameHead t u) (below (edges p)) ≡ sameTargets p q
+  unfolding sameTargets sameTarget sameHead targetOf
+  targets-by p q et eu = ap₂ (λ (x y : List ℕ). all (λ (e : ℕ). eqb (getD x e 0) (getD y e 0)) (below (edges p))) et eu
+
 module _ (p q : Policy) where
-  -- ---- targets
-  pub target-same : (e : ℕ) → targetOf p e ≡ targetOf q e → sameTarget p q e ≡ true
-  unfolding sameTarget
-  target-same e h = ≡eqb (targetOf p e) (targetOf q e) h
-
-  pub target-other : (e : ℕ) → targetOf p e ≢ targetOf q e → sameTarget p q e ≡ false
-  unfolding sameTarget
-  target-other e h = neqb (targetOf p e) (targetOf q e) h
-
   -- ---- one pair
   pub free-none : (c d v : ℕ) → cycleThrough p (pairEdges p q c d) v ≡ 0 → freeAt p q c d v ≡ true
   unfolding freeAt

@@ -71,6 +71,10 @@ module _ (p q : Policy) where
   unfoldable pub pairsAgree : Bool
   pairsAgree = all setAgrees (below (2 ^ p .colours))
 
+-- ---- by the targets of the edges, t for p and u for q
+unfoldable pub sameHead : List ℕ → List ℕ → ℕ → Bool
+sameHead t u e = eqb (getD t e 0) (getD u e 0)
+
 -- ---- by tables of the edges by colour, t for p and u for q
 unfoldable pub exactlyBy : List ℕ → List ℕ → ℕ → ℕ → ℕ → Bool
 exactlyBy t u c d m = eqb (tableColours t m) c && eqb (tableColours u m) d

@@ -3,7 +3,8 @@
 ghost use mathlib.Core.Path.{_≡_};
 ghost use mathlib.Core.Bool.{true};
 ghost use Prim.Native.Nat.{_<_, _≤_, _^_};
-ghost use Rattle.policy.specs.Policies.{legal};
+ghost use lib.ListN.{length};
+ghost use Rattle.policy.specs.Policies.{inFamily, legal};
 ghost use Rattle.graph.specs.Through.{Rows};
 ghost use Rattle.comparing.specs.Comparing.{sameGraph, comparison};
 ghost use Rattle.comparing.specs.Pairs.{Comparable, Tables, sameTargets, pairEdges, exactlyBy, suspectBy, freeAt, isFree, setAgrees, pairsAgree};
@@ -18,14 +19,14 @@ pub enum Comparison {
 
 // ---- question 15
 
-// Whether each edge has one target in both.
-fn has_same_targets(p: Policy, q: Policy) -> bool
-    requires { ⌜ legal p ≡ true ⌝ }
+// Whether each edge has one target in both. The heads are the targets of p's edges, the others those of q's.
+fn has_same_targets(p: Policy, q: Policy, heads: &[u8; 64], others: &[u8; 64]) -> bool
+    requires { ⌜ (legal p ≡ true) × (now heads ≡ p .target) × (now others ≡ q .target) ⌝ }
     ensures { λ r. ⌜ r ≡ sameTargets p q ⌝ }
 {
     let n = policy::edges(p);
     for e in 0..n {
-        if p.target[e] != q.target[e] {
+        if heads[e] != others[e] {
             return false;
         }
     }
@@ -33,8 +34,8 @@ fn has_same_targets(p: Policy, q: Policy) -> bool
 }
 
 // Whether both have the same states, letters and targets.
-fn has_same_graph(p: Policy, q: Policy) -> bool
-    requires { ⌜ legal p ≡ true ⌝ }
+fn has_same_graph(p: Policy, q: Policy, heads: &[u8; 64], others: &[u8; 64]) -> bool
+    requires { ⌜ (legal p ≡ true) × (now heads ≡ p .target) × (now others ≡ q .target) ⌝ }
     ensures { λ r. ⌜ r ≡ sameGraph p q ⌝ }
 {
     if p.states != q.states {
@@ -43,7 +44,7 @@ fn has_same_graph(p: Policy, q: Policy) -> bool
     if p.letters != q.letters {
         return false;
     }
-    has_same_targets(p, q)
+    has_same_targets(p, q, heads, others)
 }
 
 // ---- one pair of colour sets: t and u are the edges of p and of q by colour
@@ -78,16 +79,25 @@ fn is_free_at(
     !has_exactly(t, u, c, d, x)
 }
 
-// Whether no cycle has exactly these colours.
-fn is_free(p: Policy, q: Policy, t: &[u64; 8], u: &[u64; 8], c: u8, d: u8) -> bool
-    requires { ⌜ Tables p q (now t) (now u) ⌝ }
-    ensures { λ r. ⌜ r ≡ isFree p q c d ⌝ }
+// Whether no cycle has exactly these colours. The rows are space that is lent.
+fn is_free(
+    p: Policy,
+    q: Policy,
+    heads: &[u8; 64],
+    rows: &mut [u64; 16],
+    t: &[u64; 8],
+    u: &[u64; 8],
+    c: u8,
+    d: u8,
+) -> bool
+    requires { ⌜ Tables p q (now t) (now u) × (now heads ≡ p .target) × (length (now rows) ≡ 16) ⌝ }
+    ensures { λ r. ⌜ (r ≡ isFree p q c d) × (length (now (rows .exit)) ≡ 16) ⌝ }
 {
     let n = p.states as usize;
     let m = masks::both(policy::edges_in(t, c), policy::edges_in(u, d));
-    let rows = graph::reach_all(p, &p.target, m);
+    graph::reach_all(p, heads, m, rows);
     for v in 0..n {
-        if !is_free_at(p, q, &p.target, &rows, t, u, c, d, m, v) {
+        if !is_free_at(p, q, heads, rows, t, u, c, d, m, v) {
             return false;
         }
     }
@@ -128,21 +138,31 @@ fn sets(n: u8) -> usize
     1 << n
 }
 
-// Whether c agrees with every set of q's colours: the cycles with exactly these colours, if there are any, have the same verdict in both.
-fn set_agrees(p: Policy, q: Policy, t: &[u64; 8], u: &[u64; 8], c: u8) -> bool
-    requires { ⌜ Tables p q (now t) (now u) ⌝ }
-    ensures { λ r. ⌜ r ≡ setAgrees p q c ⌝ }
+// Whether c agrees with every set of q's colours: the cycles with exactly these colours, if there are any, have the same verdict in both. verdict is that of c, and
+// family is q's.
+fn set_agrees(
+    p: Policy,
+    q: Policy,
+    heads: &[u8; 64],
+    family: &[bool; 256],
+    rows: &mut [u64; 16],
+    t: &[u64; 8],
+    u: &[u64; 8],
+    c: u8,
+    verdict: bool,
+) -> bool
+    requires { ⌜ Tables p q (now t) (now u) × (now heads ≡ p .target) × (now family ≡ q .family) × (verdict ≡ inFamily p c) × (length (now rows) ≡ 16) ⌝ }
+    ensures { λ r. ⌜ (r ≡ setAgrees p q c) × (length (now (rows .exit)) ≡ 16) ⌝ }
 {
     let m = policy::edges_in(t, c);
     if policy::colours_in(t, m) != c {
         return true;
     }
     let used = policy::colours_in(u, m);
-    let verdict = policy::in_family(p, c);
     let n = sets(q.colours);
     for d in 0..n {
-        if is_suspect(t, u, &q.family, verdict, m, used, c, d as u8) {
-            if !is_free(p, q, t, u, c, d as u8) {
+        if is_suspect(t, u, family, verdict, m, used, c, d as u8) {
+            if !is_free(p, q, heads, rows, t, u, c, d as u8) {
                 return false;
             }
         }
@@ -150,16 +170,26 @@ fn set_agrees(p: Policy, q: Policy, t: &[u64; 8], u: &[u64; 8], c: u8) -> bool
     true
 }
 
-// Whether every pair agrees.
-fn pairs_agree(p: Policy, q: Policy) -> bool
-    requires { ⌜ Comparable p q ⌝ }
+// Whether every pair agrees. The heads, the hues and the family are p's; the shades are q's colours, and the clan is q's family.
+fn pairs_agree<'a, 'b>(
+    p: Policy,
+    q: Policy,
+    heads: &'a [u8; 64],
+    hues: &'a [u8; 64],
+    family: &'a [bool; 256],
+    shades: &'b [u8; 64],
+    clan: &'b [bool; 256],
+) -> bool
+    requires { ⌜ Comparable p q × (now heads ≡ p .target) × (now hues ≡ p .colour) × (now family ≡ p .family) × (now shades ≡ q .colour) × (now clan ≡ q .family) ⌝ }
     ensures { λ r. ⌜ r ≡ pairsAgree p q ⌝ }
 {
-    let t = policy::by_colour(p);
-    let u = policy::by_colour(q);
+    let t = policy::by_colour(p, hues);
+    let u = policy::by_colour(q, shades);
+    let mut rows = [0u64; 16];
     let n = sets(p.colours);
     for c in 0..n {
-        if !set_agrees(p, q, &t, &u, c as u8) {
+        let verdict = family[c];
+        if !set_agrees(p, q, heads, clan, &mut rows, &t, &u, c as u8, verdict) {
             return false;
         }
     }
@@ -177,10 +207,10 @@ pub fn compare(p: Policy, q: Policy) -> Comparison
     if !policy::is_legal(q) {
         return Comparison::Refused(7);
     }
-    if !has_same_graph(p, q) {
+    if !has_same_graph(p, q, &p.target, &q.target) {
         return Comparison::Refused(15);
     }
-    if pairs_agree(p, q) {
+    if pairs_agree(p, q, &p.target, &p.colour, &p.family, &q.colour, &q.family) {
         return Comparison::Same;
     }
     Comparison::Different

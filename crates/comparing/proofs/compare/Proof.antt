@@ -1,5 +1,5 @@
 -- `compare` meets its contract: each answer is the definition's by the questions that led there. Assumes nothing.
-use mathlib.Core.Path.{_≡_, sym, _∙_}
+use mathlib.Core.Path.{_≡_, refl, sym, _∙_}
 use mathlib.Core.Bool.{true}
 use borrow.Author.Needs.{needs}
 use borrow.Author.Tests.{not-true, not-false}
@@ -18,7 +18,7 @@ unfolding comparison
 returns c = simp (sym (c .before .is-legal .ensures) ∙ not-true _ (c .if1 .taken))
 
 -- past the first question
-legal-p : (c : tie.Else1) → legal (c .before .before .args .p) ≡ true
+legal-p : (c : tie.Else1) → legal (c .before .before .args .t1) ≡ true
 legal-p c = sym (c .before .is-legal .ensures) ∙ not-false _ (c .if1 .left)
 
 is-legal-requires-2 : tie.Need-is-legal-requires-2
@@ -28,45 +28,45 @@ returns-2 : tie.Need-returns-2
 unfolding comparison
 returns-2 c = simp (legal-p (c .before .before), sym (c .before .is-legal2 .ensures) ∙ not-true _ (c .if2 .taken))
 
-legal-q : (c : tie.Else2) → legal (c .before .before .before .before .args .q) ≡ true
+legal-q : (c : tie.Else2) → legal (c .before .before .before .before .args .t2) ≡ true
 legal-q c = sym (c .before .is-legal2 .ensures) ∙ not-false _ (c .if2 .left)
 
 has-same-graph-requires : tie.Need-has-same-graph-requires
-has-same-graph-requires c κs = legal-p (c .before .before)
+has-same-graph-requires c κs = (legal-p (c .before .before .before .before .before .before), refl, refl)
 
 returns-3 : tie.Need-returns-3
 unfolding comparison
 returns-3 c =
-    let d = c .before .before in
+    let d = c .before .before .before .before .before .before in
     simp (legal-p (d .before .before), legal-q d, sym (c .before .has-same-graph .ensures) ∙ not-true _ (c .if3 .taken))
 
 -- past all questions
-comparable : (c : tie.Else3) → let a = c .before .before .before .before .before .before .args in Comparable (a .p) (a .q)
-comparable c = let d = c .before .before in record {
+comparable : (c : tie.Else3) → let a = c .before .before .before .before .before .before .before .before .before .before .args in Comparable (a .t1) (a .t2)
+comparable c = let d = c .before .before .before .before .before .before in record {
   legal-p = legal-p (d .before .before);
   legal-q = legal-q d;
   same-graph = sym (c .before .has-same-graph .ensures) ∙ not-false _ (c .if3 .left);
 }
 
 pairs-agree-requires : tie.Need-pairs-agree-requires
-pairs-agree-requires c κs = comparable c
+pairs-agree-requires c κs = (comparable (c .before .before .before .before .before .before .before), refl, refl, refl, refl, refl)
 
 -- what the pairs say
-decided : (c : tie.After-pairs-agree) → let a = c .before .before .before .before .before .before .before .args in sameVerdicts (a .p) (a .q) ≡ c .pairs-agree .result
+decided : (c : tie.After-pairs-agree) → let a = c .before .before .before .before .before .before .before .before .before .before .before .before .before .before .before .before .before .before .args in sameVerdicts (a .t1) (a .t2) ≡ c .pairs-agree .result
 decided c =
-    let a = c .before .before .before .before .before .before .before .args in
-    pairs-decide (a .p) (a .q) (comparable (c .before)) ∙ sym (c .pairs-agree .ensures)
+    let a = c .before .before .before .before .before .before .before .before .before .before .before .before .before .before .before .before .before .before .args in
+    pairs-decide (a .t1) (a .t2) (comparable (c .before .before .before .before .before .before .before .before)) ∙ sym (c .pairs-agree .ensures)
 
 returns-4 : tie.Need-returns-4
 unfolding comparison
 returns-4 c =
-    let k = comparable (c .before .before) in
+    let k = comparable (c .before .before .before .before .before .before .before .before .before) in
     simp (k .legal-p, k .legal-q, k .same-graph, decided (c .before) ∙ c .if4 .taken)
 
 returns-5 : tie.Need-returns-5
 unfolding comparison
 returns-5 c =
-    let k = comparable (c .before .before) in
+    let k = comparable (c .before .before .before .before .before .before .before .before .before) in
     simp (k .legal-p, k .legal-q, k .same-graph, decided (c .before) ∙ c .if4 .left)
 
 pub compare-spec : {M : Type 1} → statement M

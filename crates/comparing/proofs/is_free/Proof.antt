@@ -15,10 +15,10 @@ use Rattle.comparing.proofs.is_free.Statement.{statement}
 use Rattle.comparing.proofs.is_free.Tie as tie
 
 abbrev Inv-loop : tie.InvT-loop
-Inv-loop q t u c d p n m rows v₀ v = (v ≤ n) × (all (freeAt p q c d) (below v) ≡ true)
+Inv-loop p q heads rows t u c d n m v₀ v = (v ≤ n) × (all (freeAt p q c d) (below v) ≡ true)
 
 abbrev μ-loop : tie.MeasureT-loop
-μ-loop q t u c d p n m rows v₀ v = n - v
+μ-loop p q heads rows t u c d n m v₀ v = n - v
 
 cast-n : tie.Need-cast-n Inv-loop μ-loop
 cast-n c = search needs
@@ -33,45 +33,51 @@ both-requires : tie.Need-both-requires Inv-loop μ-loop
 both-requires c κs = search needs
 
 -- the edges taken are those of the pair
-whole : (c : tie.After-both Inv-loop μ-loop) → let a = c .before .before .before .args in c .both .result ≡ pairEdges (a .t1) (a .q) (a .c) (a .d)
+whole : (c : tie.After-both Inv-loop μ-loop) → let a = c .before .before .before .before .args in c .both .result ≡ pairEdges (a .p) (a .q) (a .c) (a .d)
 whole c =
-    let s = c .before .before .before in
+    let s = c .before .before .before .before in
     let a = s .args in
-    c .both .ensures ∙ ap₂ bitAnd (c .before .before .edges-in .ensures) (c .before .edges-in2 .ensures) ∙ pair-edges-by (a .t1) (a .q) (a .t .now) (a .u .now) (s .pre) (a .c) (a .d)
+    c .both .ensures ∙ ap₂ bitAnd (c .before .before .edges-in .ensures) (c .before .edges-in2 .ensures) ∙ pair-edges-by (a .p) (a .q) (a .t .now) (a .u .now) (s .pre .0) (a .c) (a .d)
 
 reach-all-requires : tie.Need-reach-all-requires Inv-loop μ-loop
-reach-all-requires c κs = (c .before .before .before .before .before .pre .comparable .legal-p, refl)
+reach-all-requires c κs = let s = c .before .before .before .before .before in (s .pre .0 .comparable .legal-p, s .pre .1, s .pre .2)
 
 loop-holds : tie.Need-loop-holds Inv-loop μ-loop
 loop-holds c = (omega arith, refl)
 
 is-free-at-requires : tie.Need-is-free-at-requires Inv-loop μ-loop
-is-free-at-requires c κs = (c .before .before .before .before .before .before .before .before .before .before .before .pre, whole (c .before .before .before .before .before .before .before .before), refl, c .before .before .before .before .before .reach-all .ensures, c .before .before .before .loop-test .taken)
+is-free-at-requires c κs =
+    let s = c .before .before .before .before .before .before .before .before .before in
+    (s .pre .0, whole (c .before .before .before .before .before), s .pre .1, c .before .before .before .reach-all .ensures .0, c .before .loop-test .taken)
 
 returns : tie.Need-returns Inv-loop μ-loop
 unfolding isFree
 returns c =
-    let d = c .before .before .before .before .before in
-    let a = d .before .before .before .before .before .before .before .before .args in
-    sym (all-not (freeAt (a .t1) (a .q) (a .c) (a .d)) (a .t1 .states) (d .before .loop .v) (d .loop-test .taken) (sym (c .before .is-free-at .ensures) ∙ not-true _ (c .if1 .taken)))
+    let d = c .before .before .before in
+    let a = d .before .before .before .before .before .before .before .before .args in (
+      sym (all-not (freeAt (a .p) (a .q) (a .c) (a .d)) (a .p .states) (d .before .loop .v) (d .loop-test .taken) (sym (c .before .is-free-at .ensures) ∙ not-true _ (c .if1 .taken))),
+      d .before .before .reach-all .ensures .1,
+    )
 
 add-v : tie.Need-add-v Inv-loop μ-loop
 add-v c = omega arith
 
 loop-less : tie.Need-loop-less Inv-loop μ-loop
-loop-less c = omega (arith, c .before .before .before .before .before .loop-test .taken)
+loop-less c = omega (arith, c .before .before .before .loop-test .taken)
 
 loop-again : tie.Need-loop-again Inv-loop μ-loop
 loop-again c =
-    let d = c .before .before .before .before .before in
+    let d = c .before .before .before in
     let a = d .before .before .before .before .before .before .before .before .args in
-    (omega (arith, d .loop-test .taken), all-more (freeAt (a .t1) (a .q) (a .c) (a .d)) (d .before .loop .v) (d .before .loop .inv .1) (sym (c .before .is-free-at .ensures) ∙ not-false _ (c .if1 .left)))
+    (omega (arith, d .loop-test .taken), all-more (freeAt (a .p) (a .q) (a .c) (a .d)) (d .before .loop .v) (d .before .loop .inv .1) (sym (c .before .is-free-at .ensures) ∙ not-false _ (c .if1 .left)))
 
 returns-2 : tie.Need-returns-2 Inv-loop μ-loop
 unfolding isFree
 returns-2 c =
-    let a = c .before .before .before .before .before .before .before .before .args in
-    sym (ap (λ k. all (freeAt (a .t1) (a .q) (a .c) (a .d)) (below k)) (le-antisymm (c .loop-test .left) (c .before .loop .inv .0)) ∙ c .before .loop .inv .1)
+    let a = c .before .before .before .before .before .before .before .before .args in (
+      sym (ap (λ k. all (freeAt (a .p) (a .q) (a .c) (a .d)) (below k)) (le-antisymm (c .loop-test .left) (c .before .loop .inv .0)) ∙ c .before .loop .inv .1),
+      c .before .before .reach-all .ensures .1,
+    )
 
 pub is-free-spec : {M : Type 1} → statement M
 is-free-spec =

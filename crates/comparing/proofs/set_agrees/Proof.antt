@@ -4,23 +4,25 @@ use native.Mathlib.Nat.{le-antisymm}
 use native.Mathlib.Omega.{arith}
 use mathlib.Core.Path.{_≡_, refl, sym, ap, _∙_}
 use mathlib.Core.Logic.{⊎-elim}
-use mathlib.Core.Bool.{true}
+use mathlib.Core.Bool.{Bool, true}
+use mathlib.Core.List.{List}
+use lib.ListN.{length}
 use borrow.Author.Needs.{needs}
 use borrow.Author.Tests.{not-true, not-false}
 use Rattle.lists.specs.Lists.{all, below}
 use Rattle.policy.specs.Policies.{coloursOf}
 use Rattle.policy.proofs.Laws.{legal-counts}
-use Rattle.comparing.specs.Pairs.{suspect, pairAgrees, setAgrees}
+use Rattle.comparing.specs.Pairs.{suspect, pairAgrees, setAgrees, suspectBy}
 use Rattle.comparing.proofs.Tests.{all-more, all-not, sets-few}
 use Rattle.comparing.proofs.Suspects.{edges-p, colours-p, missing-agrees, clear-agrees, suspect-agrees, suspect-by}
 use Rattle.comparing.proofs.set_agrees.Statement.{statement}
 use Rattle.comparing.proofs.set_agrees.Tie as tie
 
 abbrev Inv-loop : tie.InvT-loop
-Inv-loop p t u c q m used verdict n d₀ d = (d ≤ n) × (all (pairAgrees p q c) (below d) ≡ true)
+Inv-loop p q heads family rows₀ t u c verdict m used n d₀ rows d = (d ≤ n) × (all (pairAgrees p q c) (below d) ≡ true) × (length rows ≡ 16)
 
 abbrev μ-loop : tie.MeasureT-loop
-μ-loop p t u c q m used verdict n d₀ d = n - d
+μ-loop p q heads family rows₀ t u c verdict m used n d₀ rows d = n - d
 
 edges-in-requires : tie.Need-edges-in-requires Inv-loop μ-loop
 edges-in-requires c κs = search needs
@@ -32,57 +34,64 @@ returns : tie.Need-returns Inv-loop μ-loop
 returns c =
     let s = c .before .before .before in
     let a = s .args in
-    sym (missing-agrees (a .p) (a .t2) (s .pre .comparable) (a .c)
-    (λ z. c .if1 .taken (c .before .colours-in .ensures ∙ colours-p (a .p) (a .t2) (a .t .now) (a .u .now) (s .pre) _ ∙ ap (coloursOf (a .p)) (c .before .before .edges-in .ensures ∙ edges-p (a .p) (a .t2) (a .t .now) (a .u .now) (s .pre) (a .c)) ∙ z)))
+    let k = s .pre .0 in (
+      sym (missing-agrees (a .p) (a .q) (k .comparable) (a .c)
+          (λ z. c .if1 .taken (c .before .colours-in .ensures ∙ colours-p (a .p) (a .q) (a .t .now) (a .u .now) k _ ∙ ap (coloursOf (a .p)) (c .before .before .edges-in .ensures ∙ edges-p (a .p) (a .q) (a .t .now) (a .u .now) k (a .c)) ∙ z))),
+      s .pre .4,
+    )
 
 colours-in-requires-2 : tie.Need-colours-in-requires-2 Inv-loop μ-loop
 colours-in-requires-2 c κs = search needs
 
-in-family-requires : tie.Need-in-family-requires Inv-loop μ-loop
-in-family-requires c κs = search needs
-
 sets-requires : tie.Need-sets-requires Inv-loop μ-loop
 sets-requires c κs =
-    let s = c .before .before .before .before .before in
-    omega (arith, legal-counts (s .args .p) (s .pre .comparable .legal-p) .colours-few, legal-counts (s .args .t2) (s .pre .comparable .legal-q) .colours-few)
+    let s = c .before .before .before .before in
+    let k = s .pre .0 .comparable in
+    omega (arith, legal-counts (s .args .p) (k .legal-p) .colours-few, legal-counts (s .args .q) (k .legal-q) .colours-few)
 
 loop-holds : tie.Need-loop-holds Inv-loop μ-loop
-loop-holds c = (omega arith, refl)
+loop-holds c = (omega arith, refl, c .before .before .before .before .before .pre .4)
 
 -- in the loop d is a set of q's colours
-within : (c : tie.In-loop Inv-loop μ-loop) → c .before .loop .d < 2 ^ c .before .before .before .before .before .before .before .before .args .t2 .colours
+within : (c : tie.In-loop Inv-loop μ-loop) → c .before .loop .d < 2 ^ c .before .before .before .before .before .before .before .args .q .colours
 within c = omega (arith, c .before .before .sets .ensures, c .loop-test .taken)
 
 few : (c : tie.In-loop Inv-loop μ-loop) → c .before .loop .d < 256
-few c = let s = c .before .before .before .before .before .before .before .before in sets-few (s .args .t2 .colours) (c .before .loop .d) (legal-counts (s .args .t2) (s .pre .comparable .legal-q) .colours-few) (within c)
+few c = let s = c .before .before .before .before .before .before .before in sets-few (s .args .q .colours) (c .before .loop .d) (legal-counts (s .args .q) (s .pre .0 .comparable .legal-q) .colours-few) (within c)
 
 -- what is asked of the pair
-suspected : (c : tie.After-is-suspect Inv-loop μ-loop) → let a = c .before .before .before .before .before .before .before .before .before .before .before .args in c .is-suspect .result ≡ suspect (a .p) (a .t2) (a .c) (c .before .before .before .before .loop .d)
+suspected : (c : tie.After-is-suspect Inv-loop μ-loop) → let a = c .before .before .before .before .before .before .before .before .args in c .is-suspect .result ≡ suspect (a .p) (a .q) (a .c) (c .before .before .loop .d)
 suspected c =
-    let s = c .before .before .before .before .before .before .before .before .before .before .before in
+    let s = c .before .before .before .before .before .before .before .before in
     let a = s .args in
-    c .is-suspect .ensures ∙ suspect-by (a .p) (a .t2) (a .t .now) (a .u .now) (s .pre) (a .c) (c .before .before .before .before .loop .d) _ _ _ (c .before .before .before .before .before .before .in-family .ensures) (c .before .before .before .before .before .before .before .before .before .before .edges-in .ensures) (c .before .before .before .before .before .before .before .colours-in2 .ensures)
+    let m = c .before .before .before .before .before .before .before .edges-in in
+    let used = c .before .before .before .before .colours-in2 in
+    let d = c .before .before .loop .d in
+    c .is-suspect .ensures ∙ ap (λ (f : List Bool). suspectBy (a .t .now) (a .u .now) f (a .verdict) (m .result) (used .result) (a .c) d) (s .pre .2)
+    ∙ suspect-by (a .p) (a .q) (a .t .now) (a .u .now) (s .pre .0) (a .c) d (a .verdict) (m .result) (used .result) (s .pre .3) (m .ensures) (used .ensures)
 
 cast-is-suspect : tie.Need-cast-is-suspect Inv-loop μ-loop
-cast-is-suspect c = omega (arith, few (c .before .before))
+cast-is-suspect c = omega (arith, few c)
 
 is-suspect-requires : tie.Need-is-suspect-requires Inv-loop μ-loop
 is-suspect-requires c κs = search needs
 
 cast-is-free : tie.Need-cast-is-free Inv-loop μ-loop
-cast-is-free c = omega (arith, few (c .before .before .before .before))
+cast-is-free c = omega (arith, few (c .before .before .before))
 
 is-free-requires : tie.Need-is-free-requires Inv-loop μ-loop
-is-free-requires c κs = c .before .before .before .before .before .before .before .before .before .before .before .before .pre
+is-free-requires c κs = let s = c .before .before .before .before .before .before .before .before .before .before in (s .pre .0, s .pre .1, c .before .before .before .before .loop .inv .2)
 
 returns-2 : tie.Need-returns-2 Inv-loop μ-loop
 unfolding setAgrees
 returns-2 c =
-    let d = c .before .before .before in
-    let l = d .before .before .before in
-    let a = l .before .before .before .before .before .before .before .before .args in
-    sym (all-not (pairAgrees (a .p) (a .t2) (a .c)) (2 ^ a .t2 .colours) (l .before .loop .d) (within l)
-    (suspect-agrees (a .p) (a .t2) (a .c) (l .before .loop .d) (sym (suspected d) ∙ c .before .before .if2 .taken) ∙ sym (c .before .is-free .ensures) ∙ not-true _ (c .if3 .taken)))
+    let l = c .before .before .before .before .before in
+    let a = l .before .before .before .before .before .before .before .args in
+    let free = c .before .is-free .ensures in (
+      sym (all-not (pairAgrees (a .p) (a .q) (a .c)) (2 ^ a .q .colours) (l .before .loop .d) (within l)
+          (suspect-agrees (a .p) (a .q) (a .c) (l .before .loop .d) (sym (suspected (c .before .before .before .before)) ∙ c .before .before .before .if2 .taken) ∙ sym (free .0) ∙ not-true _ (c .if3 .taken))),
+      free .1,
+    )
 
 add-d : tie.Need-add-d Inv-loop μ-loop
 add-d c = omega arith
@@ -93,20 +102,22 @@ loop-less c = omega arith
 loop-again : tie.Need-loop-again Inv-loop μ-loop
 loop-again c =
     let d = c .before in
-    let l = d .before .before .before in
-    let a = l .before .before .before .before .before .before .before .before .args in
+    let l = d .before in
+    let a = l .before .before .before .before .before .before .before .args in
     let i = l .before .loop .d in (
       omega arith,
-      all-more (pairAgrees (a .p) (a .t2) (a .c)) i (l .before .loop .inv .1)
-          (⊎-elim (λ w. suspect-agrees (a .p) (a .t2) (a .c) i (sym (suspected d) ∙ w .0 .taken) ∙ sym (w .1 .ensures) ∙ not-false _ (w .2 .left))
-          (λ w. clear-agrees (a .p) (a .t2) (a .c) i (sym (suspected d) ∙ w .left)) (c .if2 .came)),
+      all-more (pairAgrees (a .p) (a .q) (a .c)) i (l .before .loop .inv .1)
+          (⊎-elim (λ w. suspect-agrees (a .p) (a .q) (a .c) i (sym (suspected d) ∙ w .0 .taken) ∙ sym (w .2 .ensures .0) ∙ not-false _ (w .3 .left))
+          (λ w. clear-agrees (a .p) (a .q) (a .c) i (sym (suspected d) ∙ w .0 .left)) (c .if2 .came)),
+      ⊎-elim (λ w. ap length (w .4) ∙ w .2 .ensures .1) (λ w. ap length (w .1) ∙ l .before .loop .inv .2) (c .if2 .came),
     )
 
 returns-3 : tie.Need-returns-3 Inv-loop μ-loop
 unfolding setAgrees
 returns-3 c =
-    let a = c .before .before .before .before .before .before .before .before .args in
-    sym (ap (λ k. all (pairAgrees (a .p) (a .t2) (a .c)) (below k)) (sym (c .before .before .sets .ensures) ∙ le-antisymm (c .loop-test .left) (c .before .loop .inv .0)) ∙ c .before .loop .inv .1)
+    let a = c .before .before .before .before .before .before .before .args in
+    let i = c .before .loop .inv in
+    (sym (ap (λ k. all (pairAgrees (a .p) (a .q) (a .c)) (below k)) (sym (c .before .before .sets .ensures) ∙ le-antisymm (c .loop-test .left) (i .0)) ∙ i .1), i .2)
 
 pub set-agrees-spec : {M : Type 1} → statement M
 set-agrees-spec =
@@ -118,7 +129,6 @@ set-agrees-spec =
     colours-in-requires
     returns
     colours-in-requires-2
-    in-family-requires
     sets-requires
     loop-holds
     cast-is-suspect
