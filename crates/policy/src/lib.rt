@@ -5,7 +5,7 @@ ghost use Prim.Native.Nat.{_≤_};
 ghost use mathlib.Core.Bool.{true};
 ghost use Rattle.lists.specs.Lists.{all, below};
 ghost use Rattle.policy.specs.ByColour.{byColour, tableEdges, tableColours};
-ghost use Rattle.policy.specs.Policies.{edges, inFamily, accepting, legalCounts, legalEdge, legalSet, legal};
+ghost use Rattle.policy.specs.Policies.{edges, accepting, legalCounts, legalEdge, legalSet, legal};
 
 pub struct Policy {
     pub states: u8,
@@ -22,13 +22,6 @@ pub fn edges(p: Policy) -> usize
     ensures { λ r. ⌜ r ≡ edges p ⌝ }
 {
     p.states as usize * p.letters as usize
-}
-
-// Whether a colour set is in the family.
-pub fn in_family(p: Policy, s: u8) -> bool
-    ensures { λ r. ⌜ r ≡ inFamily p s ⌝ }
-{
-    p.family[s as usize]
 }
 
 // ---- the edges by colour
