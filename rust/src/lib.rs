@@ -158,6 +158,7 @@ pub struct Run {
 
 impl Run {
     /// The run after a letter, and the priority that the letter meets. Refused with 8, 11, 12 or 13; the run is a value, so the caller's is unchanged.
+    #[inline]
     pub fn read(self, letter: u8, rows: &Rows<'_>) -> Result<(Run, u8), Refusal> {
         let mut state = self.state;
         let mut priority = 0;

@@ -46,6 +46,7 @@ impl Refusal {
     }
 
     /// What a call answered: nothing was refused where it is 0.
+    #[inline]
     pub(crate) fn check(number: u8) -> Result<(), Refusal> {
         use Refusal::*;
         Err(match number {

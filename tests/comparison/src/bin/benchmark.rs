@@ -6,7 +6,7 @@ use independent::random::Random;
 use independent::{fast, judge};
 use std::hint::black_box;
 use std::time::{Duration, Instant};
-use wulfrenda::{Rows, Run};
+use wulfrenda::Run;
 
 /// The least time of one call, in nanoseconds. The two are called in turn, so that both see the same machine.
 fn best(mut ours: impl FnMut(), mut theirs: impl FnMut()) -> (f64, f64) {
@@ -91,54 +91,6 @@ fn line(name: &str, steps: usize, (ours, theirs): (f64, f64)) {
         ours / steps as f64,
         ours / theirs
     );
-}
-
-/// The independent step behind the signature of `wulfrenda_run`, so that the state crosses in the same way on both sides.
-#[inline(never)]
-unsafe extern "C" fn step_in_c(
-    letters: u8,
-    targets: *const u16,
-    targets_len: usize,
-    priorities: *const u8,
-    priorities_len: usize,
-    state: *mut u16,
-    letter: u8,
-    priority: *mut u8,
-) -> u8 {
-    let targets = std::slice::from_raw_parts(targets, targets_len);
-    let priorities = std::slice::from_raw_parts(priorities, priorities_len);
-    match judge::step(letters.into(), targets, priorities, *state, letter) {
-        Ok((next, met)) => {
-            (*state, *priority) = (next, met);
-            0
-        }
-        Err(number) => {
-            *priority = 0;
-            number
-        }
-    }
-}
-
-/// One letter of the independent run.
-fn step(rows: &Rows, mut state: u16, letter: u8) -> Result<(u16, u8), u8> {
-    let mut priority = 0;
-    // SAFETY: each pointer is that of a slice, with its length, or of a local
-    let number = unsafe {
-        step_in_c(
-            rows.letters,
-            rows.targets.as_ptr(),
-            rows.targets.len(),
-            rows.priorities.as_ptr(),
-            rows.priorities.len(),
-            &mut state,
-            letter,
-            &mut priority,
-        )
-    };
-    match number {
-        0 => Ok((state, priority)),
-        _ => Err(number),
-    }
 }
 
 /// A policy with random targets and colours, and a family of random sets or of all sets with an even number of members.
@@ -312,7 +264,15 @@ fn main() {
             || {
                 let mut state = a.start;
                 for &letter in &word {
-                    state = black_box(step(&rows, state, letter)).unwrap().0;
+                    state = black_box(judge::step(
+                        p.letters,
+                        &t.row_targets,
+                        &t.row_priorities,
+                        state,
+                        letter,
+                    ))
+                    .unwrap()
+                    .0;
                 }
             },
         ),
