@@ -313,9 +313,11 @@ fn main() {
         ("65,535 nodes", &most),
     ] {
         let policy = wulfrenda::Policy::from_record(p.record());
+        let bytes = p.bytes();
         let mut tables = Lent::new(65_535, 65_535, 65_535 * p.letters, 0);
-        let used = stack(|| black_box(ignore(tables.translate(&policy))));
-        println!("| translating {name} | {used} |");
+        let of_record = stack(|| black_box(ignore(tables.translate(&policy))));
+        let of_bytes = stack(|| black_box(ignore(tables.translate_bytes(&bytes))));
+        println!("| translating {name} | {} |", of_record.max(of_bytes));
     }
     let bytes = most.bytes();
     println!(
