@@ -134,6 +134,8 @@ uint8_t wulfrenda_translate(const uint8_t record[WULFRENDA_RECORD_BYTES],
  *   counts                as for wulfrenda_translate
  *   offset                as for wulfrenda_read
  *
+ * The number of letters, by which the row tables are longer and which wulfrenda_run asks for, is the shape command's: bytes[2].
+ *
  * The questions of wulfrenda_read, then 8, 9, 10: a policy that was read is legal. After 1 to 6 and 8 the seven tables are unchanged; after 9 and 10
  * every place of all seven is 0. After any refusal the three counts are 0. After 8, 9 and 10 *offset is where what follows the end command begins.
  */

@@ -94,7 +94,8 @@ pub fn translate(policy: &Policy, tables: Tables<'_>) -> Result<Counts, Refusal>
 }
 
 /// [`Policy::read`] and [`translate`] in one call: the tables of the policy that command bytes give, and the bytes that follow its end command. Refused with 1 to 6 as
-/// in reading, the tables unchanged, and with 8, 9 or 10 as in translating; the offset is then where what follows the end command begins.
+/// in reading, the tables unchanged, and with 8, 9 or 10 as in translating; the offset is then where what follows the end command begins. The number of letters is the shape
+/// command's, `bytes[2]`.
 pub fn translate_bytes<'a>(
     bytes: &'a [u8],
     tables: Tables<'_>,

@@ -1,6 +1,5 @@
 -- The candidates are the full cycles, each once: every node of the forest is one, the children of a candidate are the
 -- largest candidates of the other verdict properly inside it, and the roots are the largest cycles through the states. Assumes nothing.
--- the least number that passes, from one that does
 use Prim.Native.Nat.{ℕ, zero, suc, _-_, _^_, _≤_, _<_}
 use native.Mathlib.Omega.{arith}
 use native.Mathlib.Decide.{decLt}
@@ -32,6 +31,7 @@ use Rattle.decomposition.proofs.Distinct.{distinct-filter, distinct-bel
 use Rattle.decomposition.proofs.Children.{root-cycle, root-largest}
 use Rattle.decomposition.proofs.Full.{inColours, Full, contains-lt, cycle-state, inside-full, full-cycle, full-state, fill, fill-inside}
 
+-- the least number that passes, from one that does
 least-to : (t : ℕ → Bool) (k n : ℕ) → n < k → t n ≡ true → (u : ℕ) × (t u ≡ true) × (any t (below u) ≡ false)
 least-to t zero n l h = absurd (omega arith)
 least-to t (suc k) n l h = go (test (any t (below n))) (least-to t k)

@@ -1,5 +1,5 @@
 -- A policy as 388 bytes: states, letters, colours, initial state; the targets of 64 edges; their colours; and for each of the 256 colour sets a byte that is not 0
--- exactly if the set is in the family.
+-- exactly if the set is in the family. And what one call returns that asks the questions of two.
 use Prim.Native.Nat.{ℕ, _+_}
 use mathlib.Core.Bool.{Bool, not, cond}
 use mathlib.Core.List.{List, _∷_, _++_, map}

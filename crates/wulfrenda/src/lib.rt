@@ -68,7 +68,8 @@ pub extern "C" fn wulfrenda_translate(
     answers::translate_number(t)
 }
 
-// The two in one: the command bytes are read, and the policy that they give is translated. What was read is legal, so it is not asked again.
+// The two in one: the command bytes are read, and the policy that they give is translated. What was read is legal, so question 7 is not asked again; after a refused reading the policy
+// is all zero, and translating an illegal policy leaves the tables as they are and counts nothing.
 #[no_mangle]
 pub extern "C" fn wulfrenda_translate_bytes(
     bytes: &[u8],
