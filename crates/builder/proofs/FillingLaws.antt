@@ -15,15 +15,16 @@ use Rattle.tables.proofs.Tables.{zeros-same, length-zeros, getD-padded}
 use Rattle.policy.specs.declared.Policy.{Policy}
 use Rattle.decomposition.specs.declared.nodes.Filled as node-filled
 use Rattle.decomposition.specs.declared.nodes.Filled.the-variants as node-variants
-use Rattle.decomposition.specs.Forest.{Node, forest, priority}
-use Rattle.decomposition.specs.NodeTables.{NodeTables, nodeTables, nodeMasks, nodeParents, nodeRanks, nodesFit, fillingOf, filledOf}
+use Rattle.forest.specs.Forest.{Node, forest, priority}
+use Rattle.decomposition.specs.NodeTables.{NodeTables, nodeTables, nodesFit, fillingOf, filledOf}
+use Rattle.forest.specs.Forest.{nodeMasks, nodeParents, nodeRanks}
 use Rattle.decomposition.proofs.NodeColumns.{masks-at, parents-at, ranks-at}
 use Rattle.builder.specs.declared.translating.Building.{Building}
 use Rattle.builder.specs.declared.translating.Building.the-variants.{Whole, TooMany}
-use Rattle.builder.specs.Automaton.{Built, built, stateAt, start, rowTargets, rowPriorities}
-use Rattle.builder.specs.Stages.{Nodes, States}
-use Rattle.builder.specs.Placing.{MaskColumn, Filled}
-use Rattle.builder.specs.Tables.{places, stateSources, stateLeaves}
+use Rattle.automaton.specs.Automaton.{Built, built, stateAt, start, rowTargets, rowPriorities}
+use Rattle.automaton.specs.Stages.{Nodes, States}
+use Rattle.states.specs.Placing.{MaskColumn, Filled}
+use Rattle.automaton.specs.Automaton.{places, stateSources, stateLeaves}
 use Rattle.builder.specs.Filling.{Sized, Clear, builtFit, buildingOf, BuiltTables}
 
 -- what an answer holds

@@ -1,14 +1,2 @@
-pub mod Branch
-pub mod Closed
-pub mod EdgeRuns
-pub mod Ends
-pub mod Leaves
-pub mod Next
-pub mod RowLaws
-pub mod RowTables
-pub mod Search
-pub mod Sharing
-pub mod Tables
-pub mod StateLaws
 pub mod FillingLaws
 pub mod TranslateLaws

@@ -9,12 +9,13 @@ use Rattle.lists.proofs.Bools.{eqb≡, and-l, and-r}
 use Rattle.tables.specs.Tables.{padded, zeros}
 use Rattle.policy.specs.declared.Policy.{Policy}
 use Rattle.policy.specs.Policies.{legal}
-use Rattle.decomposition.specs.Forest.{forest}
+use Rattle.forest.specs.Forest.{forest}
 use Rattle.decomposition.specs.NodeTables as node-tables
-use Rattle.decomposition.specs.NodeTables.{nodeTables, nodeMasks, nodeParents, nodeRanks, filledOf}
+use Rattle.decomposition.specs.NodeTables.{nodeTables, filledOf}
+use Rattle.forest.specs.Forest.{nodeMasks, nodeParents, nodeRanks}
 use Rattle.builder.specs.declared.Translation.{Translation}
 use Rattle.builder.specs.declared.Translation.the-variants.{Translated, Refused}
-use Rattle.builder.specs.Automaton.{built, start}
+use Rattle.automaton.specs.Automaton.{built, start}
 use Rattle.builder.specs.Tables.{Tables, lengthsFit, nodesFit, statesFit, filled, cleared, translationOf, tablesAfter, Hold, tables}
 use Rattle.builder.specs.Filling.{Sized, builtFit, BuiltTables}
 use Rattle.builder.proofs.FillingLaws.{nodes-filled, nodes-cleared}

@@ -9,8 +9,8 @@ use Rattle.tables.specs.Tables.{padded, zeros}
 use Rattle.policy.specs.declared.Policy.{Policy}
 use Rattle.builder.specs.declared.translating.Building.{Building}
 use Rattle.builder.specs.declared.translating.Building.the-variants.{Whole, TooMany}
-use Rattle.builder.specs.Automaton.{built, start, rowTargets, rowPriorities}
-use Rattle.builder.specs.Tables.{places, stateSources, stateLeaves}
+use Rattle.automaton.specs.Automaton.{built, start, rowTargets, rowPriorities}
+use Rattle.automaton.specs.Automaton.{places, stateSources, stateLeaves}
 
 -- state tables of one length, and row tables of letters times that
 pub record Sized (p : Policy) (sources leaves targets priorities : List ℕ) : Type 0 where

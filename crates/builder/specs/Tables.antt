@@ -9,10 +9,11 @@ use lib.ListN.{length}
 use Rattle.tables.specs.Tables.{padded, zeros}
 use Rattle.policy.specs.declared.Policy.{Policy}
 use Rattle.policy.specs.Policies.{legal}
-use Rattle.decomposition.specs.Forest.{forest}
-use Rattle.decomposition.specs.NodeTables.{nodeTables, nodeMasks, nodeParents, nodeRanks}
+use Rattle.forest.specs.Forest.{forest}
+use Rattle.decomposition.specs.NodeTables.{nodeTables}
+use Rattle.forest.specs.Forest.{nodeMasks, nodeParents, nodeRanks}
 use Rattle.decomposition.specs.NodeTables as node-tables
-use Rattle.builder.specs.Automaton.{Built, built, start, rowTargets, rowPriorities}
+use Rattle.automaton.specs.Automaton.{places, stateSources, stateLeaves, Built, built, start, rowTargets, rowPriorities}
 use Rattle.builder.specs.declared.Translation.{Translation}
 use Rattle.builder.specs.declared.Translation.the-variants.{Translated, Refused}
 
@@ -38,18 +39,7 @@ countsOf (Translated nodes states start) = nodes ∷ states ∷ start ∷ []
 countsOf (Refused number) = 0 ∷ 0 ∷ 0 ∷ []
 
 -- ---- the tables
--- only the first 65,535 places of a table count
-unfoldable pub places : List ℕ → ℕ
-places t = min (length t) 65535
-
 module _ (p : Policy) where
-  -- ---- the columns of the built states
-  unfoldable pub stateSources : List ℕ
-  stateSources = map (λ (b : Built). b .state) (built p)
-
-  unfoldable pub stateLeaves : List ℕ
-  stateLeaves = map (λ (b : Built). b .leaf) (built p)
-
   -- ---- the questions of translating
   module _ (t : Tables) where
     -- question 8: the node tables of one length, the state tables of one length, each row table letters times the latter
@@ -71,8 +61,8 @@ module _ (p : Policy) where
       masks = padded (length (t .masks)) (nodeMasks p);
       parents = padded (length (t .parents)) (nodeParents p);
       ranks = padded (length (t .ranks)) (nodeRanks p);
-      sources = padded (length (t .sources)) stateSources;
-      leaves = padded (length (t .leaves)) stateLeaves;
+      sources = padded (length (t .sources)) (stateSources p);
+      leaves = padded (length (t .leaves)) (stateLeaves p);
       targets = padded (length (t .targets)) (rowTargets p);
       priorities = padded (length (t .priorities)) (rowPriorities p);
     }

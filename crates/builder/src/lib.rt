@@ -6,6 +6,4 @@ pub enum Translation {
     Refused(u8),
 }
 
-pub mod rows;
-pub mod states;
 pub mod translating;

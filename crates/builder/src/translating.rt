@@ -9,9 +9,9 @@ ghost use lib.ListN.{length};
 ghost use lib.Dec.{eqb};
 ghost use Rattle.tables.specs.Tables.{padded, zeros};
 ghost use Rattle.policy.specs.Policies.{legal};
-ghost use Rattle.decomposition.specs.Forest.{forest};
-ghost use Rattle.builder.specs.Automaton.{built, rowTargets, rowPriorities};
-ghost use Rattle.builder.specs.Stages.{Nodes, Ends, States, Starts};
+ghost use Rattle.forest.specs.Forest.{forest};
+ghost use Rattle.automaton.specs.Automaton.{built, rowTargets, rowPriorities};
+ghost use Rattle.automaton.specs.Stages.{Nodes, Ends, States, Starts};
 ghost use Rattle.builder.specs.Filling.{Sized, Clear, buildingOf, BuiltTables};
 ghost use Rattle.builder.specs.Tables.{lengthsFit, translationOf, tablesAfter, Hold, tables};
 
@@ -39,7 +39,7 @@ pub fn fill_rows(
     let letters = p.letters as usize;
     for v in 0..states {
         for letter in 0..letters {
-            crate::rows::fill_edge(
+            rows::fill_edge(
                 p,
                 heads,
                 masks,
@@ -93,7 +93,7 @@ fn fill_built(
     ensures written { λ _. ⌜ BuiltTables p (now (sources .entry)) (now (leaves .entry)) (now (targets .entry)) (now (priorities .entry)) (now (sources .exit)) (now (leaves .exit)) (now (targets .exit)) (now (priorities .exit)) ⌝ }
 {
     let mut starts = [0usize; 17];
-    let placed = crate::states::fill_states(p, masks, ends, count, sources, leaves, &mut starts);
+    let placed = states::fill_states(p, masks, ends, count, sources, leaves, &mut starts);
     if !placed.fits {
         tables::clear8(sources);
         tables::clear16(leaves);
@@ -113,7 +113,7 @@ fn fill_built(
         targets,
         priorities,
     );
-    Building::Whole(placed.count, crate::states::start_of(p, &starts))
+    Building::Whole(placed.count, states::start_of(p, &starts))
 }
 
 // The stages after the nodes, with a table for the nodes' ends that has a place for each node.
@@ -134,7 +134,7 @@ fn build_with(
     ensures answer { λ r. ⌜ r ≡ buildingOf p (now (sources .entry)) ⌝ }
     ensures written { λ _. ⌜ BuiltTables p (now (sources .entry)) (now (leaves .entry)) (now (targets .entry)) (now (priorities .entry)) (now (sources .exit)) (now (leaves .exit)) (now (targets .exit)) (now (priorities .exit)) ⌝ }
 {
-    crate::rows::fill_ends(p, parents, count, ends);
+    rows::fill_ends(p, parents, count, ends);
     clear_built(sources, leaves, targets, priorities);
     fill_built(
         p,

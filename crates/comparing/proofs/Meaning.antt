@@ -10,9 +10,9 @@ use Rattle.policy.specs.Policies.{accepting}
 use Rattle.policy.proofs.Laws.{legal-target}
 use Rattle.graph.specs.Cycles.{Cycle}
 use Rattle.graph.proofs.Cycles.{cycle-sound, cycle-complete}
-use Rattle.decomposition.specs.Forest.{differs, full, cyclesIn}
-use Rattle.decomposition.proofs.Children.{cycles-mem, mem-cycles}
-use Rattle.decomposition.proofs.Full.{inside-full}
+use Rattle.forest.specs.Forest.{differs, full, cyclesIn}
+use Rattle.forest.proofs.Children.{cycles-mem, mem-cycles}
+use Rattle.candidates.proofs.Full.{inside-full}
 use Rattle.comparing.specs.Comparing.{sameVerdicts}
 use Rattle.comparing.specs.Pairs.{Comparable}
 use Rattle.comparing.proofs.Graphs.{same-cycle, same-graph-turned}

@@ -19,9 +19,9 @@ use Rattle.graph.specs.Cycles.{isCycle, contains}
 use Rattle.graph.specs.Through.{cycleThrough}
 use Rattle.graph.proofs.Cycles.{Targets, bit-lt, some-nonzero, cycle-edge, contains-some}
 use Rattle.graph.proofs.Through.{through-inside, through-cycle, through-largest}
-use Rattle.decomposition.specs.Forest.{differs, full, cyclesIn}
-use Rattle.decomposition.proofs.Children.{cycles-mem, mem-cycles}
-use Rattle.decomposition.proofs.Full.{cycle-state, inside-full}
+use Rattle.forest.specs.Forest.{differs, full, cyclesIn}
+use Rattle.forest.proofs.Children.{cycles-mem, mem-cycles}
+use Rattle.candidates.proofs.Full.{cycle-state, inside-full}
 use Rattle.comparing.specs.Comparing.{sameVerdicts}
 use Rattle.comparing.specs.Pairs.{Comparable, inPair, pairEdges, exactly, freeAt, isFree, pairAgrees, setAgrees, pairsAgree}
 use Rattle.comparing.proofs.Graphs.{same-edges}

@@ -19,7 +19,7 @@ use Rattle.policy.specs.Policies.{edges, edgeColours, coloursOf, inFamily}
 use Rattle.policy.specs.ByColour.{edgesIn, tableEdges, tableColours}
 use Rattle.policy.proofs.Laws.{colours-some, colours-up}
 use Rattle.policy.proofs.ByColour.{table-edges-are, table-colours-are, edges-in-some, some-edges-in}
-use Rattle.decomposition.specs.Forest.{differs}
+use Rattle.forest.specs.Forest.{differs}
 use Rattle.comparing.specs.Pairs.{Comparable, Tables, inPair, pairEdges, exactly, isFree, suspect, pairAgrees, setAgrees, exactlyBy, suspectBy}
 use Rattle.comparing.proofs.Graphs.{same-edges}
 use Rattle.comparing.proofs.Pairs.{pair-some, exactly-p, exactly-q, free-missing}

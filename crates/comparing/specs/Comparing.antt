@@ -5,7 +5,7 @@ use lib.Dec.{eqb}
 use Rattle.lists.specs.Lists.{all, below}
 use Rattle.policy.specs.declared.Policy.{Policy}
 use Rattle.policy.specs.Policies.{edges, targetOf, accepting, legal}
-use Rattle.decomposition.specs.Forest.{differs, full, cyclesIn}
+use Rattle.forest.specs.Forest.{differs, full, cyclesIn}
 use Rattle.comparing.specs.declared.Comparison.{Comparison}
 use Rattle.comparing.specs.declared.Comparison.the-variants.{Same, Different, Refused}
 

@@ -13,7 +13,7 @@ use Rattle.policy.specs.declared.Policy.{Policy}
 use Rattle.policy.specs.Policies.{edges, targetOf, edgeColours, coloursOf, inFamily, legal}
 use Rattle.policy.specs.ByColour.{byColour, tableEdges, tableColours}
 use Rattle.graph.specs.Through.{cycleThrough}
-use Rattle.decomposition.specs.Forest.{differs}
+use Rattle.forest.specs.Forest.{differs}
 use Rattle.comparing.specs.Comparing.{sameGraph}
 
 module _ (p q : Policy) where

@@ -14,7 +14,7 @@ use Rattle.lists.proofs.Lists.{length-below, getD-map-below, length-pieces, get
 use Rattle.policy.specs.declared.Policy.{Policy}
 use Rattle.policy.specs.Policies.{legal}
 use Rattle.policy.proofs.Laws.{legal-counts}
-use Rattle.builder.specs.Automaton.{built, rowTarget, rowPriority, rowTargets, rowPriorities}
+use Rattle.automaton.specs.Automaton.{built, rowTarget, rowPriority, rowTargets, rowPriorities}
 use Rattle.running.specs.Running.{rowOf, rowStates, shaped}
 use Rattle.correctness.specs.Demand3.{Rows}
 

@@ -16,12 +16,12 @@ use Rattle.policy.specs.declared.Policy.{Policy}
 use Rattle.policy.specs.Policies.{legal, edges, edgeOf, targetOf, edgeColours}
 use Rattle.policy.proofs.Laws.{legal-counts, legal-target, source-edge, edge-lt}
 use Rattle.graph.specs.Cycles.{Path}
-use Rattle.decomposition.specs.Forest.{forest}
-use Rattle.decomposition.proofs.Forest.{forest-laws}
-use Rattle.builder.specs.Automaton.{built, stateAt, number, start, firstLeaf, leafAfter, priorityAfter, rowTarget, rowPriority}
-use Rattle.builder.proofs.EdgeRuns.{Good, leafRun, metRun}
-use Rattle.builder.proofs.Leaves.{first-good, leaf-after-good}
-use Rattle.builder.proofs.Tables.{built-good, number-at}
+use Rattle.forest.specs.Forest.{forest}
+use Rattle.forest.proofs.Forest.{forest-laws}
+use Rattle.automaton.specs.Automaton.{built, stateAt, number, start, firstLeaf, leafAfter, priorityAfter, rowTarget, rowPriority}
+use Rattle.automaton.proofs.EdgeRuns.{Good, leafRun, metRun}
+use Rattle.automaton.proofs.Leaves.{first-good, leaf-after-good}
+use Rattle.automaton.proofs.Tables.{built-good, number-at}
 use Rattle.running.specs.declared.Run.{Run}
 use Rattle.running.specs.Running.{policyStep, policyMeets, rowOf, rowStates, rowStep, rowMeets}
 use Rattle.running.proofs.Steps.{policy-moves, policy-stays, row-moves, row-refuses}

@@ -21,13 +21,13 @@ use Rattle.recurrence.proofs.Repeats.{iter-keeps}
 use Rattle.policy.specs.declared.Policy.{Policy}
 use Rattle.policy.specs.Policies.{legal, inFamily}
 use Rattle.policy.proofs.Laws.{legal-counts}
-use Rattle.decomposition.specs.Forest.{Node, forest, node, priority, transientPriority, inRoot, even}
-use Rattle.decomposition.proofs.Forest.{forest-laws}
-use Rattle.decomposition.proofs.Priorities.{priority-few}
-use Rattle.builder.specs.Automaton.{built, stateAt, deepest, priorityAfter}
+use Rattle.forest.specs.Forest.{Node, forest, node, priority, transientPriority, inRoot, even}
+use Rattle.forest.proofs.Forest.{forest-laws}
+use Rattle.forest.proofs.Priorities.{priority-few}
+use Rattle.automaton.specs.Automaton.{built, stateAt, deepest, priorityAfter}
 use Rattle.builder.specs.Tables.{Tables}
 use Rattle.builder.specs.declared.Translation.{Translation}
-use Rattle.builder.proofs.EdgeRuns.{metRun}
+use Rattle.automaton.proofs.EdgeRuns.{metRun}
 use Rattle.running.specs.declared.Run.{Run}
 use Rattle.running.specs.declared.Reading.{Reading}
 use Rattle.running.specs.declared.Reading.the-variants.{Moved, Refused as NotRead}

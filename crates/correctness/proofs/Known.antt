@@ -6,8 +6,8 @@ use Rattle.recurrence.specs.Runs.{after, met, window}
 use Rattle.masks.specs.Masks.{has, insert, inside, properly, members, submasks}
 use Rattle.policy.specs.Policies.{edges, edgeOf, source, targetOf, colourOf, coloursBelow, coloursOf, inFamily, accepting}
 use Rattle.graph.specs.Cycles.{spread, closure, reach, isCycle, contains}
-use Rattle.decomposition.specs.Forest.{before, place, inOrder, largest, full, cyclesIn, roots, opposed, children, trees, tree, forest, priority, transientPriority, node, upFrom, chain, childOf, inRoot}
-use Rattle.builder.specs.Automaton.{next, holds, kids, isLeaf, leaves, firstLeaf, statesOver, builtStates, deepest, lead, entered, firstLeafBelow, leafAfter, priorityAfter, built, stateAt, number, start, rowTarget, rowPriority, rowTargets, rowPriorities}
+use Rattle.forest.specs.Forest.{before, place, inOrder, largest, full, cyclesIn, roots, opposed, children, trees, tree, forest, priority, transientPriority, node, upFrom, chain, childOf, inRoot}
+use Rattle.automaton.specs.Automaton.{next, holds, kids, isLeaf, leaves, firstLeaf, statesOver, builtStates, deepest, lead, entered, firstLeafBelow, leafAfter, priorityAfter, built, stateAt, number, start, rowTarget, rowPriority, rowTargets, rowPriorities}
 use Rattle.running.specs.Running.{rowStates, shaped, readingOf, rowStep, rowMeets}
 use Rattle.judging.specs.Judging.{leastOf, leastRecurring}
 use Rattle.correctness.specs.Known.{Entry, table, answer}

@@ -12,8 +12,8 @@ use borrow.Author.Tests.{eqb-false}
 use Rattle.lists.proofs.Bools.{test}
 use Rattle.policy.specs.declared.Policy.{Policy}
 use Rattle.policy.specs.Policies.{legal}
-use Rattle.decomposition.specs.Forest.{forest}
-use Rattle.builder.specs.Automaton.{built, start}
+use Rattle.forest.specs.Forest.{forest}
+use Rattle.automaton.specs.Automaton.{built, start}
 use Rattle.reading.specs.Reading.{readingOf as bytesReadingOf}
 use Rattle.builder.specs.Tables.{Tables, Hold, tablesAfter, countsOf, lengthsFit, nodesFit, statesFit, translationOf, numberOf as translateNumberOf}
 use Rattle.builder.specs.declared.Translation.{Translation}

@@ -24,11 +24,11 @@ use Rattle.policy.specs.Policies.{legal, edges, edgeColours, coloursOf, inFamil
 use Rattle.policy.proofs.Laws.{legal-target, colours-some, some-colours, accepting-is}
 use Rattle.graph.specs.Cycles.{Path}
 use Rattle.graph.proofs.Paths.{path-mem}
-use Rattle.decomposition.specs.Forest.{even, forest}
-use Rattle.decomposition.proofs.Forest.{forest-laws}
-use Rattle.builder.specs.Automaton.{built, stateAt}
-use Rattle.builder.proofs.EdgeRuns.{Good, leafRun, metRun, Least}
-use Rattle.builder.proofs.Closed.{closed-run}
+use Rattle.forest.specs.Forest.{even, forest}
+use Rattle.forest.proofs.Forest.{forest-laws}
+use Rattle.automaton.specs.Automaton.{built, stateAt}
+use Rattle.automaton.proofs.EdgeRuns.{Good, leafRun, metRun, Least}
+use Rattle.automaton.proofs.Closed.{closed-run}
 use Rattle.running.specs.declared.Run.{Run}
 use Rattle.running.specs.Running.{policyStep, policyMeets, rowStep, rowMeets}
 use Rattle.correctness.specs.Demand3.{Rows, StandsOver, policyRun, builtRun}

@@ -9,7 +9,7 @@ use Rattle.recurrence.specs.Runs.{after, window}
 use Rattle.recurrence.proofs.Runs.{recurring-window, numbered-recurring}
 use Rattle.policy.specs.declared.Policy.{Policy}
 use Rattle.policy.specs.Policies.{legal}
-use Rattle.builder.specs.Automaton.{built, stateAt}
+use Rattle.automaton.specs.Automaton.{built, stateAt}
 use Rattle.running.specs.declared.Run.{Run}
 use Rattle.running.specs.Running.{policyStep, policyMeets, rowStep, rowMeets}
 use Rattle.running.proofs.Steps.{policy-within}

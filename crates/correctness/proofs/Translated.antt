@@ -16,9 +16,10 @@ use Rattle.tables.proofs.Tables.{getD-padded}
 use Rattle.policy.specs.declared.Policy.{Policy}
 use Rattle.policy.specs.Policies.{legal}
 use Rattle.policy.proofs.Laws.{legal-counts}
-use Rattle.decomposition.specs.Forest.{forest}
-use Rattle.builder.specs.Automaton.{Built, built, stateAt, start, rowTargets, rowPriorities}
-use Rattle.builder.specs.Tables.{Tables, places, stateSources, lengthsFit, nodesFit, statesFit, filled, translationOf, tablesAfter}
+use Rattle.forest.specs.Forest.{forest}
+use Rattle.automaton.specs.Automaton.{Built, built, stateAt, start, rowTargets, rowPriorities}
+use Rattle.builder.specs.Tables.{Tables, lengthsFit, nodesFit, statesFit, filled, translationOf, tablesAfter}
+use Rattle.automaton.specs.Automaton.{places, stateSources}
 use Rattle.builder.specs.declared.Translation.{Translation}
 use Rattle.builder.specs.declared.Translation.the-variants.{Translated, Refused}
 use Rattle.running.specs.declared.Run.{Run}

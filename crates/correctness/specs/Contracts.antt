@@ -11,7 +11,7 @@ use Rattle.lists.specs.Lists.{any}
 use Rattle.masks.specs.Masks.{has}
 use Rattle.policy.specs.declared.Policy.{Policy}
 use Rattle.policy.specs.Policies.{inFamily}
-use Rattle.decomposition.specs.Forest.{even}
+use Rattle.forest.specs.Forest.{even}
 use Rattle.builder.specs.Tables.{Tables, Hold, translationOf, tablesAfter}
 use Rattle.builder.specs.declared.Translation.{Translation}
 use Rattle.builder.specs.declared.Translation.the-variants.{Translated}

@@ -9,8 +9,8 @@ use Rattle.masks.specs.Masks.{has}
 use Rattle.recurrence.specs.Runs.{times, after, Recurring}
 use Rattle.policy.specs.declared.Policy.{Policy}
 use Rattle.policy.specs.Policies.{inFamily}
-use Rattle.decomposition.specs.Forest.{even}
-use Rattle.builder.specs.Automaton.{built, stateAt, rowTarget, rowPriority}
+use Rattle.forest.specs.Forest.{even}
+use Rattle.automaton.specs.Automaton.{built, stateAt, rowTarget, rowPriority}
 use Rattle.running.specs.declared.Run.{Run}
 use Rattle.running.specs.Running.{policyStep, policyMeets, rowStates, rowOf, shaped, rowStep, rowMeets}
 

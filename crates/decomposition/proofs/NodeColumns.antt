@@ -19,18 +19,19 @@ use Rattle.policy.specs.declared.Policy.{Policy}
 use Rattle.policy.specs.Policies.{accepting, legal}
 use Rattle.policy.proofs.Laws.{legal-counts}
 use Rattle.decomposition.specs.declared.nodes.Filled.the-variants.{Nodes, TooMany}
-use Rattle.decomposition.specs.Forest.{Node, differs, forest, node, priority}
-use Rattle.decomposition.specs.Laws.{ForestLaws, maskAt, parentAt, rootAt}
-use Rattle.decomposition.specs.Candidates.{candidatesOf, coloursAt, candidates, judged}
-use Rattle.decomposition.specs.NodeTables.{nodeMasks, nodeParents, nodeRanks, Sought, Cleared, Written, Lent, Spare, Space, nodeTables, nodesFit, fillingOf, filledOf}
-use Rattle.decomposition.specs.Growing.{Ground, Room, AllGrown}
-use Rattle.decomposition.proofs.Distinct.{length-below, flat-few}
-use Rattle.decomposition.proofs.Candidates.{of-few}
-use Rattle.decomposition.proofs.CandidateLaws.{room-few}
-use Rattle.decomposition.proofs.Children.{root-few, child-fewer, ordered-children, ordered-roots}
-use Rattle.decomposition.proofs.Priorities.{priority-root, priority-child, priority-few}
-use Rattle.decomposition.proofs.Numbered.{Numbered, numbered}
-use Rattle.decomposition.proofs.Forest.{forest-laws}
+use Rattle.forest.specs.Forest.{Node, differs, forest, node, priority}
+use Rattle.forest.specs.Laws.{ForestLaws, maskAt, parentAt, rootAt}
+use Rattle.candidates.specs.Candidates.{candidatesOf, coloursAt, candidates, judged}
+use Rattle.decomposition.specs.NodeTables.{Sought, Cleared, Written, Lent, Spare, Space, nodeTables, nodesFit, fillingOf, filledOf}
+use Rattle.forest.specs.Forest.{nodeMasks, nodeParents, nodeRanks}
+use Rattle.trees.specs.Growing.{Ground, Room, AllGrown}
+use Rattle.candidates.proofs.Distinct.{length-below, flat-few}
+use Rattle.candidates.proofs.Candidates.{of-few}
+use Rattle.candidates.proofs.CandidateLaws.{room-few}
+use Rattle.forest.proofs.Children.{root-few, child-fewer, ordered-children, ordered-roots}
+use Rattle.forest.proofs.Priorities.{priority-root, priority-child, priority-few}
+use Rattle.forest.proofs.Numbered.{Numbered, numbered}
+use Rattle.forest.proofs.Forest.{forest-laws}
 
 -- ---- the table t holds the first n entries of the column l
 module _ (l t : List ℕ) where

@@ -1,10 +1,1 @@
-pub mod Forest
-pub mod Laws
-pub mod Candidates
-pub mod Siblings
 pub mod NodeTables
-pub mod Listed
-pub mod Search
-pub mod Subtrees
-pub mod Stores
-pub mod Growing

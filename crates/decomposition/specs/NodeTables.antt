@@ -9,18 +9,8 @@ use Rattle.policy.specs.declared.Policy.{Policy}
 use Rattle.tables.specs.Tables.{padded, zeros}
 use Rattle.decomposition.specs.declared.nodes.Filled.{Filled}
 use Rattle.decomposition.specs.declared.nodes.Filled.the-variants.{Nodes, TooMany}
-use Rattle.decomposition.specs.Forest.{Node, forest, priority, node}
-use Rattle.decomposition.specs.Candidates.{judged, rootCandidates}
-
-module _ (p : Policy) where
-  unfoldable pub nodeMasks : List ℕ
-  nodeMasks = map (λ (x : Node). x .mask) (forest p)
-
-  unfoldable pub nodeParents : List ℕ
-  nodeParents = map (λ (x : Node). x .parent) (forest p)
-
-  unfoldable pub nodeRanks : List ℕ
-  nodeRanks = map (priority p) (forest p)
+use Rattle.forest.specs.Forest.{nodeMasks, nodeParents, nodeRanks, Node, forest, priority, node}
+use Rattle.candidates.specs.Candidates.{judged, rootCandidates}
 
 -- the lists that nodes are looked for in: the candidates of either verdict, and those for roots
 pub record Sought (p : Policy) (accepting rejecting roots : List ℕ) : Type 0 where

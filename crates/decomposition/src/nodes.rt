@@ -7,7 +7,8 @@ ghost use lib.ListN.{length};
 ghost use Rattle.policy.specs.Policies.{accepting, legal};
 ghost use Rattle.policy.specs.ByColour.{byColour};
 ghost use Rattle.tables.specs.Tables.{zeros, padded};
-ghost use Rattle.decomposition.specs.NodeTables.{nodeRanks, Sought, Cleared, Lent, Spare, Space, Written, nodeTables, fillingOf, filledOf};
+ghost use Rattle.decomposition.specs.NodeTables.{Sought, Cleared, Lent, Spare, Space, Written, nodeTables, fillingOf, filledOf};
+ghost use Rattle.forest.specs.Forest.{nodeRanks};
 use policy::Policy;
 
 // What filling the node tables answers: how many nodes there are, or that they do not fit.
@@ -90,7 +91,7 @@ fn write_nodes(
     ensures written { λ _. ⌜ nodeTables (now (masks .exit)) (now (parents .exit)) (now (ranks .exit)) ≡ filledOf p (nodeTables (now (masks .entry)) (now (parents .entry)) (now (ranks .entry))) ⌝ }
 {
     let places = lesser(masks.len(), 65535);
-    let count = crate::trees::grow_roots(
+    let count = trees::trees::grow_roots(
         p,
         by,
         family,
@@ -132,7 +133,7 @@ fn list_and_write(
 {
     let mut roots = [0u64; 16];
     let by = policy::by_colour(p, hues);
-    let listed = crate::listing::fill_candidates(
+    let listed = candidates::fill_candidates(
         p,
         heads,
         &by,

@@ -4,9 +4,9 @@ use native.Mathlib.Omega.{arith}
 use Prim.Native.Nat.{_-_, _≤_}
 use native.Mathlib.Nat.{le-antisymm}
 use Rattle.policy.specs.Policies.{edgeOf}
-use Rattle.builder.specs.Rows.{Rowed}
-use Rattle.builder.proofs.RowLaws.{states-leaves}
-use Rattle.builder.proofs.RowTables.{rowed-none, rowed-first, rowed-letter, rowed-state, all-edges, rowed-all}
+use Rattle.rows.specs.Rows.{Rowed}
+use Rattle.rows.proofs.RowLaws.{states-leaves}
+use Rattle.rows.proofs.RowTables.{rowed-none, rowed-first, rowed-letter, rowed-state, all-edges, rowed-all}
 use borrow.Author.Needs.{needs}
 use Rattle.builder.proofs.translating.fill_rows.Statement.{statement}
 use Rattle.builder.proofs.translating.fill_rows.Tie as tie

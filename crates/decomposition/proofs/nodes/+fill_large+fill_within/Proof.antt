@@ -6,7 +6,7 @@ use lib.ListN.{length}
 use borrow.Author.Needs.{needs}
 use borrow.Fn.Kinds.{In}
 use borrow.Fn.PlainCycle.{Measures, is, falls, and}
-use Rattle.decomposition.proofs.CandidateLaws.{room-few}
+use Rattle.candidates.proofs.CandidateLaws.{room-few}
 use Rattle.decomposition.proofs.NodeColumns.{space-of, space-enough}
 use Rattle.decomposition.proofs.nodes.fill_large.Reads as fill-large
 use Rattle.decomposition.proofs.nodes.fill_large.Kinds as fill-large-kinds

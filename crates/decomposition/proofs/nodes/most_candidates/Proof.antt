@@ -5,7 +5,7 @@ use mathlib.Core.Path.{sym, ap, subst}
 use borrow.Author.Needs.{needs}
 use Rattle.masks.proofs.Bits.{shl-one}
 use Rattle.policy.proofs.Laws.{legal-counts}
-use Rattle.decomposition.proofs.CandidateLaws.{room-few}
+use Rattle.candidates.proofs.CandidateLaws.{room-few}
 use Rattle.decomposition.proofs.nodes.most_candidates.Statement.{statement}
 use Rattle.decomposition.proofs.nodes.most_candidates.Tie as tie
 

@@ -1,0 +1,414 @@
+-- The laws behind the listing of candidates: appending to a list, and the candidates state by state and colour set by colour set. Assumes nothing.
+use Prim.Native.Nat.{ℕ, _+_, _*_, _-_, _^_, _≤_, _<_}
+use native.Mathlib.Omega.{arith}
+use native.Mathlib.Decide.{decLt}
+use native.Mathlib.Nat.{mul-le-mul-right, mul-comm, suc-mul}
+use native.Mathlib.Numerals.{add-one}
+use mathlib.Core.Path.{_≡_, refl, sym, ap, _∙_, subst}
+use mathlib.Core.Logic.{_⊎_, inl, inr, _≢_}
+use mathlib.Core.Bool.{Bool, true, false, not, cond, true≢false, false≢true}
+use mathlib.Core.List.{List, [], _∷_, _++_, map, append-nil, append-assoc, List·Memᴰ, List·Memᴰ·head, List·Memᴰ·tail}
+use lib.Bits.{bitOr, or-zero-r}
+use lib.Dec.{eqb}
+use lib.ListN.{length, take, getD, set, length-set, length-append}
+use lib.Pow.{pow-mono, pow-pos}
+use lib.Seq.{take-suc, take-suc-set}
+use Rattle.lists.specs.Lists.{filter, flat, below}
+use Rattle.lists.proofs.Bools.{≡eqb, neqb, bool-ext, same-or-not}
+use Rattle.lists.proofs.Lists.{all-each, each-all}
+use Rattle.masks.specs.Masks.{has, inside}
+use Rattle.masks.proofs.Bits.{has-full, has-high, has-none, mask-ext, inside-all, inside-trans}
+use Rattle.policy.specs.declared.Policy.{Policy}
+use Rattle.policy.specs.Policies.{edges, edgeColours, coloursOf, inFamily, accepting, legal}
+use Rattle.policy.specs.ByColour.{byColour, edgesIn, tableEdges, tableColours}
+use Rattle.policy.proofs.Laws.{legal-counts, some-colours, colours-up, accepting-is, edge-coloured}
+use Rattle.policy.proofs.ByColour.{edges-in-some, some-edges-in, table-edges-are, table-colours-are}
+use Rattle.graph.specs.Coloured.{coloured}
+use Rattle.graph.specs.Through.{cycleThrough}
+use Rattle.graph.proofs.Coloured.{coloured-some, some-coloured, coloured-inside}
+use Rattle.graph.proofs.Through.{through-inside}
+use Rattle.candidates.specs.declared.Counts.{Counts}
+use Rattle.forest.specs.Forest.{differs, full}
+use Rattle.candidates.specs.Candidates.{lowestIs, largestAt, largestIn, candidatesOf, coloursAt, candidates, judged, rootCandidates}
+use Rattle.candidates.specs.Listed.{single, Appended, isOpen, lowestCycle, keptIn, largestTo, judgedOf, judgedTo, Found, Finding, Put, Listing, Listed}
+use Rattle.candidates.proofs.Candidates.{lowest-some, largest-in-mem, of-mem, of-colours, of-few}
+use Rattle.candidates.proofs.Covered.{open-cycle, shut-cycle, covered-none, covered-next}
+
+-- ---- appending
+pub single-none : (x : ℕ) → x ≡ 0 → single x ≡ []
+unfolding single
+single-none x e = rw (≡eqb x 0 e)
+
+pub single-one : (x : ℕ) → x ≢ 0 → single x ≡ x ∷ []
+unfolding single
+single-one x e = rw (neqb x 0 e)
+
+pub appended-none : (t : List ℕ) (n : ℕ) (xs : List ℕ) → xs ≡ [] → Appended t t n n xs
+appended-none t n xs e = record {
+  first-are = sym (append-nil (take n t)) ∙ ap (λ (l : List ℕ). take n t ++ l) (sym e);
+  next-is = omega (arith, ap length e);
+  long = refl;
+}
+
+pub appended-one : (t : List ℕ) (n x : ℕ) → n < length t → Appended t (set t n x) n (n + 1) (x ∷ [])
+appended-one t n x h = record {
+  first-are = ap (λ (r : ℕ). take r (set t n x)) (add-one n) ∙ take-suc-set t n x h;
+  next-is = omega arith;
+  long = length-set t n x;
+}
+
+pub appended-join : {t₀ t₁ t₂ : List ℕ} {n i j : ℕ} {xs ys : List ℕ} → Appended t₀ t₁ n i xs → Appended t₁ t₂ i j ys → (zs : List ℕ) → zs ≡ xs ++ ys → Appended t₀ t₂ n j zs
+appended-join {t₀} {t₁} {t₂} {n} {i} {j} {xs} {ys} a b zs e = record {
+  first-are = b .first-are ∙ ap (λ (l : List ℕ). l ++ ys) (a .first-are) ∙ append-assoc (take n t₀) xs ys ∙ ap (λ (l : List ℕ). take n t₀ ++ l) (sym e);
+  next-is = omega (arith, a .next-is, b .next-is, length-append xs ys, ap length e);
+  long = b .long ∙ a .long;
+}
+
+pub appended-is : {t₀ t : List ℕ} {n r : ℕ} {xs : List ℕ} → Appended t₀ t n r xs → (ys : List ℕ) → ys ≡ xs → Appended t₀ t n r ys
+appended-is {t₀} {t} {n} {r} {xs} a ys e = subst (Appended t₀ t n r) (sym e) a
+
+-- ---- by verdict
+pub put-none : (b : Bool) (xs a r : List ℕ) (n : Counts) → xs ≡ [] → Put b xs a a r r n n
+put-none b xs a r n e = record {
+  accepting-are = appended-none a (n .accepting) (cond b xs []) (go b);
+  rejecting-are = appended-none r (n .rejecting) (cond b [] xs) (stop b);
+  roots-same = refl;
+}
+  where
+    go : (b : Bool) → cond b xs [] ≡ []
+    go true = e
+    go false = refl
+
+    stop : (b : Bool) → cond b [] xs ≡ []
+    stop true = refl
+    stop false = e
+
+pub put-accepting : {b : Bool} {xs a₀ a : List ℕ} (k : Counts) {m : ℕ} → b ≡ true → Appended a₀ a (k .accepting) m xs → (r : List ℕ)
+    → Put b xs a₀ a r r k (record { accepting = m; rejecting = k .rejecting; roots = k .roots })
+put-accepting {b} {xs} {a₀} {a} k {m} e h r = record {
+  accepting-are = appended-is h (cond b xs []) (rw e refl);
+  rejecting-are = appended-none r (k .rejecting) (cond b [] xs) (rw e refl);
+  roots-same = refl;
+}
+
+pub put-rejecting : {b : Bool} {xs r₀ r : List ℕ} (k : Counts) {m : ℕ} → b ≡ false → (a : List ℕ) → Appended r₀ r (k .rejecting) m xs
+    → Put b xs a a r₀ r k (record { accepting = k .accepting; rejecting = m; roots = k .roots })
+put-rejecting {b} {xs} {r₀} {r} k {m} e a h = record {
+  accepting-are = appended-none a (k .accepting) (cond b xs []) (rw e refl);
+  rejecting-are = appended-is h (cond b [] xs) (rw e refl);
+  roots-same = refl;
+}
+
+pub put-is : {b d : Bool} {xs ys a₀ a r₀ r : List ℕ} {k n : Counts} → Put b xs a₀ a r₀ r k n → b ≡ d → xs ≡ ys → Put d ys a₀ a r₀ r k n
+put-is {b} {d} {xs} {ys} {a₀} {a} {r₀} {r} {k} {n} h e q =
+    subst (λ (zs : List ℕ). Put d zs a₀ a r₀ r k n) q (subst (λ (f : Bool). Put f xs a₀ a r₀ r k n) e h)
+
+-- ---- lists made piece by piece
+flat-last : (f : ℕ → List ℕ) (l : List ℕ) (n : ℕ) → flat (map f (l ++ (n ∷ []))) ≡ flat (map f l) ++ f n
+flat-last f [] n = append-nil (f n)
+flat-last f (x ∷ l) n = ap (λ (r : List ℕ). f x ++ r) (flat-last f l n) ∙ sym (append-assoc (f x) (flat (map f l)) (f n))
+
+pub flat-next : (f : ℕ → List ℕ) (n : ℕ) → flat (map f (below (n + 1))) ≡ flat (map f (below n)) ++ f n
+flat-next f n = ap (λ (k : ℕ). flat (map f (below k))) (add-one n) ∙ flat-last f (below n) n
+
+filter-append : (t : ℕ → Bool) (a b : List ℕ) → filter t (a ++ b) ≡ filter t a ++ filter t b
+filter-append t [] b = refl
+filter-append t (x ∷ a) b = go (t x) (filter-append t a b)
+  where
+    go : (c : Bool) → filter t (a ++ b) ≡ filter t a ++ filter t b → cond c (x ∷ filter t (a ++ b)) (filter t (a ++ b)) ≡ cond c (x ∷ filter t a) (filter t a) ++ filter t b
+    go true ih = ap (λ (l : List ℕ). x ∷ l) ih
+    go false ih = ih
+
+filter-whole : (t : ℕ → Bool) (l : List ℕ) → ((x : ℕ) → List·Memᴰ x l → t x ≡ true) → filter t l ≡ l
+filter-whole t [] h = refl
+filter-whole t (x ∷ l) h = rw (h x (List·Memᴰ·head refl)) (ap (λ (r : List ℕ). x ∷ r) (filter-whole t l (λ y m. h y (List·Memᴰ·tail m))))
+
+filter-empty : (t : ℕ → Bool) (l : List ℕ) → ((x : ℕ) → List·Memᴰ x l → t x ≡ false) → filter t l ≡ []
+filter-empty t [] h = refl
+filter-empty t (x ∷ l) h = rw (h x (List·Memᴰ·head refl)) (filter-empty t l (λ y m. h y (List·Memᴰ·tail m)))
+
+none-mem : (l : List ℕ) → ((x : ℕ) → List·Memᴰ x l → ⊥) → l ≡ []
+none-mem [] h = refl
+none-mem (x ∷ l) h = absurd (h x (List·Memᴰ·head refl))
+
+pub single-few : (x : ℕ) → length (single x) ≤ 1
+unfolding single
+single-few x = go (eqb x 0)
+  where
+    go : (b : Bool) → length (cond b [] (x ∷ [])) ≤ 1
+    go true = omega arith
+    go false = omega arith
+
+one-single : (b : Bool) (y : ℕ) → (b ≡ true → y ≢ 0) → cond b (y ∷ []) [] ≡ single (cond b y 0)
+one-single true y h = sym (single-one y (h refl))
+one-single false y h = sym (single-none 0 refl)
+
+-- ---- cycles kept by their colours
+pub kept-none : (by : List ℕ) (c : ℕ) (l : List ℕ) → keptIn by c (take 0 l) ≡ []
+unfolding keptIn
+kept-none by c l = refl
+
+kept-next : (by : List ℕ) (c : ℕ) (l : List ℕ) (i : ℕ) → i < length l → keptIn by c (take (i + 1) l) ≡ keptIn by c (take i l) ++ keptIn by c (getD l i 0 ∷ [])
+unfolding keptIn
+kept-next by c l i h =
+    ap (filter (λ (x : ℕ). eqb (tableColours by x) c)) (ap (λ (k : ℕ). take k l) (add-one i) ∙ take-suc l i 0 h)
+    ∙ filter-append (λ (x : ℕ). eqb (tableColours by x) c) (take i l) (getD l i 0 ∷ [])
+
+-- one turn: the member at place i, whose colours are d
+pub kept-in : {t₀ t u : List ℕ} {at next k : ℕ} (by : List ℕ) (c : ℕ) (l : List ℕ) (i : ℕ) {d : ℕ} → Appended t₀ t at next (keptIn by c (take i l)) → i < length l → next < length t
+    → d ≡ tableColours by (getD l i 0) → d ≡ c → u ≡ set t next (getD l i 0) → k ≡ next + 1 → Appended t₀ u at k (keptIn by c (take (i + 1) l))
+unfolding keptIn
+kept-in {t₀} {t} {u} {at} {next} {k} by c l i {d} a h room e q eu ek =
+    rw (eu, ek) (appended-join a (appended-one t next (getD l i 0) room) (keptIn by c (take (i + 1) l)) is)
+  where
+    is : keptIn by c (take (i + 1) l) ≡ keptIn by c (take i l) ++ (getD l i 0 ∷ [])
+    is = kept-next by c l i h ∙ ap (λ (b : Bool). keptIn by c (take i l) ++ cond b (getD l i 0 ∷ []) []) (≡eqb (tableColours by (getD l i 0)) c (sym e ∙ q))
+
+pub kept-out : {t₀ t u : List ℕ} {at next k : ℕ} (by : List ℕ) (c : ℕ) (l : List ℕ) (i : ℕ) {d : ℕ} → Appended t₀ t at next (keptIn by c (take i l)) → i < length l
+    → d ≡ tableColours by (getD l i 0) → d ≢ c → u ≡ t → k ≡ next → Appended t₀ u at k (keptIn by c (take (i + 1) l))
+unfolding keptIn
+kept-out {t₀} {t} {u} {at} {next} {k} by c l i {d} a h e q eu ek = rw (eu, ek) (appended-is a (keptIn by c (take (i + 1) l)) is)
+  where
+    is : keptIn by c (take (i + 1) l) ≡ keptIn by c (take i l)
+    is =
+        kept-next by c l i h
+        ∙ ap (λ (b : Bool). keptIn by c (take i l) ++ cond b (getD l i 0 ∷ []) []) (neqb (tableColours by (getD l i 0)) c (λ z. q (e ∙ z)))
+        ∙ append-nil (keptIn by c (take i l))
+
+-- ---- tests
+differs-same : (b a : Bool) → a ≡ b → differs b a ≡ false
+differs-same true a e = rw e
+differs-same false a e = e
+
+differs-other : (b a : Bool) → a ≡ not b → differs b a ≡ true
+differs-other true a e = rw e
+differs-other false a e = e
+
+module _ (p : Policy) where
+  -- ---- the largest cycles inside m, state by state
+  largest-is : (m v x : ℕ) → x ≡ lowestCycle p m v → largestAt p m v ≡ single x
+  unfolding largestAt lowestCycle
+  largest-is m v x q = let y = cycleThrough p m v in one-single (lowestIs p v y) y (λ t. lowest-some p v y t .0) ∙ ap single (sym q)
+
+  to-none : (m : ℕ) → largestTo p m 0 ≡ []
+  unfolding largestTo
+  to-none m = refl
+
+  to-next : (m v x : ℕ) → x ≡ lowestCycle p m v → largestTo p m (v + 1) ≡ largestTo p m v ++ single x
+  unfolding largestTo
+  to-next m v x e = flat-next (largestAt p m) v ∙ ap (λ (l : List ℕ). largestTo p m v ++ l) (largest-is m v x e)
+
+  to-all : (m n : ℕ) → n ≡ p .states → largestTo p m n ≡ largestIn p m
+  unfolding largestTo largestIn
+  to-all m n e = ap (λ (k : ℕ). flat (map (largestAt p m) (below k))) e
+
+  module _ (lawful : legal p ≡ true) (m : ℕ) where
+    pub finding-none : (t : List ℕ) → Finding p m t t 0 0 0
+    finding-none t = record { at-most = omega arith; seen-is = sym (covered-none p lawful m); found = appended-none t 0 (largestTo p m 0) (to-none m) }
+
+    -- a state that is open: the largest cycle through it
+    pub finding-open : {t₀ t t₁ : List ℕ} {seen n v : ℕ} → Finding p m t₀ t seen n v → v < p .states → isOpen p m seen v ≡ true
+        → (x s k : ℕ) → x ≡ cycleThrough p m v → s ≡ bitOr seen x → Appended t t₁ n k (single x) → Finding p m t₀ t₁ s k (v + 1)
+    finding-open {t₀} {t} {t₁} {seen} {n} {v} f l o x s k ex es a =
+        let e = ex ∙ open-cycle p lawful m v l seen (f .seen-is) o in
+        record {
+          at-most = omega (arith, f .at-most, a .next-is, single-few x);
+          seen-is = covered-next p lawful m v seen x s (f .seen-is) e es;
+          found = appended-join (f .found) a (largestTo p m (v + 1)) (to-next m v x e);
+        }
+
+    -- one that is not: nothing
+    pub finding-shut : {t₀ t : List ℕ} {seen n v : ℕ} → Finding p m t₀ t seen n v → v < p .states → isOpen p m seen v ≡ false → Finding p m t₀ t seen n (v + 1)
+    finding-shut {t₀} {t} {seen} {n} {v} f l o =
+        let e = shut-cycle p lawful m v l seen (f .seen-is) o in
+        record {
+          at-most = omega (arith, f .at-most);
+          seen-is = covered-next p lawful m v seen 0 seen (f .seen-is) e (sym (or-zero-r seen));
+          found = appended-is (f .found) (largestTo p m (v + 1)) (to-next m v 0 e ∙ ap (λ (l : List ℕ). largestTo p m v ++ l) (single-none 0 refl) ∙ append-nil (largestTo p m v));
+        }
+
+    pub finding-is : {t₀ t u : List ℕ} {seen n v s k : ℕ} → Finding p m t₀ t seen n v → u ≡ t → s ≡ seen → k ≡ n → Finding p m t₀ u s k v
+    finding-is {t₀} {t} {u} {seen} {n} {v} {s} {k} f eu es ek = rw (eu, es, ek) f
+
+    pub finding-all : {t₀ t : List ℕ} {seen n v : ℕ} → Finding p m t₀ t seen n v → v ≡ p .states → length t₀ ≡ 16 → Found p m t n
+    finding-all {t₀} {t} {seen} {n} {v} f e l = record { cycles-are = f .found .first-are ∙ to-all m v e; few = omega (arith, f .at-most); long = f .found .long ∙ l }
+
+  -- ---- the candidates of a colour set
+  of-inside : (c x : ℕ) → List·Memᴰ x (candidatesOf p c) → inside x (full p) ≡ true
+  of-inside c x k =
+      let r = largest-in-mem p m x (of-mem p c x k .0) in
+      subst (λ (y : ℕ). inside y (full p) ≡ true) (sym (r .2)) (inside-trans (cycleThrough p m (r .0)) m (full p) (through-inside p m (r .0)) (coloured-inside p (full p) c))
+    where
+      m : ℕ
+      m = coloured p (full p) c
+
+  -- a candidate's colours are exactly its colour set, so there is none where some colour of the set is on no edge
+  pub candidates-none : (c d : ℕ) → d ≡ coloursOf p (full p) → inside c d ≡ false → candidatesOf p c ≡ []
+  candidates-none c d e f = none-mem (candidatesOf p c) (λ x k. true≢false (sym (subst (λ (r : ℕ). inside c r ≡ true) (sym e) (within x k)) ∙ f))
+    where
+      within : (x : ℕ) → List·Memᴰ x (candidatesOf p c) → inside c (coloursOf p (full p)) ≡ true
+      within x k = subst (λ (r : ℕ). inside r (coloursOf p (full p)) ≡ true) (of-colours p c x k) (colours-up p x (full p) (of-inside c x k))
+
+  -- and none where the set is empty, since every edge has a colour
+  pub candidates-empty : (c : ℕ) → c ≡ 0 → candidatesOf p c ≡ []
+  candidates-empty c z = none-mem (candidatesOf p c) off
+    where
+      m : ℕ
+      m = coloured p (full p) c
+
+      edge : (e : ℕ) → has m e ≡ true → ⊥
+      edge e h =
+          let d = edge-coloured p e in
+          false≢true (sym (has-none (d .0)) ∙ ap (λ (k : ℕ). has k (d .0)) (sym z) ∙ coloured-some p (full p) c e h .2 (d .0) (d .1))
+
+      none : (x : ℕ) → inside x m ≡ true → x ≡ 0
+      none x i = mask-ext x 0 (λ e. bool-ext (has x e) (has 0 e) (λ h. absurd (edge e (inside-all x m i e h))) (λ h. absurd (false≢true (sym (has-none e) ∙ h))))
+
+      off : (x : ℕ) → List·Memᴰ x (candidatesOf p c) → ⊥
+      off x k =
+          let r = largest-in-mem p m x (of-mem p c x k .0) in
+          lowest-some p (r .0) x (r .3) .0 (none x (subst (λ (y : ℕ). inside y m ≡ true) (sym (r .2)) (through-inside p m (r .0))))
+
+  -- those of the largest cycles that are kept by the table
+  filter-same : (t u : ℕ → Bool) → ((x : ℕ) → t x ≡ u x) → (l : List ℕ) → filter t l ≡ filter u l
+  filter-same t u h [] = refl
+  filter-same t u h (x ∷ l) = rw (h x, filter-same t u h l) refl
+
+  pub kept-candidates : legal p ≡ true → (by : List ℕ) (c m : ℕ) (l : List ℕ) → by ≡ byColour p → m ≡ coloured p (full p) c → l ≡ largestIn p m → keptIn by c l ≡ candidatesOf p c
+  unfolding keptIn candidatesOf
+  kept-candidates lawful by c m l e q k =
+      filter-same (λ (x : ℕ). eqb (tableColours by x) c) (λ (x : ℕ). eqb (coloursOf p x) c) (λ x. ap (λ (d : ℕ). eqb d c) (ap (λ (t : List ℕ). tableColours t x) e ∙ table-colours-are p lawful x)) l
+      ∙ ap (filter (λ (x : ℕ). eqb (coloursOf p x) c)) (k ∙ ap (largestIn p) q)
+
+  -- every edge has its colours among those on edges
+  pub all-coloured : (c : ℕ) → c ≡ coloursOf p (full p) → full p ≡ coloured p (full p) c
+  unfolding full
+  all-coloured c e = mask-ext (full p) (coloured p (full p) c) (λ f. bool-ext (has (full p) f) (has (coloured p (full p) c) f) (there f (decLt f (edges p))) (λ h. coloured-some p (full p) c f h .1))
+    where
+      there : (f : ℕ) → Dec (f < edges p) → has (full p) f ≡ true → has (coloured p (full p) c) f ≡ true
+      there f (yes l) h = some-coloured p (full p) c f l h (λ d k. ap (λ (s : ℕ). has s d) e ∙ some-colours p (full p) f d l h k)
+      there f (no n) h = absurd (true≢false (sym h ∙ has-high (edges p) f (full p) (omega (arith, pow-pos (edges p))) (omega arith)))
+
+  -- ---- the candidates by verdict, colour set by colour set
+  judged-same : (b : Bool) (c : ℕ) → inFamily p c ≡ b → judgedOf p b c ≡ candidatesOf p c
+  unfolding judgedOf
+  judged-same b c e = ap (λ (d : Bool). cond d [] (candidatesOf p c)) (differs-same b (inFamily p c) e)
+
+  judged-other : (b : Bool) (c : ℕ) → inFamily p c ≡ not b → judgedOf p b c ≡ []
+  unfolding judgedOf
+  judged-other b c e = ap (λ (d : Bool). cond d [] (candidatesOf p c)) (differs-other b (inFamily p c) e)
+
+  judged-of : (b : Bool) (c : ℕ) → filter (λ (m : ℕ). not (differs b (accepting p m))) (candidatesOf p c) ≡ judgedOf p b c
+  judged-of b c = go (same-or-not (inFamily p c) b)
+    where
+      verdict : (x : ℕ) → List·Memᴰ x (candidatesOf p c) → accepting p x ≡ inFamily p c
+      verdict x k = accepting-is p x ∙ ap (inFamily p) (of-colours p c x k)
+
+      go : (inFamily p c ≡ b) ⊎ (inFamily p c ≡ not b) → filter (λ (m : ℕ). not (differs b (accepting p m))) (candidatesOf p c) ≡ judgedOf p b c
+      go (inl e) =
+          filter-whole (λ (m : ℕ). not (differs b (accepting p m))) (candidatesOf p c) (λ x k. ap not (differs-same b (accepting p x) (verdict x k ∙ e)))
+          ∙ sym (judged-same b c e)
+      go (inr e) =
+          filter-empty (λ (m : ℕ). not (differs b (accepting p m))) (candidatesOf p c) (λ x k. ap not (differs-other b (accepting p x) (verdict x k ∙ e)))
+          ∙ sym (judged-other b c e)
+
+  pub sets-few : legal p ≡ true → (n : ℕ) → n ≡ 2 ^ p .colours → n ≤ 256
+  sets-few h n e = omega (arith, pow-mono (legal-counts p h .colours-few))
+
+  -- room for the candidates: at most one for each set of colours and each state
+  pub room-left : (i n k l : ℕ) → k ≡ 2 ^ p .colours → i < k → n ≤ i * p .states → p .states * 2 ^ p .colours ≤ l → n + p .states ≤ l
+  room-left i n k l e lt h r =
+      omega (arith, mul-le-mul-right (p .states) lt, suc-mul i (p .states), mul-comm (p .states) k, subst (λ (x : ℕ). p .states * x ≤ l) (sym e) r)
+
+  pub room-next : (i n m b : ℕ) → n ≤ i * p .states → m ≡ n + b → b ≤ p .states → m ≤ (i + 1) * p .states
+  room-next i n m b h e l = rw (add-one i) (omega (arith, suc-mul i (p .states)))
+
+  pub room-all : (i n : ℕ) → i ≡ 2 ^ p .colours → n ≤ i * p .states → n ≤ p .states * 2 ^ p .colours
+  room-all i n e h = subst (λ (x : ℕ). n ≤ x) (mul-comm i (p .states) ∙ ap (λ (x : ℕ). p .states * x) e) h
+
+  pub room-few : legal p ≡ true → p .states * 2 ^ p .colours ≤ 4096
+  room-few h = omega (arith, mul-le-mul-right (2 ^ p .colours) (legal-counts p h .states-few), pow-mono (legal-counts p h .colours-few))
+
+  pub judged-none : (b : Bool) → judgedTo p b 0 ≡ []
+  unfolding judgedTo
+  judged-none b = refl
+
+  pub judged-next : (b : Bool) (i n : ℕ) → n ≡ 2 ^ p .colours → judgedTo p b (i + 1) ≡ judgedTo p b i ++ judgedOf p b (n - 1 - i)
+  unfolding judgedTo coloursAt
+  judged-next b i n e =
+      ap (filter (λ (m : ℕ). not (differs b (accepting p m)))) (flat-next (λ (j : ℕ). candidatesOf p (coloursAt p j)) i)
+      ∙ filter-append (λ (m : ℕ). not (differs b (accepting p m))) (flat (map (λ (j : ℕ). candidatesOf p (coloursAt p j)) (below i))) (candidatesOf p (coloursAt p i))
+      ∙ ap (λ (l : List ℕ). judgedTo p b i ++ l) (judged-of b (coloursAt p i) ∙ ap (λ (k : ℕ). judgedOf p b (k - 1 - i)) (sym e))
+
+  pub judged-all : (b : Bool) (n : ℕ) → n ≡ 2 ^ p .colours → judgedTo p b n ≡ judged p b
+  unfolding judgedTo judged candidates
+  judged-all b n e = ap (λ (k : ℕ). filter (λ (m : ℕ). not (differs b (accepting p m))) (flat (map (λ (j : ℕ). candidatesOf p (coloursAt p j)) (below k)))) e
+
+  -- ---- listing, colour set by colour set
+  pub listing-none : (a r : List ℕ) (k : ℕ) → Listing p 0 a a r r (record { accepting = 0; rejecting = 0; roots = k })
+  listing-none a r k = record {
+    accepting-are = appended-none a 0 (judgedTo p true 0) (judged-none true);
+    rejecting-are = appended-none r 0 (judgedTo p false 0) (judged-none false);
+    accepting-few = omega arith;
+    rejecting-few = omega arith;
+  }
+
+  pub listing-next : {i : ℕ} {a₀ a a₁ r₀ r r₁ : List ℕ} {k n : Counts} → Listing p i a₀ a r₀ r k → (sets : ℕ) → sets ≡ 2 ^ p .colours
+      → Put (inFamily p (sets - 1 - i)) (candidatesOf p (sets - 1 - i)) a a₁ r r₁ k n → Listing p (i + 1) a₀ a₁ r₀ r₁ n
+  unfolding judgedOf
+  listing-next {i} {a₀} {a} {a₁} {r₀} {r} {r₁} {k} {n} l sets e q = record {
+    accepting-are = appended-join (l .accepting-are) (q .accepting-are) (judgedTo p true (i + 1)) (judged-next true i sets e ∙ ap (λ (x : List ℕ). judgedTo p true i ++ x) (turned (inFamily p c)));
+    rejecting-are = appended-join (l .rejecting-are) (q .rejecting-are) (judgedTo p false (i + 1)) (judged-next false i sets e);
+    accepting-few = room-next i (k .accepting) (n .accepting) _ (l .accepting-few) (q .accepting-are .next-is) (some-few (inFamily p c));
+    rejecting-few = room-next i (k .rejecting) (n .rejecting) _ (l .rejecting-few) (q .rejecting-are .next-is) (none-few (inFamily p c));
+  }
+    where
+      c : ℕ
+      c = sets - 1 - i
+
+      turned : (b : Bool) → cond (not b) [] (candidatesOf p c) ≡ cond b (candidatesOf p c) []
+      turned true = refl
+      turned false = refl
+
+      some-few : (b : Bool) → length (cond b (candidatesOf p c) []) ≤ p .states
+      some-few true = of-few p c
+      some-few false = omega arith
+
+      none-few : (b : Bool) → length (cond b [] (candidatesOf p c)) ≤ p .states
+      none-few true = omega arith
+      none-few false = of-few p c
+
+  pub listing-all : {i : ℕ} {a₀ a r₀ r : List ℕ} {n : Counts} → Listing p i a₀ a r₀ r n → i ≡ 2 ^ p .colours → Listed p a₀ a r₀ r n
+  listing-all {i} {a₀} {a} {r₀} {r} {n} l e = record {
+    accepting-are = l .accepting-are .first-are ∙ judged-all true i e;
+    rejecting-are = l .rejecting-are .first-are ∙ judged-all false i e;
+    accepting-few = room-all i (n .accepting) e (l .accepting-few);
+    rejecting-few = room-all i (n .rejecting) e (l .rejecting-few);
+    accepting-long = l .accepting-are .long;
+    rejecting-long = l .rejecting-are .long;
+  }
+
+  pub found-is : {m k n j : ℕ} {t : List ℕ} → Found p m t n → m ≡ k → j ≡ n → Found p k t j
+  found-is {m} {k} {n} {j} {t} f e q = rw (← e, q) f
+
+  pub found-roots : {n : ℕ} {t : List ℕ} → Found p (full p) t n → take n t ≡ rootCandidates p
+  unfolding rootCandidates
+  found-roots f = f .cycles-are
+
+  pub full-is : (n m : ℕ) → n ≡ edges p → m ≡ 2 ^ n - 1 → m ≡ full p
+  unfolding full
+  full-is n m e q = q ∙ ap (λ (k : ℕ). 2 ^ k - 1) e
+
+  -- ---- the edges in some colours, by the table
+  coloured-is : (c : ℕ) → edgesIn p c ≡ coloured p (full p) c
+  unfolding full
+  coloured-is c = mask-ext (edgesIn p c) (coloured p (full p) c) (λ e. bool-ext (has (edgesIn p c) e) (has (coloured p (full p) c) e) (there e) (back e))
+    where
+      there : (e : ℕ) → has (edgesIn p c) e ≡ true → has (coloured p (full p) c) e ≡ true
+      there e h = let r = edges-in-some p c e h in some-coloured p (full p) c e (r .0) (has-full (edges p) e (r .0)) (all-each (has c) (edgeColours p e) (r .1))
+
+      back : (e : ℕ) → has (coloured p (full p) c) e ≡ true → has (edgesIn p c) e ≡ true
+      back e h = let r = coloured-some p (full p) c e h in some-edges-in p c e (r .0) (each-all (has c) (edgeColours p e) (r .2))
+
+  pub edges-are : legal p ≡ true → (t : List ℕ) (c m : ℕ) → t ≡ byColour p → m ≡ tableEdges t c → m ≡ coloured p (full p) c
+  edges-are h t c m e q = q ∙ ap (λ (l : List ℕ). tableEdges l c) e ∙ table-edges-are p h c ∙ coloured-is c

@@ -1,0 +1,6 @@
+pub mod Distinct
+pub mod Full
+pub mod Candidates
+pub mod LargerFirst
+pub mod Covered
+pub mod CandidateLaws

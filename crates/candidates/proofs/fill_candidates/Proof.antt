@@ -1,0 +1,139 @@
+-- `decomposition::listing::fill_candidates` meets its contract. The invariant: the candidates of the sets of colours before position i are listed, at most one for
+-- each such set and each state in either list. Assumes nothing.
+use Prim.Native.Nat.{ℕ, _-_, _≤_}
+use mathlib.Core.Path.{_≡_, refl, ap, _∙_}
+use mathlib.Core.List.{List}
+use lib.ListN.{length, length-replicate}
+use native.Mathlib.Omega.{arith}
+use borrow.Author.Needs.{needs}
+use Rattle.policy.specs.Policies.{coloursOf}
+use Rattle.policy.specs.ByColour.{tableColours}
+use Rattle.policy.proofs.Laws.{legal-counts, edges-le}
+use Rattle.policy.proofs.ByColour.{table-colours-are}
+use Rattle.forest.specs.Forest.{full}
+use Rattle.candidates.specs.Listed.{Listing}
+use Rattle.candidates.proofs.CandidateLaws.{full-is, sets-few, room-left, listing-none, listing-next, listing-all, found-is, found-roots}
+use Rattle.candidates.proofs.fill_candidates.Statement.{statement}
+use Rattle.candidates.proofs.fill_candidates.Tie as tie
+
+abbrev Inv-loop : tie.InvT-loop
+Inv-loop p heads by family accepting₀ rejecting₀ roots all used sets rows₀ cycles₀ rooted listed₀ i₀ accepting rejecting rows cycles listed i =
+    (i ≤ sets) × Listing p i accepting₀ accepting rejecting₀ rejecting listed × (length rows ≡ 16) × (length cycles ≡ 16) × (listed .roots ≡ listed₀ .roots)
+
+abbrev μ-loop : tie.MeasureT-loop
+μ-loop p heads by family accepting₀ rejecting₀ roots all used sets rows₀ cycles₀ rooted listed₀ i₀ accepting rejecting rows cycles listed i = sets - i
+
+edges-requires : tie.Need-edges-requires Inv-loop μ-loop
+edges-requires c κs = search needs
+
+full-requires : tie.Need-full-requires Inv-loop μ-loop
+full-requires c κs = let s = c .before .before .before in omega (arith, edges-le (s .args .p) (s .pre .0))
+
+colours-in-requires : tie.Need-colours-in-requires Inv-loop μ-loop
+colours-in-requires c κs = search needs
+
+set-count-requires : tie.Need-set-count-requires Inv-loop μ-loop
+set-count-requires c κs = c .before .before .before .before .before .pre .0
+
+fill-cycles-requires : tie.Need-fill-cycles-requires Inv-loop μ-loop
+fill-cycles-requires c κs = let s = c .before .before .before .before .before .before .before .before in (s .pre .0, s .pre .1, length-replicate {A = ℕ} 16 0, s .pre .6)
+
+loop-holds : tie.Need-loop-holds Inv-loop μ-loop
+loop-holds c =
+    let a = c .before .before .before .before .before .before .before .before .before .args in
+    (omega arith, listing-none (a .p) (a .accepting .now) (a .rejecting .now) (c .fill-cycles .result), c .fill-cycles .ensures .1, length-replicate {A = ℕ} 16 0, refl)
+
+sub-c : tie.Need-sub-c Inv-loop μ-loop
+sub-c c = omega arith
+
+sub-c-2 : tie.Need-sub-c-2 Inv-loop μ-loop
+sub-c-2 c = omega arith
+
+cast-c : tie.Need-cast-c Inv-loop μ-loop
+cast-c c =
+    let s = c .before .before .before .before .before .before .before .before .before .before .before in
+    let sets = c .before .before .before .before .before .set-count in
+    omega (arith, sets-few (s .args .p) (s .pre .0) (sets .result) (sets .ensures))
+
+-- all edges
+all-are : (c : tie.After-full Inv-loop μ-loop) → c .full .result ≡ full (c .before .before .before .before .args .p)
+all-are c = full-is (c .before .before .before .before .args .p) (c .before .edges .result) (c .full .result) (c .before .edges .ensures) (c .full .ensures)
+
+list-set-requires : tie.Need-list-set-requires Inv-loop μ-loop
+list-set-requires c κs =
+    let s = c .before .before .before .before .before .before .before .before .before .before .before .before .before .before .before .before in
+    let p = s .args .p in
+    let sets = c .before .before .before .before .before .before .before .before .before .before .set-count in
+    let all = c .before .before .before .before .before .before .before .before .before .before .before .before .full .result in
+    let is = all-are (c .before .before .before .before .before .before .before .before .before .before .before .before) in
+    let at = c .before .before .before .before .before .before .loop in
+    let i = at .inv in (
+      record {
+        lawful = s .pre .0;
+        heads-are = s .pre .1;
+        by-is = s .pre .2;
+        family-is = s .pre .3;
+        used-are = c .before .before .before .before .before .before .before .before .before .before .before .colours-in .ensures ∙ ap (λ (t : List ℕ). tableColours t all) (s .pre .2) ∙ table-colours-are p (s .pre .0) all ∙ ap (coloursOf p) is;
+        rooted = found-is p (c .before .before .before .before .before .before .before .fill-cycles .ensures .0) is (i .4);
+      },
+      i .2,
+      i .3,
+      room-left p (at .i) (at .listed .accepting) (sets .result) (length (at .accepting)) (sets .ensures) (c .before .before .before .before .before .loop-test .taken) (i .1 .accepting-few) (omega (arith, i .1 .accepting-are .long, s .pre .4)),
+      room-left p (at .i) (at .listed .rejecting) (sets .result) (length (at .rejecting)) (sets .ensures) (c .before .before .before .before .before .loop-test .taken) (i .1 .rejecting-few) (omega (arith, i .1 .rejecting-are .long, s .pre .5)),
+    )
+
+add-i : tie.Need-add-i Inv-loop μ-loop
+add-i c = omega arith
+
+loop-less : tie.Need-loop-less Inv-loop μ-loop
+loop-less c = omega arith
+
+loop-again : tie.Need-loop-again Inv-loop μ-loop
+loop-again c =
+    let p = c .before .before .before .before .before .before .before .before .before .before .before .before .before .before .before .before .before .before .before .before .before .args .p in
+    let sets = c .before .before .before .before .before .before .before .before .before .before .before .before .before .before .before .set-count in
+    let i = c .before .before .before .before .before .before .before .before .before .before .before .loop .inv in
+    let e = c .before .before .before .before .list-set .ensures in
+    (omega arith, listing-next p (i .1) (sets .result) (sets .ensures) (e .0), e .1, e .2, e .0 .roots-same ∙ i .4)
+
+same-length : tie.Need-same-length Inv-loop μ-loop
+same-length c = c .before .loop .inv .1 .accepting-are .long
+
+same-length-2 : tie.Need-same-length-2 Inv-loop μ-loop
+same-length-2 c = c .before .loop .inv .1 .rejecting-are .long
+
+returns : tie.Need-returns Inv-loop μ-loop
+returns c =
+    let s = c .before .before .before .before .before .before .before .before .before .before .before in
+    let p = s .args .p in
+    let at = c .before .loop in
+    let i = at .inv in
+    let sets = c .before .before .before .before .before .set-count in
+    let found = found-is p (c .before .before .fill-cycles .ensures .0) (all-are (c .before .before .before .before .before .before .before)) (i .4) in
+    let last : at .i ≡ sets .result = omega arith in (
+      listing-all p (i .1) (last ∙ sets .ensures),
+      (found-roots p found, omega (arith, found .few, legal-counts p (s .pre .0) .states-few), found .long),
+    )
+
+pub fill-candidates-spec : {M : Type 1} → statement M
+fill-candidates-spec =
+    tie.close
+    (tie.spec
+    Inv-loop
+    μ-loop
+    edges-requires
+    full-requires
+    colours-in-requires
+    set-count-requires
+    fill-cycles-requires
+    loop-holds
+    sub-c
+    sub-c-2
+    cast-c
+    list-set-requires
+    add-i
+    loop-less
+    loop-again
+    same-length
+    same-length-2
+    returns)

@@ -1,0 +1,88 @@
+-- `decomposition::listing::fill_cycles` meets its contract. The invariant: `seen` has the cycles found at the states below v, and they are listed. Assumes nothing.
+use Prim.Native.Nat.{_-_, _≤_}
+use mathlib.Core.Path.{_≡_, sym, _∙_}
+use mathlib.Core.Logic.{⊎-elim}
+use Rattle.policy.proofs.Laws.{legal-counts}
+use Rattle.candidates.specs.Listed.{Finding}
+use Rattle.candidates.proofs.CandidateLaws.{finding-none, finding-open, finding-shut, finding-is, finding-all}
+use native.Mathlib.Omega.{arith}
+use borrow.Author.Needs.{needs}
+use Rattle.candidates.proofs.fill_cycles.Statement.{statement}
+use Rattle.candidates.proofs.fill_cycles.Tie as tie
+
+abbrev Inv-loop : tie.InvT-loop
+Inv-loop p heads m rows cycles₀ states seen₀ n₀ v₀ cycles seen n v = (v ≤ states) × Finding p m cycles₀ cycles seen n v
+
+abbrev μ-loop : tie.MeasureT-loop
+μ-loop p heads m rows cycles₀ states seen₀ n₀ v₀ cycles seen n v = states - v
+
+reach-all-requires : tie.Need-reach-all-requires Inv-loop μ-loop
+reach-all-requires c κs = let s = c .before in (s .pre .0, s .pre .1, s .pre .2)
+
+cast-states : tie.Need-cast-states Inv-loop μ-loop
+cast-states c = search needs
+
+loop-holds : tie.Need-loop-holds Inv-loop μ-loop
+loop-holds c = let s = c .before .before .before in (omega arith, finding-none (s .args .p) (s .pre .0) (s .args .m) (s .args .cycles .now))
+
+is-open-requires : tie.Need-is-open-requires Inv-loop μ-loop
+is-open-requires c κs = (c .before .before .before .before .before .pre .0, c .loop-test .taken)
+
+cycle-through-requires : tie.Need-cycle-through-requires Inv-loop μ-loop
+cycle-through-requires c κs = let s = c .before .before .before .before .before .before .before .before in (s .pre .0, s .pre .1, c .before .before .before .loop-test .taken, c .before .before .before .before .before .before .reach-all .ensures .0)
+
+either-requires : tie.Need-either-requires Inv-loop μ-loop
+either-requires c κs = search needs
+
+append-requires : tie.Need-append-requires Inv-loop μ-loop
+append-requires c κs =
+    let s = c .before .before .before .before .before .before .before .before .before .before .before in
+    let i = c .before .before .before .before .before .before .before .loop .inv .1 in
+    (omega (arith, i .at-most, c .before .before .before .before .before .before .loop-test .taken, legal-counts (s .args .p) (s .pre .0) .states-few), i .found .long ∙ s .pre .3)
+
+add-v : tie.Need-add-v Inv-loop μ-loop
+add-v c = omega arith
+
+loop-less : tie.Need-loop-less Inv-loop μ-loop
+loop-less c = omega arith
+
+loop-again : tie.Need-loop-again Inv-loop μ-loop
+loop-again c =
+    let s = c .before .before .before .before .before .before .before in
+    let p = s .args .p in
+    let at = c .before .before .before .loop in
+    let i = at .inv .1 in
+    let state = c .before .before .loop-test .taken in
+    let opens = c .before .is-open .ensures in (
+      omega arith,
+      ⊎-elim
+          (λ w. finding-is p (s .pre .0) (s .args .m)
+          (finding-open p (s .pre .0) (s .args .m) i state (sym opens ∙ w .0 .taken) (w .2 .result) (w .3 .result) (w .5 .result) (w .2 .ensures) (w .3 .ensures) (w .5 .ensures)) (w .6) (w .7) (w .8))
+          (λ w. finding-is p (s .pre .0) (s .args .m) (finding-shut p (s .pre .0) (s .args .m) i state (sym opens ∙ w .0 .left)) (w .1) (w .2) (w .3))
+          (c .if1 .came),
+    )
+
+returns : tie.Need-returns Inv-loop μ-loop
+returns c =
+    let s = c .before .before .before .before .before in
+    let at = c .before .loop in
+    let last : at .v ≡ s .args .p .states = omega arith in
+    (finding-all (s .args .p) (s .pre .0) (s .args .m) (at .inv .1) last (s .pre .3), c .before .before .before .reach-all .ensures .1)
+
+pub fill-cycles-spec : {M : Type 1} → statement M
+fill-cycles-spec =
+    tie.close
+    (tie.spec
+    Inv-loop
+    μ-loop
+    reach-all-requires
+    cast-states
+    loop-holds
+    is-open-requires
+    cycle-through-requires
+    either-requires
+    append-requires
+    add-v
+    loop-less
+    loop-again
+    returns)

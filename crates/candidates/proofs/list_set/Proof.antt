@@ -1,0 +1,111 @@
+-- `decomposition::listing::list_set` meets its contract. Assumes nothing.
+use mathlib.Core.Path.{sym, ap, _∙_}
+use mathlib.Core.Bool.{Bool, false}
+use mathlib.Core.List.{List}
+use lib.ListN.{take, getD}
+use native.Mathlib.Omega.{arith}
+use Rattle.policy.specs.Policies.{inFamily}
+use Rattle.policy.proofs.Laws.{legal-counts}
+use Rattle.forest.specs.Forest.{full}
+use Rattle.candidates.specs.Candidates.{candidatesOf}
+use Rattle.candidates.proofs.CandidateLaws.{put-none, put-is, candidates-none, candidates-empty, kept-candidates, all-coloured, edges-are}
+use borrow.Author.Needs.{needs}
+use Rattle.candidates.proofs.list_set.Statement.{statement}
+use Rattle.candidates.proofs.list_set.Tie as tie
+
+returns : tie.Need-returns
+returns c =
+    let s = c .before .before .before in
+    let a = s .args in
+    (put-none (inFamily (a .p) (a .c)) (candidatesOf (a .p) (a .c)) (a .accepting .now) (a .rejecting .now) (a .listed) (candidates-empty (a .p) (a .c) (c .if1 .taken)), s .pre .1, s .pre .2)
+
+set-inside-requires : tie.Need-set-inside-requires
+set-inside-requires c κs = search needs
+
+element-copy-out-verdict : tie.Need-element-copy-out-verdict
+element-copy-out-verdict c = search needs
+
+append-judged-requires : tie.Need-append-judged-requires
+append-judged-requires c κs =
+    let s = c .before .before .before .before .before .before .before .before .before in
+    let r = s .pre .0 in
+    (omega (arith, r .rooted .few, legal-counts (s .args .p) (r .lawful) .states-few), r .rooted .long, omega (arith, r .rooted .few, s .pre .3), omega (arith, r .rooted .few, s .pre .4))
+
+same-length : tie.Need-same-length
+same-length c = search needs
+
+same-length-2 : tie.Need-same-length-2
+same-length-2 c = search needs
+
+returns-2 : tie.Need-returns-2
+unfolding inFamily
+returns-2 c =
+    let s = c .before .before .before .before .before .before .before .before .before .before .before .before .before .before in
+    let a = s .args in
+    let r = s .pre .0 in (
+      put-is (c .before .before .before .before .append-judged .ensures) (ap (λ (l : List Bool). getD l (a .c) false) (r .family-is))
+          (kept-candidates (a .p) (r .lawful) (a .by .now) (a .c) (full (a .p)) (take (a .listed .roots) (a .roots .now)) (r .by-is) (all-coloured (a .p) (a .c) (c .before .before .before .before .before .before .before .if3 .taken ∙ r .used-are)) (r .rooted .cycles-are)),
+      s .pre .1,
+      s .pre .2,
+    )
+
+edges-in-requires : tie.Need-edges-in-requires
+edges-in-requires c κs = search needs
+
+fill-cycles-requires : tie.Need-fill-cycles-requires
+fill-cycles-requires c κs = search needs
+
+append-judged-requires-2 : tie.Need-append-judged-requires-2
+append-judged-requires-2 c κs =
+    let s = c .before .before .before .before .before .before .before .before .before .before .before .before .before .before in
+    let found = c .before .before .before .fill-cycles .ensures .0 in
+    (omega (arith, found .few, legal-counts (s .args .p) (s .pre .0 .lawful) .states-few), found .long, omega (arith, found .few, s .pre .3), omega (arith, found .few, s .pre .4))
+
+same-length-3 : tie.Need-same-length-3
+same-length-3 c = search needs
+
+same-length-4 : tie.Need-same-length-4
+same-length-4 c = search needs
+
+returns-3 : tie.Need-returns-3
+unfolding inFamily
+returns-3 c =
+    let s = c .before .before .before .before .before .before .before .before .before .before .before .before .before .before .before .before .before .before .before in
+    let a = s .args in
+    let r = s .pre .0 in
+    let m = c .before .before .before .before .before .before .before .before .before .before .before .edges-in in
+    let cycles = c .before .before .before .before .before .before .before .before .fill-cycles in (
+      put-is (c .before .before .before .before .append-judged2 .ensures) (ap (λ (l : List Bool). getD l (a .c) false) (r .family-is))
+          (kept-candidates (a .p) (r .lawful) (a .by .now) (a .c) (m .result) _ (r .by-is) (edges-are (a .p) (r .lawful) (a .by .now) (a .c) (m .result) (r .by-is) (m .ensures)) (cycles .ensures .0 .cycles-are)),
+      cycles .ensures .1,
+      cycles .ensures .0 .long,
+    )
+
+returns-4 : tie.Need-returns-4
+returns-4 c =
+    let s = c .before .before .before .before .before in
+    let a = s .args in (
+      put-none (inFamily (a .p) (a .c)) (candidatesOf (a .p) (a .c)) (a .accepting .now) (a .rejecting .now) (a .listed)
+          (candidates-none (a .p) (a .c) (a .used) (s .pre .0 .used-are) (sym (c .before .set-inside .ensures) ∙ c .if2 .left)),
+      s .pre .1,
+      s .pre .2,
+    )
+
+pub list-set-spec : {M : Type 1} → statement M
+list-set-spec =
+    tie.close
+    (tie.spec
+    returns
+    set-inside-requires
+    element-copy-out-verdict
+    append-judged-requires
+    same-length
+    same-length-2
+    returns-2
+    edges-in-requires
+    fill-cycles-requires
+    append-judged-requires-2
+    same-length-3
+    same-length-4
+    returns-3
+    returns-4)

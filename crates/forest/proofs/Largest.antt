@@ -1,0 +1,121 @@
+-- The law of `largest`: its members, and that each member of a list lies inside one of its largest; a list that keeps only largest ones,
+-- and one above each member, is the list of the largest in sibling order. Assumes nothing.
+use Prim.Native.Nat.{ℕ, _≤_}
+use native.Mathlib.Omega.{arith}
+use native.Mathlib.Decide.{decLe}
+use mathlib.Core.Path.{_≡_, refl, sym, ap, _∙_}
+use mathlib.Core.Logic.{_⊎_, inl, inr}
+use mathlib.Core.Bool.{Bool, true, false, not, true≢false, false≢true}
+use mathlib.Core.List.{List, [], _∷_, List·Memᴰ, List·Memᴰ·head, List·Memᴰ·tail, List·Memᴰ·cases-cons, Memᴰ·cast}
+use lib.Dec.{eqb}
+use Rattle.lists.specs.Lists.{any, Ascending}
+use Rattle.lists.proofs.Bools.{test, eqb≡, and-l, both, not-true}
+use Rattle.lists.proofs.Lists.{some-any, none-any, none-true, filter-mem, mem-filter, ascending-filter}
+use Rattle.masks.specs.Masks.{inside, properly}
+use Rattle.masks.proofs.Bits.{inside-refl, inside-trans, inside-le, properly-lt}
+use Rattle.forest.specs.Forest.{inOrder, largest}
+use Rattle.forest.specs.Laws.{Ordered}
+use Rattle.forest.proofs.Order.{order-mem, mem-order, order-ordered, ordered-same}
+
+pub largest-mem : (l : List ℕ) (x : ℕ) → List·Memᴰ x (largest l) → List·Memᴰ x l × ((y : ℕ) → List·Memᴰ y l → properly x y ≡ false)
+unfolding largest
+largest-mem l x m =
+    let r = filter-mem (λ (z : ℕ). not (any (properly z) l)) l x m in
+    (r .0, none-any (properly x) l (not-true (any (properly x) l) (r .1)))
+
+pub mem-largest : (l : List ℕ) (x : ℕ) → List·Memᴰ x l → ((y : ℕ) → List·Memᴰ y l → properly x y ≡ false) → List·Memᴰ x (largest l)
+unfolding largest
+mem-largest l x m h = mem-filter (λ (z : ℕ). not (any (properly z) l)) l x m (ap not (none-true (properly x) l h))
+
+pub ascending-largest : (l : List ℕ) → Ascending l → Ascending (largest l)
+unfolding largest
+ascending-largest l a = ascending-filter (λ (x : ℕ). not (any (properly x) l)) l a
+
+-- inside, and not properly: equal
+pub inside-same : (x y : ℕ) → inside x y ≡ true → properly x y ≡ false → x ≡ y
+unfolding properly
+inside-same x y t f = go (test (eqb x y))
+  where
+    go : (eqb x y ≡ true) ⊎ (eqb x y ≡ false) → x ≡ y
+    go (inl e) = eqb≡ x y e
+    go (inr e) = absurd (true≢false (sym (both (inside x y) (not (eqb x y)) t (ap not e)) ∙ f))
+
+-- ---- each member lies inside a largest one
+-- the greatest number of the list that passes the test
+greatest : (p : ℕ → Bool) (l : List ℕ) → any p l ≡ true → (y : ℕ) × List·Memᴰ y l × (p y ≡ true) × ((z : ℕ) → List·Memᴰ z l → p z ≡ true → z ≤ y)
+greatest p [] e = absurd (false≢true e)
+greatest p (x ∷ xs) e = go (test (p x)) (test (any p xs)) (greatest p xs)
+  where
+    Best : List ℕ → Type 0
+    Best l = (y : ℕ) × List·Memᴰ y l × (p y ≡ true) × ((z : ℕ) → List·Memᴰ z l → p z ≡ true → z ≤ y)
+
+    step : (t : p x ≡ true) (r : Best xs) → Dec (x ≤ r .0) → Best (x ∷ xs)
+    step t r (yes h) = (r .0, List·Memᴰ·tail (r .1), r .2, λ z m q. pick z q (List·Memᴰ·cases-cons m))
+      where
+        pick : (z : ℕ) → p z ≡ true → (z ≡ x) ⊎ List·Memᴰ z xs → z ≤ r .0
+        pick z q (inl k) = omega arith
+        pick z q (inr k) = r .3 z k q
+    step t r (no h) = (x, List·Memᴰ·head refl, t, λ z m q. pick z q (List·Memᴰ·cases-cons m))
+      where
+        pick : (z : ℕ) → p z ≡ true → (z ≡ x) ⊎ List·Memᴰ z xs → z ≤ x
+        pick z q (inl k) = omega arith
+        pick z q (inr k) = omega (arith, r .3 z k q)
+
+    go : (p x ≡ true) ⊎ (p x ≡ false) → (any p xs ≡ true) ⊎ (any p xs ≡ false) → (any p xs ≡ true → Best xs) → Best (x ∷ xs)
+    go (inl t) (inl a) ih = step t (ih a) (decLe x (ih a .0))
+    go (inl t) (inr n) ih = (x, List·Memᴰ·head refl, t, λ z m q. pick z q (List·Memᴰ·cases-cons m))
+      where
+        pick : (z : ℕ) → p z ≡ true → (z ≡ x) ⊎ List·Memᴰ z xs → z ≤ x
+        pick z q (inl k) = omega arith
+        pick z q (inr k) = absurd (false≢true (sym (none-any p xs n z k) ∙ q))
+    go (inr f) (inl a) ih = (ih a .0, List·Memᴰ·tail (ih a .1), ih a .2, λ z m q. pick z q (List·Memᴰ·cases-cons m))
+      where
+        pick : (z : ℕ) → p z ≡ true → (z ≡ x) ⊎ List·Memᴰ z xs → z ≤ ih a .0
+        pick z q (inl k) = absurd (false≢true (sym f ∙ ap p (sym k) ∙ q))
+        pick z q (inr k) = ih a .3 z k q
+    go (inr f) (inr n) ih = absurd (false≢true (sym n ∙ (rw f at e)))
+
+pub in-largest : (l : List ℕ) (x : ℕ) → List·Memᴰ x l → (y : ℕ) × List·Memᴰ y (largest l) × (inside x y ≡ true)
+unfolding properly
+in-largest l x m = go (greatest (inside x) l (some-any (inside x) l x m (inside-refl x)))
+  where
+    go : ((y : ℕ) × List·Memᴰ y l × (inside x y ≡ true) × ((z : ℕ) → List·Memᴰ z l → inside x z ≡ true → z ≤ y)) → (y : ℕ) × List·Memᴰ y (largest l) × (inside x y ≡ true)
+    go b = (b .0, mem-largest l (b .0) (b .1) (λ z k. no-more z k (test (properly (b .0) z))), b .2)
+      where
+        no-more : (z : ℕ) → List·Memᴰ z l → (properly (b .0) z ≡ true) ⊎ (properly (b .0) z ≡ false) → properly (b .0) z ≡ false
+        no-more z k (inl t) = absurd (omega (arith, properly-lt (b .0) z t, b .3 z k (inside-trans x (b .0) z (b .2) (and-l (inside (b .0) z) _ t))))
+        no-more z k (inr f) = f
+
+-- ---- the largest in sibling order
+pub largest-order-mem : (l : List ℕ) (x : ℕ) → List·Memᴰ x (inOrder (largest l)) → List·Memᴰ x l × ((y : ℕ) → List·Memᴰ y l → properly x y ≡ false)
+largest-order-mem l x k = largest-mem l x (order-mem (largest l) x k)
+
+pub in-largest-order : (l : List ℕ) (x : ℕ) → List·Memᴰ x l → (y : ℕ) × List·Memᴰ y (inOrder (largest l)) × (inside x y ≡ true)
+in-largest-order l x m = let r = in-largest l x m in (r .0, mem-order (largest l) (r .0) (r .1), r .2)
+
+pub largest-ordered : (l : List ℕ) → Ascending l → Ordered (inOrder (largest l))
+largest-ordered l a = order-ordered (largest l) (ascending-largest l a)
+
+-- what a search for the largest of l keeps: members of l, each member of l inside one of them, none properly inside another
+module _ (l kept : List ℕ) (part : (x : ℕ) → List·Memᴰ x kept → List·Memᴰ x l) (above : (x : ℕ) → List·Memᴰ x l → (y : ℕ) × List·Memᴰ y kept × (inside x y ≡ true))
+    (apart : (x y : ℕ) → List·Memᴰ x kept → List·Memᴰ y kept → properly x y ≡ false) where
+  pub kept-largest : (x : ℕ) → List·Memᴰ x kept → List·Memᴰ x (largest l)
+  unfolding properly
+  kept-largest x k = mem-largest l x (part x k) (λ z m. go z m (test (properly x z)))
+    where
+      go : (z : ℕ) → List·Memᴰ z l → (properly x z ≡ true) ⊎ (properly x z ≡ false) → properly x z ≡ false
+      go z m (inl t) =
+          let y = above z m in
+          let e : x ≡ y .0 = inside-same x (y .0) (inside-trans x z (y .0) (and-l (inside x z) _ t) (y .2)) (apart x (y .0) k (y .1)) in
+          absurd (omega (arith, properly-lt x z t, inside-le z (y .0) (y .2)))
+      go z m (inr f) = f
+
+  pub largest-kept : (x : ℕ) → List·Memᴰ x (largest l) → List·Memᴰ x kept
+  largest-kept x k =
+      let a = largest-mem l x k in
+      let y = above x (a .0) in
+      Memᴰ·cast (inside-same x (y .0) (y .2) (a .1 (y .0) (part (y .0) (y .1)))) (y .1)
+
+  pub kept-is : Ascending l → Ordered kept → kept ≡ inOrder (largest l)
+  kept-is a o =
+      ordered-same kept (inOrder (largest l)) o (largest-ordered l a) (λ x k. mem-order (largest l) x (kept-largest x k)) (λ x k. largest-kept x (order-mem (largest l) x k))

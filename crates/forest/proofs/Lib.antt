@@ -1,0 +1,8 @@
+pub mod Chains
+pub mod Children
+pub mod Forest
+pub mod Largest
+pub mod Numbered
+pub mod Order
+pub mod Planted
+pub mod Priorities

@@ -1,0 +1,4 @@
+pub mod RowLaws
+pub mod RowTables
+pub mod Search
+pub mod Sharing

@@ -1,0 +1,89 @@
+-- `states::fill_states` meets its contract. The invariant: the states over the policy states below v are written. Assumes nothing.
+use Prim.Native.Nat.{_-_}
+use native.Mathlib.Omega.{arith}
+use Rattle.policy.proofs.Laws.{legal-counts}
+use Rattle.states.proofs.StateLaws.{stored-length, Placing, placing-none, placing-more, placing-all}
+use borrow.Author.Needs.{needs}
+use Rattle.states.proofs.fill_states.Statement.{statement}
+use Rattle.states.proofs.fill_states.Tie as tie
+
+abbrev Inv-loop : tie.InvT-loop
+Inv-loop p masks ends count sources₀ leaves₀ starts₀ states at₀ v₀ sources leaves starts at v = Placing p sources₀ leaves₀ sources leaves starts v at
+
+abbrev μ-loop : tie.MeasureT-loop
+μ-loop p masks ends count sources₀ leaves₀ starts₀ states at₀ v₀ sources leaves starts at v = states - v
+
+cast-states : tie.Need-cast-states Inv-loop μ-loop
+cast-states c = search needs
+
+element-write-starts : tie.Need-element-write-starts Inv-loop μ-loop
+element-write-starts c = search needs
+
+loop-holds : tie.Need-loop-holds Inv-loop μ-loop
+loop-holds c = let s = c .before .before .before .before .before in placing-none (s .args .p) (s .args .sources .now) (s .args .leaves .now) (s .args .starts .now) (s .pre .1 .3)
+
+fill-over-requires : tie.Need-fill-over-requires Inv-loop μ-loop
+fill-over-requires c κs =
+    let s = c .before .before .before .before .before .before .before .before in
+    let l = c .before .before .loop in
+    (s .pre .0 .0, s .pre .0 .1, s .pre .0 .2, s .pre .0 .3, c .before .loop-test .taken, omega (arith, l .inv .few, legal-counts (s .args .p) (s .pre .0 .0) .states-few))
+
+fill-sources-requires : tie.Need-fill-sources-requires Inv-loop μ-loop
+fill-sources-requires c κs =
+    let s = c .before .before .before .before .before .before .before .before .before .before .before .before in
+    (omega (arith, c .before .before .before .fill-over .ensures .0 .next-is), omega (arith, legal-counts (s .args .p) (s .pre .0 .0) .states-few))
+
+add-starts : tie.Need-add-starts Inv-loop μ-loop
+add-starts c = let s = c .before .before .before .before .before .before .before .before .before .before .before .before .before .before .before in omega (arith, legal-counts (s .args .p) (s .pre .0 .0) .states-few)
+
+mul-starts : tie.Need-mul-starts Inv-loop μ-loop
+mul-starts c = let s = c .before .before .before .before .before .before .before .before .before .before .before .before .before .before .before in omega (arith, legal-counts (s .args .p) (s .pre .0 .0) .states-few)
+
+element-write-starts-2 : tie.Need-element-write-starts-2 Inv-loop μ-loop
+element-write-starts-2 c = let s = c .before .before .before .before .before .before .before .before .before .before .before .before .before .before .before in omega (arith, legal-counts (s .args .p) (s .pre .0 .0) .states-few)
+
+add-v : tie.Need-add-v Inv-loop μ-loop
+add-v c = let s = c .before .before .before .before .before .before .before .before .before .before .before .before .before .before .before in omega (arith, legal-counts (s .args .p) (s .pre .0 .0) .states-few)
+
+loop-less : tie.Need-loop-less Inv-loop μ-loop
+loop-less c = omega arith
+
+loop-again : tie.Need-loop-again Inv-loop μ-loop
+loop-again c =
+    let l = c .before .before .before .before .before .before .before .before .before .loop in
+    let s = c .before .before .before .before .before .before .before .before .before .before .before .before .before .before .before in
+    let o = c .before .before .before .before .before .before .fill-over in
+    placing-more (s .args .p) (s .args .sources .now) (s .args .leaves .now) (l .sources) (l .leaves) (l .starts) (l .v) (l .at) (l .inv) (c .before .before .before .before .before .before .before .before .loop-test .taken) (legal-counts (s .args .p) (s .pre .0 .0) .states-few) _ _ (o .result) (o .ensures .0) (o .ensures .1) (c .before .before .fill-sources .ensures)
+
+same-length : tie.Need-same-length Inv-loop μ-loop
+same-length c = stored-length (c .before .loop .inv .sources-are)
+
+same-length-2 : tie.Need-same-length-2 Inv-loop μ-loop
+same-length-2 c = stored-length (c .before .loop .inv .leaves-are)
+
+returns : tie.Need-returns Inv-loop μ-loop
+returns c =
+    let l = c .before .loop in
+    let s = c .before .before .before .before .before .before .before in
+    placing-all (s .args .p) (s .args .sources .now) (s .args .leaves .now) (l .sources) (l .leaves) (l .starts) (l .v) (l .at) (l .inv) (c .loop-test .left) (s .pre .1 .0) (s .pre .1 .1) (s .pre .1 .2)
+
+pub fill-states-spec : {M : Type 1} → statement M
+fill-states-spec =
+    tie.close
+    (tie.spec
+    Inv-loop
+    μ-loop
+    cast-states
+    element-write-starts
+    loop-holds
+    fill-over-requires
+    fill-sources-requires
+    add-starts
+    mul-starts
+    element-write-starts-2
+    add-v
+    loop-less
+    loop-again
+    same-length
+    same-length-2
+    returns)

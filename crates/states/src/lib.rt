@@ -1,0 +1,162 @@
+// The built states: for each policy state its leaves by number, or 65,535 where it is in no cycle.
+use policy::Policy;
+ghost use mathlib.Core.Path.{_≡_};
+ghost use mathlib.Core.Bool.{true};
+ghost use Prim.Native.Nat.{_+_, _-_, _≤_, _<_};
+ghost use lib.ListN.{length, set, replicate};
+ghost use lib.Seq.{sets};
+ghost use Rattle.tables.specs.Tables.{zeros};
+ghost use Rattle.policy.specs.Policies.{legal};
+ghost use Rattle.graph.specs.Cycles.{contains};
+ghost use Rattle.forest.specs.Forest.{forest};
+ghost use Rattle.automaton.specs.Automaton.{isLeaf, built, start};
+ghost use Rattle.automaton.specs.Stages.{Ends, Starts};
+ghost use Rattle.states.specs.Placing.{MaskColumn, leavesBelow, leavesOver, Stored, Filled};
+
+// Whether an edge of m leaves state v. The edges that leave v stand side by side.
+pub fn contains_state(p: Policy, v: usize, m: u64) -> bool
+    requires { ⌜ (legal p ≡ true) × (v < p .states) ⌝ }
+    ensures { λ r. ⌜ r ≡ contains p v m ⌝ }
+{
+    let letters = p.letters as usize;
+    let first = v * letters;
+    masks::both(m >> first, masks::full(letters)) != 0
+}
+
+// Whether node n is a leaf of state v: it contains v, and no child of it does. The first child of n is n + 1, and the next one stands where the
+// descendants of the one before end.
+pub fn is_leaf(p: Policy, masks: &[u64], ends: &[u16], v: usize, n: usize) -> bool
+    requires { ⌜ (legal p ≡ true) × MaskColumn p (now masks) × Ends p (now ends) × (v < p .states) × (n < length (forest p)) ⌝ }
+    ensures { λ r. ⌜ r ≡ isLeaf (forest p) p v n ⌝ }
+{
+    if !contains_state(p, v, masks[n]) {
+        return false;
+    }
+    let end = ends[n] as usize;
+    let mut j = n + 1;
+    while j < end {
+        if contains_state(p, v, masks[j]) {
+            return false;
+        }
+        j = ends[j] as usize;
+    }
+    true
+}
+
+// x in its place, if the table has it.
+fn put_leaf(t: &mut [u16], at: usize, x: usize)
+    requires { ⌜ x < 65536 ⌝ }
+    ensures { λ _. ⌜ now (t .exit) ≡ set (now (t .entry)) at x ⌝ }
+{
+    if at < t.len() {
+        t[at] = x as u16;
+    }
+}
+
+// The same in the table of policy states.
+fn put_source(t: &mut [u8], at: usize, x: usize)
+    requires { ⌜ x < 256 ⌝ }
+    ensures { λ _. ⌜ now (t .exit) ≡ set (now (t .entry)) at x ⌝ }
+{
+    if at < t.len() {
+        t[at] = x as u8;
+    }
+}
+
+// The leaves of v, from `at` on; the place after them. There are at most 16 times 65,536 built states, so a place never overflows; those past the end
+// of the table are counted, and not written.
+fn fill_leaves(
+    p: Policy,
+    masks: &[u64],
+    ends: &[u16],
+    count: usize,
+    v: usize,
+    at: usize,
+    leaves: &mut [u16],
+) -> usize
+    requires { ⌜ (legal p ≡ true) × MaskColumn p (now masks) × Ends p (now ends) × (count ≡ length (forest p)) × (v < p .states) × (at ≤ 1048576) ⌝ }
+    ensures { λ r. ⌜ Stored (now (leaves .entry)) (now (leaves .exit)) at r (leavesBelow p v count) × (r ≤ at + 65535) ⌝ }
+{
+    let mut next = at;
+    for n in 0..count {
+        if is_leaf(p, masks, ends, v, n) {
+            put_leaf(leaves, next, n);
+            next = next + 1;
+        }
+    }
+    next
+}
+
+// The leaves of the states over v: 65,535 alone where v is in no cycle.
+fn fill_over(
+    p: Policy,
+    masks: &[u64],
+    ends: &[u16],
+    count: usize,
+    v: usize,
+    at: usize,
+    leaves: &mut [u16],
+) -> usize
+    requires { ⌜ (legal p ≡ true) × MaskColumn p (now masks) × Ends p (now ends) × (count ≡ length (forest p)) × (v < p .states) × (at ≤ 1048576) ⌝ }
+    ensures { λ r. ⌜ Stored (now (leaves .entry)) (now (leaves .exit)) at r (leavesOver p v) × (r ≤ at + 65536) ⌝ }
+{
+    let next = fill_leaves(p, masks, ends, count, v, at, leaves);
+    if next == at {
+        put_leaf(leaves, at, 65535);
+        return at + 1;
+    }
+    next
+}
+
+// Policy state v, from `from` up to `to`.
+fn fill_sources(sources: &mut [u8], from: usize, to: usize, v: usize)
+    requires { ⌜ (from ≤ to) × (v < 256) ⌝ }
+    ensures { λ _. ⌜ now (sources .exit) ≡ sets (now (sources .entry)) from (replicate (to - from) v) ⌝ }
+{
+    for i in from..to {
+        put_source(sources, i, v);
+    }
+}
+
+// Whether the built states fit, and how many there are.
+pub struct Placed {
+    pub fits: bool,
+    pub count: usize,
+}
+
+// The built states by policy state and then by leaf. Where those over each policy state begin is kept in `starts`; the last start is the end of all.
+pub fn fill_states(
+    p: Policy,
+    masks: &[u64],
+    ends: &[u16],
+    count: usize,
+    sources: &mut [u8],
+    leaves: &mut [u16],
+    starts: &mut [usize; 17],
+) -> Placed
+    requires nodes { ⌜ (legal p ≡ true) × MaskColumn p (now masks) × Ends p (now ends) × (count ≡ length (forest p)) ⌝ }
+    requires tables { ⌜ (length (now sources) ≡ length (now leaves)) × (now sources ≡ zeros (now sources)) × (now leaves ≡ zeros (now leaves)) × (length (now starts) ≡ 17) ⌝ }
+    ensures { λ r. ⌜ Filled p (now (sources .entry)) (now (leaves .entry)) (now (sources .exit)) (now (leaves .exit)) (r .fits) (r .count) (now (starts .exit)) ⌝ }
+{
+    let states = p.states as usize;
+    starts[0] = 0;
+    let mut at: usize = 0;
+    for v in 0..states {
+        let next = fill_over(p, masks, ends, count, v, at, leaves);
+        fill_sources(sources, at, next, v);
+        starts[v + 1] = next;
+        at = next;
+    }
+    Placed {
+        fits: (at <= sources.len()) & (at <= 65535),
+        count: at,
+    }
+}
+
+// The start: the first state over the initial one.
+pub fn start_of(p: Policy, starts: &[usize; 17]) -> u16
+    requires { ⌜ (legal p ≡ true) × Starts p (now starts) × (length (built p) ≤ 65535) ⌝ }
+    ensures { λ r. ⌜ r ≡ start p ⌝ }
+{
+    starts[p.initial as usize] as u16
+}

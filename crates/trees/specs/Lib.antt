@@ -1,0 +1,4 @@
+pub mod Growing
+pub mod Search
+pub mod Stores
+pub mod Subtrees
