@@ -19,14 +19,14 @@ unfoldable pub firstOver : Policy → ℕ → ℕ
 firstOver p v = length (filter (λ (b : Built). ltb (b .state) v) (built p))
 
 -- the node tables begin with the forest
-pub record Nodes (p : Policy) (masks parents ranks : List ℕ) : Type 0 where
+pub record Nodes (p : Policy) (masks parents node-priorities : List ℕ) : Type 0 where
   pub few : length (forest p) ≤ 65535
   pub masks-long : length (forest p) ≤ length masks
   pub parents-long : length (forest p) ≤ length parents
-  pub ranks-long : length (forest p) ≤ length ranks
+  pub node-priorities-long : length (forest p) ≤ length node-priorities
   pub masks-are : (n : ℕ) → n < length (forest p) → getD masks n 0 ≡ node (forest p) n .mask
   pub parents-are : (n : ℕ) → n < length (forest p) → getD parents n 0 ≡ node (forest p) n .parent
-  pub ranks-are : (n : ℕ) → n < length (forest p) → getD ranks n 0 ≡ priority p (node (forest p) n)
+  pub node-priorities-are : (n : ℕ) → n < length (forest p) → getD node-priorities n 0 ≡ priority p (node (forest p) n)
 
 -- a table that begins with the ends of the nodes
 pub record Ends (p : Policy) (ends : List ℕ) : Type 0 where

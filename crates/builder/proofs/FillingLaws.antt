@@ -17,8 +17,8 @@ use Rattle.decomposition.specs.declared.nodes.Filled as node-filled
 use Rattle.decomposition.specs.declared.nodes.Filled.the-variants as node-variants
 use Rattle.forest.specs.Forest.{Node, forest, priority}
 use Rattle.decomposition.specs.NodeTables.{NodeTables, nodeTables, nodesFit, fillingOf, filledOf}
-use Rattle.forest.specs.Forest.{nodeMasks, nodeParents, nodeRanks}
-use Rattle.decomposition.proofs.NodeColumns.{masks-at, parents-at, ranks-at}
+use Rattle.forest.specs.Forest.{nodeMasks, nodeParents, nodePriorities}
+use Rattle.decomposition.proofs.NodeColumns.{masks-at, parents-at, node-priorities-at}
 use Rattle.builder.specs.declared.translating.Building.{Building}
 use Rattle.builder.specs.declared.translating.Building.the-variants.{Whole, TooMany}
 use Rattle.automaton.specs.Automaton.{Built, built, stateAt, start, rowTargets, rowPriorities}
@@ -71,7 +71,7 @@ times-is n k m h = bool-ext (eqb (n % k) 0 && eqb (n / k) m) (eqb n (k * m)) the
         both (eqb (n % k) 0) (eqb (n / k) m) (≡eqb (n % k) 0 (ap (λ (x : ℕ). x % k) e ∙ digits-mod m {m = k} {r = 0} h)) (≡eqb (n / k) m (ap (λ (x : ℕ). x / k) e ∙ digits-div m {m = k} {r = 0} h))
 
 -- ---- columns of the node tables
-pub mask-column : {p : Policy} {masks parents ranks : List ℕ} → Nodes p masks parents ranks → MaskColumn p masks
+pub mask-column : {p : Policy} {masks parents node-priorities : List ℕ} → Nodes p masks parents node-priorities → MaskColumn p masks
 mask-column n = record { few = n .few; long = n .masks-long; are = n .masks-are }
 
 -- ---- the tables of states and rows
@@ -211,20 +211,20 @@ module _ (p : Policy) (m₀ q₀ r₀ : List ℕ) {r : node-filled.Filled} (e : 
 
 -- ---- the node tables
 module _ (p : Policy) (m₀ q₀ r₀ m q r : List ℕ) (e : nodeTables m q r ≡ filledOf p (nodeTables m₀ q₀ r₀)) where
-  pub nodes-filled : nodesFit p (nodeTables m₀ q₀ r₀) ≡ true → (m ≡ padded (length m₀) (nodeMasks p)) × (q ≡ padded (length q₀) (nodeParents p)) × (r ≡ padded (length r₀) (nodeRanks p))
+  pub nodes-filled : nodesFit p (nodeTables m₀ q₀ r₀) ≡ true → (m ≡ padded (length m₀) (nodeMasks p)) × (q ≡ padded (length q₀) (nodeParents p)) × (r ≡ padded (length r₀) (nodePriorities p))
   unfolding filledOf
   nodes-filled t =
-      let d : nodeTables m q r ≡ nodeTables (padded (length m₀) (nodeMasks p)) (padded (length q₀) (nodeParents p)) (padded (length r₀) (nodeRanks p)) = e ∙ rw t refl in
-      (ap (λ (x : NodeTables). x .masks) d, ap (λ (x : NodeTables). x .parents) d, ap (λ (x : NodeTables). x .ranks) d)
+      let d : nodeTables m q r ≡ nodeTables (padded (length m₀) (nodeMasks p)) (padded (length q₀) (nodeParents p)) (padded (length r₀) (nodePriorities p)) = e ∙ rw t refl in
+      (ap (λ (x : NodeTables). x .masks) d, ap (λ (x : NodeTables). x .parents) d, ap (λ (x : NodeTables). x .node-priorities) d)
 
   pub nodes-cleared : nodesFit p (nodeTables m₀ q₀ r₀) ≡ false → (m ≡ zeros m₀) × (q ≡ zeros q₀) × (r ≡ zeros r₀)
   unfolding filledOf
   nodes-cleared f =
       let d : nodeTables m q r ≡ nodeTables (zeros m₀) (zeros q₀) (zeros r₀) = e ∙ rw f refl in
-      (ap (λ (x : NodeTables). x .masks) d, ap (λ (x : NodeTables). x .parents) d, ap (λ (x : NodeTables). x .ranks) d)
+      (ap (λ (x : NodeTables). x .masks) d, ap (λ (x : NodeTables). x .parents) d, ap (λ (x : NodeTables). x .node-priorities) d)
 
-  long : (length (nodeMasks p) ≡ length (forest p)) × (length (nodeParents p) ≡ length (forest p)) × (length (nodeRanks p) ≡ length (forest p))
-  unfolding nodeMasks nodeParents nodeRanks
+  long : (length (nodeMasks p) ≡ length (forest p)) × (length (nodeParents p) ≡ length (forest p)) × (length (nodePriorities p) ≡ length (forest p))
+  unfolding nodeMasks nodeParents nodePriorities
   long = (length-map (forest p) (λ (x : Node). x .mask), length-map (forest p) (λ (x : Node). x .parent), length-map (forest p) (priority p))
 
   pub nodes-are : nodesFit p (nodeTables m₀ q₀ r₀) ≡ true → length q₀ ≡ length m₀ → length r₀ ≡ length m₀ → length m ≡ length m₀ → length q ≡ length q₀ → length r ≡ length r₀ → Nodes p m q r
@@ -233,14 +233,14 @@ module _ (p : Policy) (m₀ q₀ r₀ m q r : List ℕ) (e : nodeTables m q r �
     few = omega (arith, few);
     masks-long = omega (arith, few, km);
     parents-long = omega (arith, few, kq);
-    ranks-long = omega (arith, few, kr);
+    node-priorities-long = omega (arith, few, kr);
     masks-are = λ n h. ap (λ (l : List ℕ). getD l n 0) (f .0) ∙ getD-padded (length m₀) (nodeMasks p) n (omega (arith, long .0)) ∙ masks-at p n h;
     parents-are = λ n h. ap (λ (l : List ℕ). getD l n 0) (f .1) ∙ getD-padded (length q₀) (nodeParents p) n (omega (arith, long .1)) ∙ parents-at p n h;
-    ranks-are = λ n h. ap (λ (l : List ℕ). getD l n 0) (f .2) ∙ getD-padded (length r₀) (nodeRanks p) n (omega (arith, long .2)) ∙ ranks-at p n h;
+    node-priorities-are = λ n h. ap (λ (l : List ℕ). getD l n 0) (f .2) ∙ getD-padded (length r₀) (nodePriorities p) n (omega (arith, long .2)) ∙ node-priorities-at p n h;
   }
     where
       few : length (forest p) ≤ min (length m₀) 65535
       few = le-true (length (forest p)) (min (length m₀) 65535) t
 
-      f : (m ≡ padded (length m₀) (nodeMasks p)) × (q ≡ padded (length q₀) (nodeParents p)) × (r ≡ padded (length r₀) (nodeRanks p))
+      f : (m ≡ padded (length m₀) (nodeMasks p)) × (q ≡ padded (length q₀) (nodeParents p)) × (r ≡ padded (length r₀) (nodePriorities p))
       f = nodes-filled t

@@ -12,7 +12,7 @@ use Rattle.policy.specs.Policies.{legal}
 use Rattle.forest.specs.Forest.{forest}
 use Rattle.decomposition.specs.NodeTables as node-tables
 use Rattle.decomposition.specs.NodeTables.{nodeTables, filledOf}
-use Rattle.forest.specs.Forest.{nodeMasks, nodeParents, nodeRanks}
+use Rattle.forest.specs.Forest.{nodeMasks, nodeParents, nodePriorities}
 use Rattle.builder.specs.declared.Translation.{Translation}
 use Rattle.builder.specs.declared.Translation.the-variants.{Translated, Refused}
 use Rattle.automaton.specs.Automaton.{built, start}
@@ -91,7 +91,7 @@ module _ (p : Policy) (m₀ q₀ r₀ s₀ l₀ t₀ k₀ : List ℕ) where
   done = Translated (length (forest p)) (length (built p)) (start p)
 
   same : Hold entry m₀ q₀ r₀ s₀ l₀ t₀ k₀
-  same = record { masks-are = refl; parents-are = refl; ranks-are = refl; sources-are = refl; leaves-are = refl; targets-are = refl; priorities-are = refl }
+  same = record { masks-are = refl; parents-are = refl; node-priorities-are = refl; sources-are = refl; leaves-are = refl; targets-are = refl; priorities-are = refl }
 
   -- 7 and 8 leave the tables as they were
   pub refused-seven : legal p ≡ false → Ends (Refused 7) m₀ q₀ r₀ s₀ l₀ t₀ k₀
@@ -107,13 +107,13 @@ module _ (p : Policy) (m₀ q₀ r₀ s₀ l₀ t₀ k₀ : List ℕ) where
       (n .0, subst (λ (x : Tables). Hold x m₀ q₀ r₀ s₀ l₀ t₀ k₀) (n .1) same)
 
   module _ (t : legal p ≡ true) (h : lengthsFit p entry ≡ true) (m q r s l w k : List ℕ) where
-    held-filled : (m ≡ padded (length m₀) (nodeMasks p)) × (q ≡ padded (length q₀) (nodeParents p)) × (r ≡ padded (length r₀) (nodeRanks p)) → builtFit p s₀ ≡ true → BuiltTables p s₀ l₀ t₀ k₀ s l w k
+    held-filled : (m ≡ padded (length m₀) (nodeMasks p)) × (q ≡ padded (length q₀) (nodeParents p)) × (r ≡ padded (length r₀) (nodePriorities p)) → builtFit p s₀ ≡ true → BuiltTables p s₀ l₀ t₀ k₀ s l w k
         → Hold (filled p entry) m q r s l w k
     unfolding filled
     held-filled n f b = record {
       masks-are = n .0;
       parents-are = n .1;
-      ranks-are = n .2;
+      node-priorities-are = n .2;
       sources-are = rw f at (b .sources-are);
       leaves-are = rw f at (b .leaves-are);
       targets-are = rw f at (b .targets-are);
@@ -122,7 +122,7 @@ module _ (p : Policy) (m₀ q₀ r₀ s₀ l₀ t₀ k₀ : List ℕ) where
 
     held-cleared : (m ≡ zeros m₀) × (q ≡ zeros q₀) × (r ≡ zeros r₀) → (s ≡ zeros s₀) × (l ≡ zeros l₀) × (w ≡ zeros t₀) × (k ≡ zeros k₀) → Hold (cleared p entry) m q r s l w k
     unfolding cleared
-    held-cleared n b = record { masks-are = n .0; parents-are = n .1; ranks-are = n .2; sources-are = b .0; leaves-are = b .1; targets-are = b .2; priorities-are = b .3 }
+    held-cleared n b = record { masks-are = n .0; parents-are = n .1; node-priorities-are = n .2; sources-are = b .0; leaves-are = b .1; targets-are = b .2; priorities-are = b .3 }
 
     built-zero : builtFit p s₀ ≡ false → BuiltTables p s₀ l₀ t₀ k₀ s l w k → (s ≡ zeros s₀) × (l ≡ zeros l₀) × (w ≡ zeros t₀) × (k ≡ zeros k₀)
     built-zero g b = (rw g at (b .sources-are), rw g at (b .leaves-are), rw g at (b .targets-are), rw g at (b .priorities-are))

@@ -11,7 +11,7 @@ use Rattle.policy.specs.declared.Policy.{Policy}
 use Rattle.policy.specs.Policies.{legal}
 use Rattle.forest.specs.Forest.{forest}
 use Rattle.decomposition.specs.NodeTables.{nodeTables}
-use Rattle.forest.specs.Forest.{nodeMasks, nodeParents, nodeRanks}
+use Rattle.forest.specs.Forest.{nodeMasks, nodeParents, nodePriorities}
 use Rattle.decomposition.specs.NodeTables as node-tables
 use Rattle.automaton.specs.Automaton.{places, stateSources, stateLeaves, Built, built, start, rowTargets, rowPriorities}
 use Rattle.builder.specs.declared.Translation.{Translation}
@@ -21,7 +21,7 @@ use Rattle.builder.specs.declared.Translation.the-variants.{Translated, 
 pub record Tables : Type 0 where
   pub masks : List ℕ
   pub parents : List ℕ
-  pub ranks : List ℕ
+  pub node-priorities : List ℕ
   pub sources : List ℕ
   pub leaves : List ℕ
   pub targets : List ℕ
@@ -45,12 +45,12 @@ module _ (p : Policy) where
     -- question 8: the node tables of one length, the state tables of one length, each row table letters times the latter
     unfoldable pub lengthsFit : Bool
     lengthsFit =
-        eqb (length (t .masks)) (length (t .parents)) && eqb (length (t .masks)) (length (t .ranks)) && eqb (length (t .sources)) (length (t .leaves))
+        eqb (length (t .masks)) (length (t .parents)) && eqb (length (t .masks)) (length (t .node-priorities)) && eqb (length (t .sources)) (length (t .leaves))
         && eqb (length (t .targets)) (p .letters * length (t .sources)) && eqb (length (t .priorities)) (p .letters * length (t .sources))
 
     -- questions 9 and 10
     unfoldable pub nodesFit : Bool
-    nodesFit = node-tables.nodesFit p (nodeTables (t .masks) (t .parents) (t .ranks))
+    nodesFit = node-tables.nodesFit p (nodeTables (t .masks) (t .parents) (t .node-priorities))
 
     unfoldable pub statesFit : Bool
     statesFit = leb (length (built p)) (places (t .sources))
@@ -60,7 +60,7 @@ module _ (p : Policy) where
     filled = record {
       masks = padded (length (t .masks)) (nodeMasks p);
       parents = padded (length (t .parents)) (nodeParents p);
-      ranks = padded (length (t .ranks)) (nodeRanks p);
+      node-priorities = padded (length (t .node-priorities)) (nodePriorities p);
       sources = padded (length (t .sources)) (stateSources p);
       leaves = padded (length (t .leaves)) (stateLeaves p);
       targets = padded (length (t .targets)) (rowTargets p);
@@ -71,7 +71,7 @@ module _ (p : Policy) where
     cleared = record {
       masks = zeros (t .masks);
       parents = zeros (t .parents);
-      ranks = zeros (t .ranks);
+      node-priorities = zeros (t .node-priorities);
       sources = zeros (t .sources);
       leaves = zeros (t .leaves);
       targets = zeros (t .targets);
@@ -90,20 +90,20 @@ module _ (p : Policy) where
     tablesAfter = let sized = cond (nodesFit && statesFit) filled cleared in cond (legal p && lengthsFit) sized t
 
 -- what each of seven lists is, table by table
-pub record Hold (t : Tables) (masks parents ranks sources leaves targets priorities : List ℕ) : Type 0 where
+pub record Hold (t : Tables) (masks parents node-priorities sources leaves targets priorities : List ℕ) : Type 0 where
   pub masks-are : masks ≡ t .masks
   pub parents-are : parents ≡ t .parents
-  pub ranks-are : ranks ≡ t .ranks
+  pub node-priorities-are : node-priorities ≡ t .node-priorities
   pub sources-are : sources ≡ t .sources
   pub leaves-are : leaves ≡ t .leaves
   pub targets-are : targets ≡ t .targets
   pub priorities-are : priorities ≡ t .priorities
 
 abbrev pub tables : List ℕ → List ℕ → List ℕ → List ℕ → List ℕ → List ℕ → List ℕ → Tables
-tables masks parents ranks sources leaves targets priorities = record {
+tables masks parents node-priorities sources leaves targets priorities = record {
   masks = masks;
   parents = parents;
-  ranks = ranks;
+  node-priorities = node-priorities;
   sources = sources;
   leaves = leaves;
   targets = targets;

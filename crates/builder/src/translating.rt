@@ -21,7 +21,7 @@ pub fn fill_rows(
     heads: &[u8; 64],
     masks: &[u64],
     parents: &[u16],
-    ranks: &[u8],
+    node_priorities: &[u8],
     ends: &[u16],
     sources: &[u8],
     leaves: &[u16],
@@ -30,7 +30,7 @@ pub fn fill_rows(
     targets: &mut [u16],
     priorities: &mut [u8],
 )
-    requires nodes { ⌜ (legal p ≡ true) × (now heads ≡ p .target) × Nodes p (now masks) (now parents) (now ranks) × Ends p (now ends) ⌝ }
+    requires nodes { ⌜ (legal p ≡ true) × (now heads ≡ p .target) × Nodes p (now masks) (now parents) (now «node_priorities») × Ends p (now ends) ⌝ }
     requires states { ⌜ States p (now sources) (now leaves) × Starts p (now starts) × (count ≡ length (built p)) ⌝ }
     requires cleared { ⌜ (now targets ≡ zeros (now targets)) × (now priorities ≡ zeros (now priorities)) × (p .letters * length (built p) ≤ length (now targets)) × (p .letters * length (built p) ≤ length (now priorities)) ⌝ }
     ensures { λ _. ⌜ (now (targets .exit) ≡ padded (length (now (targets .entry))) (rowTargets p)) × (now (priorities .exit) ≡ padded (length (now (priorities .entry))) (rowPriorities p)) ⌝ }
@@ -44,7 +44,7 @@ pub fn fill_rows(
                 heads,
                 masks,
                 parents,
-                ranks,
+                node_priorities,
                 ends,
                 leaves,
                 starts,
@@ -79,7 +79,7 @@ fn fill_built(
     heads: &[u8; 64],
     masks: &[u64],
     parents: &[u16],
-    ranks: &[u8],
+    node_priorities: &[u8],
     ends: &[u16],
     count: usize,
     sources: &mut [u8],
@@ -87,7 +87,7 @@ fn fill_built(
     targets: &mut [u16],
     priorities: &mut [u8],
 ) -> Building
-    requires nodes { ⌜ (legal p ≡ true) × (now heads ≡ p .target) × Nodes p (now masks) (now parents) (now ranks) × Ends p (now ends) × (count ≡ length (forest p)) ⌝ }
+    requires nodes { ⌜ (legal p ≡ true) × (now heads ≡ p .target) × Nodes p (now masks) (now parents) (now «node_priorities») × Ends p (now ends) × (count ≡ length (forest p)) ⌝ }
     requires room { ⌜ Sized p (now sources) (now leaves) (now targets) (now priorities) × Clear (now sources) (now leaves) (now targets) (now priorities) ⌝ }
     ensures answer { λ r. ⌜ r ≡ buildingOf p (now (sources .entry)) ⌝ }
     ensures written { λ _. ⌜ BuiltTables p (now (sources .entry)) (now (leaves .entry)) (now (targets .entry)) (now (priorities .entry)) (now (sources .exit)) (now (leaves .exit)) (now (targets .exit)) (now (priorities .exit)) ⌝ }
@@ -104,7 +104,7 @@ fn fill_built(
         heads,
         masks,
         parents,
-        ranks,
+        node_priorities,
         ends,
         sources,
         leaves,
@@ -122,7 +122,7 @@ fn build_with(
     heads: &[u8; 64],
     masks: &[u64],
     parents: &[u16],
-    ranks: &[u8],
+    node_priorities: &[u8],
     ends: &mut [u16],
     count: usize,
     sources: &mut [u8],
@@ -130,7 +130,7 @@ fn build_with(
     targets: &mut [u16],
     priorities: &mut [u8],
 ) -> Building
-    requires { ⌜ (legal p ≡ true) × (now heads ≡ p .target) × Nodes p (now masks) (now parents) (now ranks) × (count ≡ length (forest p)) × Sized p (now sources) (now leaves) (now targets) (now priorities) × (count ≤ length (now ends)) ⌝ }
+    requires { ⌜ (legal p ≡ true) × (now heads ≡ p .target) × Nodes p (now masks) (now parents) (now «node_priorities») × (count ≡ length (forest p)) × Sized p (now sources) (now leaves) (now targets) (now priorities) × (count ≤ length (now ends)) ⌝ }
     ensures answer { λ r. ⌜ r ≡ buildingOf p (now (sources .entry)) ⌝ }
     ensures written { λ _. ⌜ BuiltTables p (now (sources .entry)) (now (leaves .entry)) (now (targets .entry)) (now (priorities .entry)) (now (sources .exit)) (now (leaves .exit)) (now (targets .exit)) (now (priorities .exit)) ⌝ }
 {
@@ -141,7 +141,7 @@ fn build_with(
         heads,
         masks,
         parents,
-        ranks,
+        node_priorities,
         ends,
         count,
         sources,
@@ -158,7 +158,7 @@ fn build_within(
     heads: &[u8; 64],
     masks: &[u64],
     parents: &[u16],
-    ranks: &[u8],
+    node_priorities: &[u8],
     ends: &mut [u16],
     count: usize,
     sources: &mut [u8],
@@ -166,7 +166,7 @@ fn build_within(
     targets: &mut [u16],
     priorities: &mut [u8],
 ) -> Building
-    requires { ⌜ (legal p ≡ true) × (now heads ≡ p .target) × Nodes p (now masks) (now parents) (now ranks) × (count ≡ length (forest p)) × Sized p (now sources) (now leaves) (now targets) (now priorities) ⌝ }
+    requires { ⌜ (legal p ≡ true) × (now heads ≡ p .target) × Nodes p (now masks) (now parents) (now «node_priorities») × (count ≡ length (forest p)) × Sized p (now sources) (now leaves) (now targets) (now priorities) ⌝ }
     ensures answer { λ r. ⌜ r ≡ buildingOf p (now (sources .entry)) ⌝ }
     ensures written { λ _. ⌜ BuiltTables p (now (sources .entry)) (now (leaves .entry)) (now (targets .entry)) (now (priorities .entry)) (now (sources .exit)) (now (leaves .exit)) (now (targets .exit)) (now (priorities .exit)) ⌝ }
 {
@@ -176,7 +176,7 @@ fn build_within(
             heads,
             masks,
             parents,
-            ranks,
+            node_priorities,
             ends,
             count,
             sources,
@@ -192,7 +192,7 @@ fn build_within(
             heads,
             masks,
             parents,
-            ranks,
+            node_priorities,
             &mut more,
             count,
             sources,
@@ -206,7 +206,7 @@ fn build_within(
         heads,
         masks,
         parents,
-        ranks,
+        node_priorities,
         count,
         sources,
         leaves,
@@ -221,14 +221,14 @@ fn build_large(
     heads: &[u8; 64],
     masks: &[u64],
     parents: &[u16],
-    ranks: &[u8],
+    node_priorities: &[u8],
     count: usize,
     sources: &mut [u8],
     leaves: &mut [u16],
     targets: &mut [u16],
     priorities: &mut [u8],
 ) -> Building
-    requires { ⌜ (legal p ≡ true) × (now heads ≡ p .target) × Nodes p (now masks) (now parents) (now ranks) × (count ≡ length (forest p)) × Sized p (now sources) (now leaves) (now targets) (now priorities) ⌝ }
+    requires { ⌜ (legal p ≡ true) × (now heads ≡ p .target) × Nodes p (now masks) (now parents) (now «node_priorities») × (count ≡ length (forest p)) × Sized p (now sources) (now leaves) (now targets) (now priorities) ⌝ }
     ensures answer { λ r. ⌜ r ≡ buildingOf p (now (sources .entry)) ⌝ }
     ensures written { λ _. ⌜ BuiltTables p (now (sources .entry)) (now (leaves .entry)) (now (targets .entry)) (now (priorities .entry)) (now (sources .exit)) (now (leaves .exit)) (now (targets .exit)) (now (priorities .exit)) ⌝ }
 {
@@ -238,7 +238,7 @@ fn build_large(
         heads,
         masks,
         parents,
-        ranks,
+        node_priorities,
         &mut ends,
         count,
         sources,
@@ -254,14 +254,14 @@ pub fn build(
     heads: &[u8; 64],
     masks: &[u64],
     parents: &[u16],
-    ranks: &[u8],
+    node_priorities: &[u8],
     count: usize,
     sources: &mut [u8],
     leaves: &mut [u16],
     targets: &mut [u16],
     priorities: &mut [u8],
 ) -> Building
-    requires { ⌜ (legal p ≡ true) × (now heads ≡ p .target) × Nodes p (now masks) (now parents) (now ranks) × (count ≡ length (forest p)) × Sized p (now sources) (now leaves) (now targets) (now priorities) ⌝ }
+    requires { ⌜ (legal p ≡ true) × (now heads ≡ p .target) × Nodes p (now masks) (now parents) (now «node_priorities») × (count ≡ length (forest p)) × Sized p (now sources) (now leaves) (now targets) (now priorities) ⌝ }
     ensures answer { λ r. ⌜ r ≡ buildingOf p (now (sources .entry)) ⌝ }
     ensures written { λ _. ⌜ BuiltTables p (now (sources .entry)) (now (leaves .entry)) (now (targets .entry)) (now (priorities .entry)) (now (sources .exit)) (now (leaves .exit)) (now (targets .exit)) (now (priorities .exit)) ⌝ }
 {
@@ -272,7 +272,7 @@ pub fn build(
             heads,
             masks,
             parents,
-            ranks,
+            node_priorities,
             &mut ends,
             count,
             sources,
@@ -286,7 +286,7 @@ pub fn build(
         heads,
         masks,
         parents,
-        ranks,
+        node_priorities,
         &mut ends,
         count,
         sources,
@@ -312,17 +312,17 @@ fn has_fitting_lengths(
     p: Policy,
     masks: &[u64],
     parents: &[u16],
-    ranks: &[u8],
+    node_priorities: &[u8],
     sources: &[u8],
     leaves: &[u16],
     targets: &[u16],
     priorities: &[u8],
 ) -> bool
     requires { ⌜ legal p ≡ true ⌝ }
-    ensures { λ r. ⌜ r ≡ lengthsFit p (tables (now (masks .entry)) (now (parents .entry)) (now (ranks .entry)) (now (sources .entry)) (now (leaves .entry)) (now (targets .entry)) (now (priorities .entry))) ⌝ }
+    ensures { λ r. ⌜ r ≡ lengthsFit p (tables (now (masks .entry)) (now (parents .entry)) (now («node_priorities» .entry)) (now (sources .entry)) (now (leaves .entry)) (now (targets .entry)) (now (priorities .entry))) ⌝ }
 {
     (masks.len() == parents.len())
-        & (masks.len() == ranks.len())
+        & (masks.len() == node_priorities.len())
         & (sources.len() == leaves.len())
         & is_times(targets.len(), p.letters, sources.len())
         & is_times(priorities.len(), p.letters, sources.len())
@@ -332,29 +332,29 @@ fn has_fitting_lengths(
 fn fill<'a>(
     p: Policy,
     heads: &'a [u8; 64],
-    hues: &'a [u8; 64],
+    colours: &'a [u8; 64],
     family: &'a [bool; 256],
     masks: &mut [u64],
     parents: &mut [u16],
-    ranks: &mut [u8],
+    node_priorities: &mut [u8],
     sources: &mut [u8],
     leaves: &mut [u16],
     targets: &mut [u16],
     priorities: &mut [u8],
 ) -> Translation
-    requires lent { ⌜ (now heads ≡ p .target) × (now hues ≡ p .colour) × (now family ≡ p .family) ⌝ }
-    requires fitting { ⌜ (legal p ≡ true) × (lengthsFit p (tables (now masks) (now parents) (now ranks) (now sources) (now leaves) (now targets) (now priorities)) ≡ true) ⌝ }
-    ensures answer { λ r. ⌜ r ≡ translationOf p (tables (now (masks .entry)) (now (parents .entry)) (now (ranks .entry)) (now (sources .entry)) (now (leaves .entry)) (now (targets .entry)) (now (priorities .entry))) ⌝ }
-    ensures tables { λ _. ⌜ Hold (tablesAfter p (tables (now (masks .entry)) (now (parents .entry)) (now (ranks .entry)) (now (sources .entry)) (now (leaves .entry)) (now (targets .entry)) (now (priorities .entry)))) (now (masks .exit)) (now (parents .exit)) (now (ranks .exit)) (now (sources .exit)) (now (leaves .exit)) (now (targets .exit)) (now (priorities .exit)) ⌝ }
+    requires lent { ⌜ (now heads ≡ p .target) × (now colours ≡ p .colour) × (now family ≡ p .family) ⌝ }
+    requires fitting { ⌜ (legal p ≡ true) × (lengthsFit p (tables (now masks) (now parents) (now «node_priorities») (now sources) (now leaves) (now targets) (now priorities)) ≡ true) ⌝ }
+    ensures answer { λ r. ⌜ r ≡ translationOf p (tables (now (masks .entry)) (now (parents .entry)) (now («node_priorities» .entry)) (now (sources .entry)) (now (leaves .entry)) (now (targets .entry)) (now (priorities .entry))) ⌝ }
+    ensures tables { λ _. ⌜ Hold (tablesAfter p (tables (now (masks .entry)) (now (parents .entry)) (now («node_priorities» .entry)) (now (sources .entry)) (now (leaves .entry)) (now (targets .entry)) (now (priorities .entry)))) (now (masks .exit)) (now (parents .exit)) (now («node_priorities» .exit)) (now (sources .exit)) (now (leaves .exit)) (now (targets .exit)) (now (priorities .exit)) ⌝ }
 {
     let Filled::Nodes(nodes) = decomposition::nodes::fill_nodes(
         p,
         heads,
-        hues,
+        colours,
         family,
         masks,
         parents,
-        ranks,
+        node_priorities,
     ) else {
         clear_built(sources, leaves, targets, priorities);
         return Translation::Refused(9);
@@ -364,7 +364,7 @@ fn fill<'a>(
         heads,
         masks,
         parents,
-        ranks,
+        node_priorities,
         nodes,
         sources,
         leaves,
@@ -373,7 +373,7 @@ fn fill<'a>(
     ) else {
         tables::clear64(masks);
         tables::clear16(parents);
-        tables::clear8(ranks);
+        tables::clear8(node_priorities);
         return Translation::Refused(10);
     };
     Translation::Translated(nodes as u16, states as u16, start)
@@ -385,14 +385,14 @@ pub fn translate(
     p: Policy,
     masks: &mut [u64],
     parents: &mut [u16],
-    ranks: &mut [u8],
+    node_priorities: &mut [u8],
     sources: &mut [u8],
     leaves: &mut [u16],
     targets: &mut [u16],
     priorities: &mut [u8],
 ) -> Translation
-    ensures answer { λ r. ⌜ r ≡ translationOf p (tables (now (masks .entry)) (now (parents .entry)) (now (ranks .entry)) (now (sources .entry)) (now (leaves .entry)) (now (targets .entry)) (now (priorities .entry))) ⌝ }
-    ensures tables { λ _. ⌜ Hold (tablesAfter p (tables (now (masks .entry)) (now (parents .entry)) (now (ranks .entry)) (now (sources .entry)) (now (leaves .entry)) (now (targets .entry)) (now (priorities .entry)))) (now (masks .exit)) (now (parents .exit)) (now (ranks .exit)) (now (sources .exit)) (now (leaves .exit)) (now (targets .exit)) (now (priorities .exit)) ⌝ }
+    ensures answer { λ r. ⌜ r ≡ translationOf p (tables (now (masks .entry)) (now (parents .entry)) (now («node_priorities» .entry)) (now (sources .entry)) (now (leaves .entry)) (now (targets .entry)) (now (priorities .entry))) ⌝ }
+    ensures tables { λ _. ⌜ Hold (tablesAfter p (tables (now (masks .entry)) (now (parents .entry)) (now («node_priorities» .entry)) (now (sources .entry)) (now (leaves .entry)) (now (targets .entry)) (now (priorities .entry)))) (now (masks .exit)) (now (parents .exit)) (now («node_priorities» .exit)) (now (sources .exit)) (now (leaves .exit)) (now (targets .exit)) (now (priorities .exit)) ⌝ }
 {
     if !policy::is_legal(p) {
         return Translation::Refused(7);
@@ -401,7 +401,7 @@ pub fn translate(
         p,
         masks,
         parents,
-        ranks,
+        node_priorities,
         sources,
         leaves,
         targets,
@@ -414,21 +414,21 @@ pub fn translate_legal(
     p: Policy,
     masks: &mut [u64],
     parents: &mut [u16],
-    ranks: &mut [u8],
+    node_priorities: &mut [u8],
     sources: &mut [u8],
     leaves: &mut [u16],
     targets: &mut [u16],
     priorities: &mut [u8],
 ) -> Translation
     requires { ⌜ legal p ≡ true ⌝ }
-    ensures answer { λ r. ⌜ r ≡ translationOf p (tables (now (masks .entry)) (now (parents .entry)) (now (ranks .entry)) (now (sources .entry)) (now (leaves .entry)) (now (targets .entry)) (now (priorities .entry))) ⌝ }
-    ensures tables { λ _. ⌜ Hold (tablesAfter p (tables (now (masks .entry)) (now (parents .entry)) (now (ranks .entry)) (now (sources .entry)) (now (leaves .entry)) (now (targets .entry)) (now (priorities .entry)))) (now (masks .exit)) (now (parents .exit)) (now (ranks .exit)) (now (sources .exit)) (now (leaves .exit)) (now (targets .exit)) (now (priorities .exit)) ⌝ }
+    ensures answer { λ r. ⌜ r ≡ translationOf p (tables (now (masks .entry)) (now (parents .entry)) (now («node_priorities» .entry)) (now (sources .entry)) (now (leaves .entry)) (now (targets .entry)) (now (priorities .entry))) ⌝ }
+    ensures tables { λ _. ⌜ Hold (tablesAfter p (tables (now (masks .entry)) (now (parents .entry)) (now («node_priorities» .entry)) (now (sources .entry)) (now (leaves .entry)) (now (targets .entry)) (now (priorities .entry)))) (now (masks .exit)) (now (parents .exit)) (now («node_priorities» .exit)) (now (sources .exit)) (now (leaves .exit)) (now (targets .exit)) (now (priorities .exit)) ⌝ }
 {
     if !has_fitting_lengths(
         p,
         masks,
         parents,
-        ranks,
+        node_priorities,
         sources,
         leaves,
         targets,
@@ -443,7 +443,7 @@ pub fn translate_legal(
         &p.family,
         masks,
         parents,
-        ranks,
+        node_priorities,
         sources,
         leaves,
         targets,

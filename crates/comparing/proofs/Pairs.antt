@@ -11,7 +11,7 @@ use Rattle.lists.proofs.Bools.{test, and-l, and-r, both, or-cases, or-left, or-
 use Rattle.lists.proofs.Lists.{all-each, each-all, mem-below, below-lt}
 use Rattle.masks.specs.Masks.{has, inside}
 use Rattle.masks.proofs.Bits.{inside-all, all-inside, inside-refl, inside-antisym, inside-trans}
-use Rattle.masks.proofs.Gather.{has-gather, gather-lt}
+use Rattle.masks.proofs.MaskOf.{has-mask-of, mask-of-lt}
 use Rattle.policy.specs.declared.Policy.{Policy}
 use Rattle.policy.specs.Policies.{edges, edgeColours, coloursOf, inFamily, accepting}
 use Rattle.policy.proofs.Laws.{legal-target, colours-some, some-colours, colours-up, colours-lt, accepting-is}
@@ -32,8 +32,8 @@ module _ (p q : Policy) where
       → (e < edges p) × ((x : ℕ) → List·Memᴰ x (edgeColours p e) → has c x ≡ true) × ((x : ℕ) → List·Memᴰ x (edgeColours q e) → has d x ≡ true)
   unfolding pairEdges inPair
   pair-some c d e h =
-      let l = bit-lt (edges p) (pairEdges p q c d) e (gather-lt (inPair p q c d) (edges p)) h in
-      let t : inPair p q c d e ≡ true = sym (has-gather (inPair p q c d) (edges p) e l) ∙ h in
+      let l = bit-lt (edges p) (pairEdges p q c d) e (mask-of-lt (inPair p q c d) (edges p)) h in
+      let t : inPair p q c d e ≡ true = sym (has-mask-of (inPair p q c d) (edges p) e l) ∙ h in
       let a = all (has c) (edgeColours p e) in
       let b = all (has d) (edgeColours q e) in
       (l, all-each (has c) (edgeColours p e) (and-l a b t), all-each (has d) (edgeColours q e) (and-r a b t))
@@ -42,7 +42,7 @@ module _ (p q : Policy) where
       → has (pairEdges p q c d) e ≡ true
   unfolding pairEdges inPair
   some-pair c d e l f g =
-      has-gather (inPair p q c d) (edges p) e l
+      has-mask-of (inPair p q c d) (edges p) e l
       ∙ both (all (has c) (edgeColours p e)) (all (has d) (edgeColours q e)) (each-all (has c) (edgeColours p e) f) (each-all (has d) (edgeColours q e) g)
 
   pair-colours-p : (c d : ℕ) → inside (coloursOf p (pairEdges p q c d)) c ≡ true

@@ -13,7 +13,7 @@ use Rattle.lists.proofs.Bools.{test, and-l, and-r, both, bool-ext}
 use Rattle.lists.proofs.Lists.{all-each, each-all}
 use Rattle.masks.specs.Masks.{has, inside}
 use Rattle.masks.proofs.Bits.{has-and, mask-ext, all-inside, inside-antisym}
-use Rattle.masks.proofs.Gather.{has-gather}
+use Rattle.masks.proofs.MaskOf.{has-mask-of}
 use Rattle.policy.specs.declared.Policy.{Policy}
 use Rattle.policy.specs.Policies.{edges, edgeColours, coloursOf, inFamily}
 use Rattle.policy.specs.ByColour.{edgesIn, tableEdges, tableColours}
@@ -49,7 +49,7 @@ module _ (p q : Policy) where
           let t : has (edgesIn p c) e && has (edgesIn q d) e ≡ true = sym (has-and e (edgesIn p c) (edgesIn q d)) ∙ h in
           let a = edges-in-some p c e (and-l (has (edgesIn p c) e) (has (edgesIn q d) e) t) in
           let b = edges-in-some q d e (and-r (has (edgesIn p c) e) (has (edgesIn q d) e) t) in
-          has-gather (inPair p q c d) (edges p) e (a .0) ∙ both (all (has c) (edgeColours p e)) (all (has d) (edgeColours q e)) (a .1) (b .1)
+          has-mask-of (inPair p q c d) (edges p) e (a .0) ∙ both (all (has c) (edgeColours p e)) (all (has d) (edgeColours q e)) (a .1) (b .1)
 
       back : (e : ℕ) → has (pairEdges p q c d) e ≡ true → has m e ≡ true
       back e h =

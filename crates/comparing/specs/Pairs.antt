@@ -8,7 +8,7 @@ use lib.Bits.{bitAnd}
 use lib.Dec.{eqb}
 use lib.ListN.{getD}
 use Rattle.lists.specs.Lists.{all, below}
-use Rattle.masks.specs.Masks.{has, inside, gather}
+use Rattle.masks.specs.Masks.{has, inside, maskOf}
 use Rattle.policy.specs.declared.Policy.{Policy}
 use Rattle.policy.specs.Policies.{edges, targetOf, edgeColours, coloursOf, inFamily, legal}
 use Rattle.policy.specs.ByColour.{byColour, tableEdges, tableColours}
@@ -43,7 +43,7 @@ module _ (p q : Policy) where
 
   -- the edges with these colours
   unfoldable pub pairEdges : ℕ → ℕ → ℕ
-  pairEdges c d = gather (inPair c d) (edges p)
+  pairEdges c d = maskOf (inPair c d) (edges p)
 
   -- m has exactly the colours c in p, and exactly d in q
   unfoldable pub exactly : ℕ → ℕ → ℕ → Bool

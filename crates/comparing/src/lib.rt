@@ -170,26 +170,26 @@ fn set_agrees(
     true
 }
 
-// Whether every pair agrees. The heads, the hues and the family are p's; the shades are q's colours, and the clan is q's family.
+// Whether every pair agrees. The heads, the colours and the family are p's; the colours2 are q's colours, and the family2 is q's family.
 fn pairs_agree<'a, 'b>(
     p: Policy,
     q: Policy,
     heads: &'a [u8; 64],
-    hues: &'a [u8; 64],
+    colours: &'a [u8; 64],
     family: &'a [bool; 256],
-    shades: &'b [u8; 64],
-    clan: &'b [bool; 256],
+    colours2: &'b [u8; 64],
+    family2: &'b [bool; 256],
 ) -> bool
-    requires { ⌜ Comparable p q × (now heads ≡ p .target) × (now hues ≡ p .colour) × (now family ≡ p .family) × (now shades ≡ q .colour) × (now clan ≡ q .family) ⌝ }
+    requires { ⌜ Comparable p q × (now heads ≡ p .target) × (now colours ≡ p .colour) × (now family ≡ p .family) × (now colours2 ≡ q .colour) × (now family2 ≡ q .family) ⌝ }
     ensures { λ r. ⌜ r ≡ pairsAgree p q ⌝ }
 {
-    let t = policy::by_colour(p, hues);
-    let u = policy::by_colour(q, shades);
+    let t = policy::by_colour(p, colours);
+    let u = policy::by_colour(q, colours2);
     let mut rows = [0u64; 16];
     let n = sets(p.colours);
     for c in 0..n {
         let verdict = family[c];
-        if !set_agrees(p, q, heads, clan, &mut rows, &t, &u, c as u8, verdict) {
+        if !set_agrees(p, q, heads, family2, &mut rows, &t, &u, c as u8, verdict) {
             return false;
         }
     }

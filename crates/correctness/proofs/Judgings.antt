@@ -33,9 +33,9 @@ use Rattle.running.specs.declared.Reading.{Reading}
 use Rattle.running.specs.declared.Reading.the-variants.{Moved, Refused as NotRead}
 use Rattle.running.specs.Running.{rowStates, shaped, readingOf, prioritiesOf, rowStep, rowMeets}
 use Rattle.running.proofs.Steps.{row-within}
-use Rattle.judging.specs.Judging.{nonEmpty, inRange, leastOf, recurringColours, policyVerdict, noState, everStray, leastRecurring, rowsVerdict}
+use Rattle.judging.specs.Judging.{nonEmpty, inRange, leastOf, recurringColours, policyVerdict, noState, everDangling, leastRecurring, rowsVerdict}
 use Rattle.judging.proofs.Laws.{least-le, least-mem}
-use Rattle.judging.proofs.Meaning.{recurring-colours, stray}
+use Rattle.judging.proofs.Meaning.{recurring-colours, dangling}
 use Rattle.correctness.specs.Demand3.{Rows, StandsOver, RecurringPriority, Demand3}
 use Rattle.correctness.specs.Contracts.{Succeeded, Beginning, JudgedAlike}
 use Rattle.correctness.proofs.Joint.{Read, in-good, read, stands-after}
@@ -49,13 +49,13 @@ some-letter letters [] some range = absurd (false≢true some)
 some-letter letters (a ∷ w) some range = or-left (ltb a letters) (any (λ a. ltb a letters) w) (and-l (ltb a letters) (all (λ a. ltb a letters) w) range)
 
 -- ---- a reading that is not answered 13
-met-no-stray : (q : Reading) (k : ℕ) (ks : List ℕ) → prioritiesOf q ++ [] ≡ k ∷ ks → noState q ≡ false
-met-no-stray (Moved r k′) k ks e = refl
-met-no-stray (NotRead n r) k ks e = absurd (nil≢cons e)
+met-no-dangling : (q : Reading) (k : ℕ) (ks : List ℕ) → prioritiesOf q ++ [] ≡ k ∷ ks → noState q ≡ false
+met-no-dangling (Moved r k′) k ks e = refl
+met-no-dangling (NotRead n r) k ks e = absurd (nil≢cons e)
 
-refused-no-stray : (letters : ℕ) (targets priorities : List ℕ) (r : Run) (a : ℕ) → ltb a letters ≡ false → noState (readingOf letters targets priorities r a) ≡ false
+refused-no-dangling : (letters : ℕ) (targets priorities : List ℕ) (r : Run) (a : ℕ) → ltb a letters ≡ false → noState (readingOf letters targets priorities r a) ≡ false
 unfolding readingOf
-refused-no-stray letters targets priorities r a f = rw f (go (shaped letters targets priorities) (ltb (r .state) (rowStates letters targets priorities)))
+refused-no-dangling letters targets priorities r a f = rw f (go (shaped letters targets priorities) (ltb (r .state) (rowStates letters targets priorities)))
   where
     go : (x y : Bool) → noState (cond x (cond y (NotRead 12 r) (NotRead 11 r)) (NotRead 8 r)) ≡ false
     go true true = refl
@@ -112,27 +112,27 @@ module _ (p : Policy) (ok : legal p ≡ true) where
         met-few (i .taken) (stateAt p (end .state) .leaf) k (subst (List·Memᴰ k) (i .priorities-are) (q .2))
 
     -- ---- no letter is answered 13
-    no-stray : (r : Run) (a : ℕ) → IsBuilt r → noState (readingOf (p .letters) targets priorities r a) ≡ false
+    no-dangling : (r : Run) (a : ℕ) → IsBuilt r → noState (readingOf (p .letters) targets priorities r a) ≡ false
     unfolding met metRun rowMeets
-    no-stray r a h = go (test (ltb a (p .letters)))
+    no-dangling r a h = go (test (ltb a (p .letters)))
       where
         taken : (es : List ℕ) (l : ℕ) → es ≢ [] → met step meets (a ∷ []) r ≡ metRun (forest p) p es l → noState (readingOf (p .letters) targets priorities r a) ≡ false
         taken [] l some e = absurd (some refl)
-        taken (x ∷ es) l some e = met-no-stray (readingOf (p .letters) targets priorities r a) _ _ e
+        taken (x ∷ es) l some e = met-no-dangling (readingOf (p .letters) targets priorities r a) _ _ e
 
         go : (ltb a (p .letters) ≡ true) ⊎ (ltb a (p .letters) ≡ false) → noState (readingOf (p .letters) targets priorities r a) ≡ false
         go (inl t) =
             let i = reading (a ∷ []) r h in
             taken (i .taken) (stateAt p (r .state) .leaf) (i .some (or-left (ltb a (p .letters)) false t)) (i .priorities-are)
-        go (inr f) = refused-no-stray (p .letters) targets priorities r a f
+        go (inr f) = refused-no-dangling (p .letters) targets priorities r a f
 
-    never-stray : (stem loop : List ℕ) (r : Run) → IsBuilt r → everStray (p .letters) targets priorities r stem loop ≡ false
-    never-stray stem loop r h = go (test (everStray (p .letters) targets priorities r stem loop))
+    never-dangling : (stem loop : List ℕ) (r : Run) → IsBuilt r → everDangling (p .letters) targets priorities r stem loop ≡ false
+    never-dangling stem loop r h = go (test (everDangling (p .letters) targets priorities r stem loop))
       where
-        go : (everStray (p .letters) targets priorities r stem loop ≡ true) ⊎ (everStray (p .letters) targets priorities r stem loop ≡ false) → everStray (p .letters) targets priorities r stem loop ≡ false
+        go : (everDangling (p .letters) targets priorities r stem loop ≡ true) ⊎ (everDangling (p .letters) targets priorities r stem loop ≡ false) → everDangling (p .letters) targets priorities r stem loop ≡ false
         go (inl t) =
-            let q = stray (p .letters) targets priorities r stem loop (omega (arith, rows .enough)) .0 t .1 in
-            absurd (true≢false (sym (ap noState (q .answered)) ∙ no-stray (after step meets (q .start) r) (q .letter) (keeps (q .start) r h)))
+            let q = dangling (p .letters) targets priorities r stem loop (omega (arith, rows .enough)) .0 t .1 in
+            absurd (true≢false (sym (ap noState (q .answered)) ∙ no-dangling (after step meets (q .start) r) (q .letter) (keeps (q .start) r h)))
         go (inr f) = f
 
     module _ (stem loop : List ℕ) (some : any (λ a. ltb a (p .letters)) loop ≡ true) (r : Run) (v : ℕ) (begins : StandsOver p r v) where
@@ -183,7 +183,7 @@ module _ (p : Policy) (ok : legal p ≡ true) where
         record {
           least = leastRecurring (p .letters) targets priorities r stem loop;
           colours = recurringColours p v stem loop;
-          rows-answer = rw (rows .passes, lt-ltb (r .state) (rowStates (p .letters) targets priorities) (omega (arith, begins .is-built, rows .enough)), some, range, never-stray stem loop r (begins .is-built)) refl;
+          rows-answer = rw (rows .passes, lt-ltb (r .state) (rowStates (p .letters) targets priorities) (omega (arith, begins .is-built, rows .enough)), some, range, never-dangling stem loop r (begins .is-built)) refl;
           policy-answers = rw (ok, lt-ltb v (p .states) (v-lt stem loop letter r v begins), some, range, rows-agree stem loop letter r v begins) refl;
         }
 

@@ -69,7 +69,7 @@ meets letters targets priorities r a =
 
 -- ---- the claim, of any policy that the tables are those of
 agree : (p : Policy) (entry exit : Tables) (counts : List ℕ) → 0 ≡ translateNumberOf (translationOf p entry) → counts ≡ countsOf (translationOf p entry)
-    → Hold (tablesAfter p entry) (exit .masks) (exit .parents) (exit .ranks) (exit .sources) (exit .leaves) (exit .targets) (exit .priorities) → CallsAgree p exit counts
+    → Hold (tablesAfter p entry) (exit .masks) (exit .parents) (exit .node-priorities) (exit .sources) (exit .leaves) (exit .targets) (exit .priorities) → CallsAgree p exit counts
 unfolding counted
 agree p entry exit counts returned counts-are tables-are targets priorities b stem loop state numbers given calls h v e =
     subst (λ (met : ℕ → List ℕ). Agreement p stem loop met v (statesIn counts) (exit .sources) state) (sym met-is)

@@ -12,9 +12,9 @@ use lib.ListN.{length}
 use Rattle.lists.specs.Lists.{any, flat, below}
 use Rattle.lists.proofs.Bools.{eqb≡, ≡eqb}
 use Rattle.lists.proofs.Lists.{any-some, some-any, below-lt, flat-mem, mem-flat}
-use Rattle.masks.specs.Masks.{has, gather}
+use Rattle.masks.specs.Masks.{has, maskOf}
 use Rattle.masks.proofs.Bits.{has-high}
-use Rattle.masks.proofs.Gather.{gather-lt, has-gather}
+use Rattle.masks.proofs.MaskOf.{mask-of-lt, has-mask-of}
 use Rattle.recurrence.specs.Recurs.{iter, Recurs}
 use Rattle.recurrence.specs.Runs.{times, met}
 use Rattle.recurrence.proofs.Pigeon.{pigeon}
@@ -36,15 +36,15 @@ use Rattle.correctness.proofs.Joint.{In, Read, in-good, read, stands-af
 
 -- the set of the members of a list, all below n
 setOf : ℕ → List ℕ → ℕ
-setOf n es = gather (λ (e : ℕ). any (eqb e) es) n
+setOf n es = maskOf (λ (e : ℕ). any (eqb e) es) n
 
 set-exact : (n : ℕ) (es : List ℕ) → ((e : ℕ) → List·Memᴰ e es → e < n) → (e : ℕ) → (has (setOf n es) e ≡ true) ↔ List·Memᴰ e es
 unfolding setOf
-set-exact n es low e = (go (decLt e n), λ m. has-gather (λ (e : ℕ). any (eqb e) es) n e (low e m) ∙ some-any (eqb e) es e m (≡eqb e e refl))
+set-exact n es low e = (go (decLt e n), λ m. has-mask-of (λ (e : ℕ). any (eqb e) es) n e (low e m) ∙ some-any (eqb e) es e m (≡eqb e e refl))
   where
-    go : Dec (e < n) → has (gather (λ (e : ℕ). any (eqb e) es) n) e ≡ true → List·Memᴰ e es
-    go (yes lt) t = let r = any-some (eqb e) es (sym (has-gather (λ (e : ℕ). any (eqb e) es) n e lt) ∙ t) in Memᴰ·cast (eqb≡ e (r .0) (r .2)) (r .1)
-    go (no ge) t = absurd (false≢true (sym (has-high n e (gather (λ (e : ℕ). any (eqb e) es) n) (gather-lt (λ (e : ℕ). any (eqb e) es) n) (omega arith)) ∙ t))
+    go : Dec (e < n) → has (maskOf (λ (e : ℕ). any (eqb e) es) n) e ≡ true → List·Memᴰ e es
+    go (yes lt) t = let r = any-some (eqb e) es (sym (has-mask-of (λ (e : ℕ). any (eqb e) es) n e lt) ∙ t) in Memᴰ·cast (eqb≡ e (r .0) (r .2)) (r .1)
+    go (no ge) t = absurd (false≢true (sym (has-high n e (maskOf (λ (e : ℕ). any (eqb e) es) n) (mask-of-lt (λ (e : ℕ). any (eqb e) es) n) (omega arith)) ∙ t))
 
 module _ (p : Policy) (targets priorities : List ℕ) where
   -- what the two runs meet

@@ -26,7 +26,7 @@ use Rattle.judging.specs.declared.RowsVerdict.the-variants.{Least}
 -- what translating promises of its answer and of the tables at exit; and the answer is both counts and the state begun in
 pub record Succeeded (p : Policy) (entry exit : Tables) (answer : Translation) (nodes states first : ℕ) : Type 0 where
   pub answer-is : answer ≡ translationOf p entry
-  pub exit-is : Hold (tablesAfter p entry) (exit .masks) (exit .parents) (exit .ranks) (exit .sources) (exit .leaves) (exit .targets) (exit .priorities)
+  pub exit-is : Hold (tablesAfter p entry) (exit .masks) (exit .parents) (exit .node-priorities) (exit .sources) (exit .leaves) (exit .targets) (exit .priorities)
   pub success : answer ≡ Translated nodes states first
 
 -- the same beginning of both row tables: any that holds every row of the built states and passes running's question 8

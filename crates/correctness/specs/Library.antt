@@ -17,13 +17,13 @@ use Rattle.correctness.specs.Contracts.{letterAt, Beginning, Agreement}
 pub record TranslateCall (packed : List ℕ) (entry exit : Tables) (number : ℕ) (counts : List ℕ) : Type 0 where
   pub number-is : number ≡ translateNumberOf (translationOf (policyOf packed) entry)
   pub counts-are : counts ≡ countsOf (translationOf (policyOf packed) entry)
-  pub tables-are : Hold (tablesAfter (policyOf packed) entry) (exit .masks) (exit .parents) (exit .ranks) (exit .sources) (exit .leaves) (exit .targets) (exit .priorities)
+  pub tables-are : Hold (tablesAfter (policyOf packed) entry) (exit .masks) (exit .parents) (exit .node-priorities) (exit .sources) (exit .leaves) (exit .targets) (exit .priorities)
 
 -- ---- wulfrenda_translate_bytes: the command bytes in place of the record
 pub record TranslateBytesCall (bytes : List ℕ) (entry exit : Tables) (number : ℕ) (counts : List ℕ) : Type 0 where
   pub number-is : number ≡ firstOf (readNumberOf (bytesReadingOf bytes .outcome)) (translateNumberOf (translationOf (bytesReadingOf bytes .policy) entry))
   pub counts-are : counts ≡ countsOf (translationOf (bytesReadingOf bytes .policy) entry)
-  pub tables-are : Hold (tablesAfter (bytesReadingOf bytes .policy) entry) (exit .masks) (exit .parents) (exit .ranks) (exit .sources) (exit .leaves) (exit .targets) (exit .priorities)
+  pub tables-are : Hold (tablesAfter (bytesReadingOf bytes .policy) entry) (exit .masks) (exit .parents) (exit .node-priorities) (exit .sources) (exit .leaves) (exit .targets) (exit .priorities)
 
 -- how many built states the counts say
 abbrev pub statesIn : List ℕ → ℕ

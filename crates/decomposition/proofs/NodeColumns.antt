@@ -23,7 +23,7 @@ use Rattle.forest.specs.Forest.{Node, differs, forest, node, priority}
 use Rattle.forest.specs.Laws.{ForestLaws, maskAt, parentAt, rootAt}
 use Rattle.candidates.specs.Candidates.{candidatesOf, coloursAt, candidates, judged}
 use Rattle.decomposition.specs.NodeTables.{Sought, Cleared, Written, Lent, Spare, Space, nodeTables, nodesFit, fillingOf, filledOf}
-use Rattle.forest.specs.Forest.{nodeMasks, nodeParents, nodeRanks}
+use Rattle.forest.specs.Forest.{nodeMasks, nodeParents, nodePriorities}
 use Rattle.trees.specs.Growing.{Ground, Room, AllGrown}
 use Rattle.candidates.proofs.Distinct.{length-below, flat-few}
 use Rattle.candidates.proofs.Candidates.{of-few}
@@ -84,9 +84,9 @@ module _ (p : Policy) where
   unfolding nodeParents
   length-parents = length-map (forest p) (λ (x : Node). x .parent)
 
-  length-ranks : length (nodeRanks p) ≡ length (forest p)
-  unfolding nodeRanks
-  length-ranks = length-map (forest p) (priority p)
+  length-node-priorities : length (nodePriorities p) ≡ length (forest p)
+  unfolding nodePriorities
+  length-node-priorities = length-map (forest p) (priority p)
 
   pub masks-at : (n : ℕ) → n < length (forest p) → getD (nodeMasks p) n 0 ≡ maskAt (forest p) n
   unfolding nodeMasks node
@@ -96,9 +96,9 @@ module _ (p : Policy) where
   unfolding nodeParents node
   parents-at n l = getD-map (λ (x : Node). x .parent) (forest p) (record { mask = 0; parent = 0; level = 0; accepted = false }) n l
 
-  pub ranks-at : (n : ℕ) → n < length (forest p) → getD (nodeRanks p) n 0 ≡ priority p (node (forest p) n)
-  unfolding nodeRanks node
-  ranks-at n l = getD-map (priority p) (forest p) (record { mask = 0; parent = 0; level = 0; accepted = false }) n l
+  pub node-priorities-at : (n : ℕ) → n < length (forest p) → getD (nodePriorities p) n 0 ≡ priority p (node (forest p) n)
+  unfolding nodePriorities node
+  node-priorities-at n l = getD-map (priority p) (forest p) (record { mask = 0; parent = 0; level = 0; accepted = false }) n l
 
   -- ---- how many candidates there are
   judged-both : (l : List ℕ) → length (filter (λ m. not (differs true (accepting p m))) l) + length (filter (λ m. not (differs false (accepting p m))) l) ≡ length l
@@ -150,8 +150,8 @@ module _ (p : Policy) (lawful : legal p ≡ true) where
       rejecting-few = l .rejecting-few;
     }
 
-    pub lent-room : {masks parents ranks : List ℕ} {places : ℕ} → Cleared masks parents ranks → places ≡ min (length masks) 65535 → Room p (a ++ r) masks parents seen places 0
-    lent-room {masks} {parents} {ranks} {places} c e = record {
+    pub lent-room : {masks parents node-priorities : List ℕ} {places : ℕ} → Cleared masks parents node-priorities → places ≡ min (length masks) 65535 → Room p (a ++ r) masks parents seen places 0
+    lent-room {masks} {parents} {node-priorities} {places} c e = record {
       few = omega arith;
       at-most = omega arith;
       masks-long = omega arith;
@@ -179,17 +179,17 @@ module _ {p : Policy} {m₀ q₀ r₀ m q : List ℕ} {places n : ℕ} (c : Clea
   }
 
 -- ---- the first n priorities are written
-pub record Ranking (p : Policy) (r₀ r : List ℕ) (n : ℕ) : Type 0 where
+pub record Prioritised (p : Policy) (r₀ r : List ℕ) (n : ℕ) : Type 0 where
   pub at-most : n ≤ length (forest p)
   pub long : length r ≡ length r₀
-  pub are : r ≡ padded (length r) (take n (nodeRanks p))
+  pub are : r ≡ padded (length r) (take n (nodePriorities p))
 
-pub ranking-none : (p : Policy) (r : List ℕ) → r ≡ zeros r → Ranking p r r 0
-ranking-none p r e = record { at-most = omega arith; long = refl; are = column-none (nodeRanks p) r e }
+pub prioritised-none : (p : Policy) (r : List ℕ) → r ≡ zeros r → Prioritised p r r 0
+prioritised-none p r e = record { at-most = omega arith; long = refl; are = column-none (nodePriorities p) r e }
 
-module _ {p : Policy} (lawful : legal p ≡ true) {masks parents r₀ r : List ℕ} {count n : ℕ} (w : Written p masks parents count) (v : Ranking p r₀ r n) (room : count ≤ length r₀) where
-  pub ranking-all : count ≤ n → r ≡ padded (length r₀) (nodeRanks p)
-  ranking-all h = column-whole (nodeRanks p) r n (v .are) (omega (arith, length-ranks p, w .all)) ∙ ap (λ (k : ℕ). padded k (nodeRanks p)) (v .long)
+module _ {p : Policy} (lawful : legal p ≡ true) {masks parents r₀ r : List ℕ} {count n : ℕ} (w : Written p masks parents count) (v : Prioritised p r₀ r n) (room : count ≤ length r₀) where
+  pub prioritised-all : count ≤ n → r ≡ padded (length r₀) (nodePriorities p)
+  prioritised-all h = column-whole (nodePriorities p) r n (v .are) (omega (arith, length-node-priorities p, w .all)) ∙ ap (λ (k : ℕ). padded k (nodePriorities p)) (v .long)
 
   module _ (l : n < count) where
     here : n < length (forest p)
@@ -201,16 +201,16 @@ module _ {p : Policy} (lawful : legal p ≡ true) {masks parents r₀ r : List �
     numbers : Numbered p (forest p)
     numbers = numbered p (child-fewer p) (root-few p) (ordered-children p) (ordered-roots p)
 
-    ranking-more : {x : ℕ} → x ≡ priority p (node (forest p) n) → Ranking p r₀ (set r n x) (n + 1)
-    ranking-more {x} e = record {
+    prioritised-more : {x : ℕ} → x ≡ priority p (node (forest p) n) → Prioritised p r₀ (set r n x) (n + 1)
+    prioritised-more {x} e = record {
       at-most = omega (arith, w .all);
       long = length-set r n x ∙ v .long;
-      are = column-more (nodeRanks p) r n (v .are) (omega (arith, length-ranks p, w .all)) (omega (arith, v .long)) x (e ∙ sym (ranks-at p n here));
+      are = column-more (nodePriorities p) r n (v .are) (omega (arith, length-node-priorities p, w .all)) (omega (arith, v .long)) x (e ∙ sym (node-priorities-at p n here));
     }
 
     -- a root
-    pub ranking-root : {x : ℕ} → getD parents n 0 ≡ 65535 → x ≡ cond (accepting p (getD masks n 0)) 0 1 → Ranking p r₀ (set r n x) (n + 1)
-    ranking-root {x} q e = ranking-more (e ∙ ap (λ (m : ℕ). cond (accepting p m) 0 1) (w .masks-are n l) ∙ sym (priority-root p (node (forest p) n) root ∙ ap (λ (b : Bool). cond b 0 1) (numbers .accepted-root n here root)))
+    pub prioritised-root : {x : ℕ} → getD parents n 0 ≡ 65535 → x ≡ cond (accepting p (getD masks n 0)) 0 1 → Prioritised p r₀ (set r n x) (n + 1)
+    prioritised-root {x} q e = prioritised-more (e ∙ ap (λ (m : ℕ). cond (accepting p m) 0 1) (w .masks-are n l) ∙ sym (priority-root p (node (forest p) n) root ∙ ap (λ (b : Bool). cond b 0 1) (numbers .accepted-root n here root)))
       where
         root : rootAt (forest p) n ≡ true
         root = go (test (rootAt (forest p) n))
@@ -231,24 +231,24 @@ module _ {p : Policy} (lawful : legal p ≡ true) {masks parents r₀ r : List �
       before : getD parents n 0 < n
       before = omega (arith, w .parents-are n l, laws .parent-lt n here child)
 
-      rank-before : getD r (getD parents n 0) 0 ≡ priority p (node (forest p) (parentAt (forest p) n))
-      rank-before =
-          column-at (nodeRanks p) r n (v .are) (omega (arith, length-ranks p, v .at-most)) (getD parents n 0) before ∙ ranks-at p (getD parents n 0) (omega (arith, before, here))
+      priority-before : getD r (getD parents n 0) 0 ≡ priority p (node (forest p) (parentAt (forest p) n))
+      priority-before =
+          column-at (nodePriorities p) r n (v .are) (omega (arith, length-node-priorities p, v .at-most)) (getD parents n 0) before ∙ node-priorities-at p (getD parents n 0) (omega (arith, before, here))
           ∙ ap (λ (i : ℕ). priority p (node (forest p) i)) (w .parents-are n l)
 
-      pub ranking-parent : (getD parents n 0 < length r) × (getD r (getD parents n 0) 0 < 255)
-      ranking-parent = (
+      pub prioritised-parent : (getD parents n 0 < length r) × (getD r (getD parents n 0) 0 < 255)
+      prioritised-parent = (
         omega (arith, before, v .long),
-        omega (arith, rank-before, priority-few p (node (forest p) (parentAt (forest p) n)), laws .levels (parentAt (forest p) n) (omega (arith, before, here, w .parents-are n l)), legal-counts p lawful .colours-few),
+        omega (arith, priority-before, priority-few p (node (forest p) (parentAt (forest p) n)), laws .levels (parentAt (forest p) n) (omega (arith, before, here, w .parents-are n l)), legal-counts p lawful .colours-few),
       )
 
-      pub ranking-child : Ranking p r₀ (set r n (getD r (getD parents n 0) 0 + 1)) (n + 1)
-      ranking-child = ranking-more (ap (λ (k : ℕ). k + 1) rank-before ∙ sym (priority-child p (node (forest p) (parentAt (forest p) n)) (node (forest p) n) (numbers .level-up n here child) (numbers .accepted-child n here child)))
+      pub prioritised-child : Prioritised p r₀ (set r n (getD r (getD parents n 0) 0 + 1)) (n + 1)
+      prioritised-child = prioritised-more (ap (λ (k : ℕ). k + 1) priority-before ∙ sym (priority-child p (node (forest p) (parentAt (forest p) n)) (node (forest p) n) (numbers .level-up n here child) (numbers .accepted-child n here child)))
 
 -- ---- what filling gives
 module _ (p : Policy) (m₀ q₀ r₀ : List ℕ) where
   -- all nodes are written
-  pub filled-whole : {m q r : List ℕ} {n : ℕ} → n ≡ length (forest p) → n ≤ min (length m₀) 65535 → m ≡ padded (length m₀) (nodeMasks p) → q ≡ padded (length q₀) (nodeParents p) → r ≡ padded (length r₀) (nodeRanks p)
+  pub filled-whole : {m q r : List ℕ} {n : ℕ} → n ≡ length (forest p) → n ≤ min (length m₀) 65535 → m ≡ padded (length m₀) (nodeMasks p) → q ≡ padded (length q₀) (nodeParents p) → r ≡ padded (length r₀) (nodePriorities p)
       → (Nodes n ≡ fillingOf p (nodeTables m₀ q₀ r₀)) × (nodeTables m q r ≡ filledOf p (nodeTables m₀ q₀ r₀))
   unfolding fillingOf filledOf nodesFit
   filled-whole {m} {q} {r} {n} e h em eq er =
@@ -271,10 +271,10 @@ module _ (p : Policy) (m₀ q₀ r₀ : List ℕ) where
 pub cleared-zeros : (m₀ q₀ r₀ : List ℕ) {m q r : List ℕ} → length q₀ ≡ length m₀ → length r₀ ≡ length m₀ → (m ≡ zeros m₀) × (q ≡ zeros q₀) × (r ≡ zeros r₀) → Cleared m q r
 cleared-zeros m₀ q₀ r₀ {m} {q} {r} lq lr z = record {
   parents-long = ap length (z .1) ∙ length-zeros q₀ ∙ lq ∙ sym (ap length (z .0) ∙ length-zeros m₀);
-  ranks-long = ap length (z .2) ∙ length-zeros r₀ ∙ lr ∙ sym (ap length (z .0) ∙ length-zeros m₀);
+  node-priorities-long = ap length (z .2) ∙ length-zeros r₀ ∙ lr ∙ sym (ap length (z .0) ∙ length-zeros m₀);
   masks-are = z .0 ∙ zeros-same m₀ m (sym (ap length (z .0) ∙ length-zeros m₀));
   parents-are = z .1 ∙ zeros-same q₀ q (sym (ap length (z .1) ∙ length-zeros q₀));
-  ranks-are = z .2 ∙ zeros-same r₀ r (sym (ap length (z .2) ∙ length-zeros r₀));
+  node-priorities-are = z .2 ∙ zeros-same r₀ r (sym (ap length (z .2) ∙ length-zeros r₀));
 }
 
 pub none-seen : (n i : ℕ) → getD {A = ℕ} (replicate n 0) i 0 ≡ 0

@@ -9,7 +9,7 @@ use Rattle.policy.specs.declared.Policy.{Policy}
 use Rattle.tables.specs.Tables.{padded, zeros}
 use Rattle.decomposition.specs.declared.nodes.Filled.{Filled}
 use Rattle.decomposition.specs.declared.nodes.Filled.the-variants.{Nodes, TooMany}
-use Rattle.forest.specs.Forest.{nodeMasks, nodeParents, nodeRanks, Node, forest, priority, node}
+use Rattle.forest.specs.Forest.{nodeMasks, nodeParents, nodePriorities, Node, forest, priority, node}
 use Rattle.candidates.specs.Candidates.{judged, rootCandidates}
 
 -- the lists that nodes are looked for in: the candidates of either verdict, and those for roots
@@ -19,12 +19,12 @@ pub record Sought (p : Policy) (accepting rejecting roots : List ℕ) : Type 0 w
   pub roots-are : roots ≡ rootCandidates p
 
 -- three tables of one length, with 0 in every place
-pub record Cleared (masks parents ranks : List ℕ) : Type 0 where
+pub record Cleared (masks parents node-priorities : List ℕ) : Type 0 where
   pub parents-long : length parents ≡ length masks
-  pub ranks-long : length ranks ≡ length masks
+  pub node-priorities-long : length node-priorities ≡ length masks
   pub masks-are : masks ≡ zeros masks
   pub parents-are : parents ≡ zeros parents
-  pub ranks-are : ranks ≡ zeros ranks
+  pub node-priorities-are : node-priorities ≡ zeros node-priorities
 
 -- the n nodes of the forest: their masks and parents in two tables
 pub record Written (p : Policy) (masks parents : List ℕ) (n : ℕ) : Type 0 where
@@ -63,10 +63,10 @@ pub record Space (accepting rejecting seen kids : List ℕ) : Type 0 where
 pub record NodeTables : Type 0 where
   pub masks : List ℕ
   pub parents : List ℕ
-  pub ranks : List ℕ
+  pub node-priorities : List ℕ
 
 abbrev pub nodeTables : List ℕ → List ℕ → List ℕ → NodeTables
-nodeTables m q r = record { masks = m; parents = q; ranks = r }
+nodeTables m q r = record { masks = m; parents = q; node-priorities = r }
 
 module _ (p : Policy) (t : NodeTables) where
   -- question 9: the nodes fit. Only the first 65,535 places of a table count
@@ -80,5 +80,5 @@ module _ (p : Policy) (t : NodeTables) where
   -- the tables at exit: the columns of the forest where the nodes fit, and otherwise 0 in every place
   unfoldable pub filledOf : NodeTables
   filledOf =
-      cond nodesFit (nodeTables (padded (length (t .masks)) (nodeMasks p)) (padded (length (t .parents)) (nodeParents p)) (padded (length (t .ranks)) (nodeRanks p)))
-      (nodeTables (zeros (t .masks)) (zeros (t .parents)) (zeros (t .ranks)))
+      cond nodesFit (nodeTables (padded (length (t .masks)) (nodeMasks p)) (padded (length (t .parents)) (nodeParents p)) (padded (length (t .node-priorities)) (nodePriorities p)))
+      (nodeTables (zeros (t .masks)) (zeros (t .parents)) (zeros (t .node-priorities)))

@@ -1,5 +1,5 @@
 // The node tables: the nodes of the forest, tree by tree, and their priorities.
-// Beside a policy stand its arrays, lent: `heads` are the targets of its edges, `hues` their colours; `by` has the edges of each colour.
+// Beside a policy stand its arrays, lent: `heads` are the targets of its edges, `colours` their colours; `by` has the edges of each colour.
 ghost use mathlib.Core.Path.{_≡_};
 ghost use mathlib.Core.Bool.{true, cond};
 ghost use Prim.Native.Nat.{_+_, _*_, _^_, _<_, _≤_, min};
@@ -8,7 +8,7 @@ ghost use Rattle.policy.specs.Policies.{accepting, legal};
 ghost use Rattle.policy.specs.ByColour.{byColour};
 ghost use Rattle.tables.specs.Tables.{zeros, padded};
 ghost use Rattle.decomposition.specs.NodeTables.{Sought, Cleared, Lent, Spare, Space, Written, nodeTables, fillingOf, filledOf};
-ghost use Rattle.forest.specs.Forest.{nodeRanks};
+ghost use Rattle.forest.specs.Forest.{nodePriorities};
 use policy::Policy;
 
 // What filling the node tables answers: how many nodes there are, or that they do not fit.
@@ -27,7 +27,7 @@ fn lesser(a: usize, b: usize) -> usize
 }
 
 // The priority of a root goes by its verdict.
-fn root_rank(p: Policy, by: &[u64; 8], family: &[bool; 256], m: u64) -> u8
+fn root_priority(p: Policy, by: &[u64; 8], family: &[bool; 256], m: u64) -> u8
     requires { ⌜ (legal p ≡ true) × (now by ≡ byColour p) × (now family ≡ p .family) ⌝ }
     ensures { λ r. ⌜ r ≡ cond (accepting p m) 0 1 ⌝ }
 {
@@ -38,37 +38,37 @@ fn root_rank(p: Policy, by: &[u64; 8], family: &[bool; 256], m: u64) -> u8
 }
 
 // The priorities of all nodes, in a table that is cleared: a child's is one more than its parent's.
-fn write_ranks(
+fn write_priorities(
     p: Policy,
     by: &[u64; 8],
     family: &[bool; 256],
     masks: &[u64],
     parents: &[u16],
-    ranks: &mut [u8],
+    node_priorities: &mut [u8],
     count: usize,
 )
     requires lent { ⌜ (now by ≡ byColour p) × (now family ≡ p .family) ⌝ }
-    requires written { ⌜ (legal p ≡ true) × Written p (now masks) (now parents) count × (count ≤ length (now ranks)) × (now ranks ≡ zeros (now ranks)) ⌝ }
-    ensures { λ _. ⌜ now (ranks .exit) ≡ padded (length (now (ranks .entry))) (nodeRanks p) ⌝ }
+    requires written { ⌜ (legal p ≡ true) × Written p (now masks) (now parents) count × (count ≤ length (now «node_priorities»)) × (now «node_priorities» ≡ zeros (now «node_priorities»)) ⌝ }
+    ensures { λ _. ⌜ now («node_priorities» .exit) ≡ padded (length (now («node_priorities» .entry))) (nodePriorities p) ⌝ }
 {
     for n in 0..count {
         let parent = parents[n];
         if parent == 65535 {
-            ranks[n] = root_rank(p, by, family, masks[n]);
+            node_priorities[n] = root_priority(p, by, family, masks[n]);
         } else {
             let q = parent as usize;
-            ranks[n] = ranks[q] + 1;
+            node_priorities[n] = node_priorities[q] + 1;
         }
     }
 }
 
 // 0 in every place.
-fn clear_nodes(masks: &mut [u64], parents: &mut [u16], ranks: &mut [u8])
-    ensures { λ _. ⌜ (now (masks .exit) ≡ zeros (now (masks .entry))) × (now (parents .exit) ≡ zeros (now (parents .entry))) × (now (ranks .exit) ≡ zeros (now (ranks .entry))) ⌝ }
+fn clear_nodes(masks: &mut [u64], parents: &mut [u16], node_priorities: &mut [u8])
+    ensures { λ _. ⌜ (now (masks .exit) ≡ zeros (now (masks .entry))) × (now (parents .exit) ≡ zeros (now (parents .entry))) × (now («node_priorities» .exit) ≡ zeros (now («node_priorities» .entry))) ⌝ }
 {
     tables::clear64(masks);
     tables::clear16(parents);
-    tables::clear8(ranks);
+    tables::clear8(node_priorities);
 }
 
 // The nodes, written to tables that are cleared; where they do not fit, the tables are cleared again.
@@ -81,14 +81,14 @@ fn write_nodes(
     roots: &[u64],
     masks: &mut [u64],
     parents: &mut [u16],
-    ranks: &mut [u8],
+    node_priorities: &mut [u8],
     seen: &mut [u32],
     kids: &mut [u16],
 ) -> Filled
     requires lent { ⌜ (now by ≡ byColour p) × (now family ≡ p .family) ⌝ }
-    requires space { ⌜ (legal p ≡ true) × Sought p (now accepting) (now rejecting) (now roots) × Cleared (now masks) (now parents) (now ranks) × Lent p (now accepting) (now rejecting) (now seen) (now kids) ⌝ }
-    ensures answer { λ r. ⌜ r ≡ fillingOf p (nodeTables (now (masks .entry)) (now (parents .entry)) (now (ranks .entry))) ⌝ }
-    ensures written { λ _. ⌜ nodeTables (now (masks .exit)) (now (parents .exit)) (now (ranks .exit)) ≡ filledOf p (nodeTables (now (masks .entry)) (now (parents .entry)) (now (ranks .entry))) ⌝ }
+    requires space { ⌜ (legal p ≡ true) × Sought p (now accepting) (now rejecting) (now roots) × Cleared (now masks) (now parents) (now «node_priorities») × Lent p (now accepting) (now rejecting) (now seen) (now kids) ⌝ }
+    ensures answer { λ r. ⌜ r ≡ fillingOf p (nodeTables (now (masks .entry)) (now (parents .entry)) (now («node_priorities» .entry))) ⌝ }
+    ensures written { λ _. ⌜ nodeTables (now (masks .exit)) (now (parents .exit)) (now («node_priorities» .exit)) ≡ filledOf p (nodeTables (now (masks .entry)) (now (parents .entry)) (now («node_priorities» .entry))) ⌝ }
 {
     let places = lesser(masks.len(), 65535);
     let count = trees::trees::grow_roots(
@@ -105,10 +105,10 @@ fn write_nodes(
         kids,
     );
     if places < count {
-        clear_nodes(masks, parents, ranks);
+        clear_nodes(masks, parents, node_priorities);
         return Filled::TooMany;
     }
-    write_ranks(p, by, family, masks, parents, ranks, count);
+    write_priorities(p, by, family, masks, parents, node_priorities, count);
     Filled::Nodes(count)
 }
 
@@ -116,7 +116,7 @@ fn write_nodes(
 fn list_and_write(
     p: Policy,
     heads: &[u8; 64],
-    hues: &[u8; 64],
+    colours: &[u8; 64],
     family: &[bool; 256],
     accepting: &mut [u64],
     rejecting: &mut [u64],
@@ -124,15 +124,15 @@ fn list_and_write(
     kids: &mut [u16],
     masks: &mut [u64],
     parents: &mut [u16],
-    ranks: &mut [u8],
+    node_priorities: &mut [u8],
 ) -> Filled
-    requires lent { ⌜ (now heads ≡ p .target) × (now hues ≡ p .colour) × (now family ≡ p .family) ⌝ }
-    requires space { ⌜ (legal p ≡ true) × Cleared (now masks) (now parents) (now ranks) × Spare p (now accepting) (now rejecting) (now seen) (now kids) ⌝ }
-    ensures answer { λ r. ⌜ r ≡ fillingOf p (nodeTables (now (masks .entry)) (now (parents .entry)) (now (ranks .entry))) ⌝ }
-    ensures written { λ _. ⌜ nodeTables (now (masks .exit)) (now (parents .exit)) (now (ranks .exit)) ≡ filledOf p (nodeTables (now (masks .entry)) (now (parents .entry)) (now (ranks .entry))) ⌝ }
+    requires lent { ⌜ (now heads ≡ p .target) × (now colours ≡ p .colour) × (now family ≡ p .family) ⌝ }
+    requires space { ⌜ (legal p ≡ true) × Cleared (now masks) (now parents) (now «node_priorities») × Spare p (now accepting) (now rejecting) (now seen) (now kids) ⌝ }
+    ensures answer { λ r. ⌜ r ≡ fillingOf p (nodeTables (now (masks .entry)) (now (parents .entry)) (now («node_priorities» .entry))) ⌝ }
+    ensures written { λ _. ⌜ nodeTables (now (masks .exit)) (now (parents .exit)) (now («node_priorities» .exit)) ≡ filledOf p (nodeTables (now (masks .entry)) (now (parents .entry)) (now («node_priorities» .entry))) ⌝ }
 {
     let mut roots = [0u64; 16];
-    let by = policy::by_colour(p, hues);
+    let by = policy::by_colour(p, colours);
     let listed = candidates::fill_candidates(
         p,
         heads,
@@ -154,7 +154,7 @@ fn list_and_write(
         &roots[..rooted],
         masks,
         parents,
-        ranks,
+        node_priorities,
         seen,
         kids,
     )
@@ -172,7 +172,7 @@ fn most_candidates(p: Policy) -> usize
 fn fill_within(
     p: Policy,
     heads: &[u8; 64],
-    hues: &[u8; 64],
+    colours: &[u8; 64],
     family: &[bool; 256],
     accepting: &mut [u64],
     rejecting: &mut [u64],
@@ -180,19 +180,19 @@ fn fill_within(
     kids: &mut [u16],
     masks: &mut [u64],
     parents: &mut [u16],
-    ranks: &mut [u8],
+    node_priorities: &mut [u8],
 ) -> Filled
-    requires lent { ⌜ (now heads ≡ p .target) × (now hues ≡ p .colour) × (now family ≡ p .family) ⌝ }
-    requires space { ⌜ (legal p ≡ true) × Cleared (now masks) (now parents) (now ranks) × Space (now accepting) (now rejecting) (now seen) (now kids) ⌝ }
-    ensures answer { λ r. ⌜ r ≡ fillingOf p (nodeTables (now (masks .entry)) (now (parents .entry)) (now (ranks .entry))) ⌝ }
-    ensures written { λ _. ⌜ nodeTables (now (masks .exit)) (now (parents .exit)) (now (ranks .exit)) ≡ filledOf p (nodeTables (now (masks .entry)) (now (parents .entry)) (now (ranks .entry))) ⌝ }
+    requires lent { ⌜ (now heads ≡ p .target) × (now colours ≡ p .colour) × (now family ≡ p .family) ⌝ }
+    requires space { ⌜ (legal p ≡ true) × Cleared (now masks) (now parents) (now «node_priorities») × Space (now accepting) (now rejecting) (now seen) (now kids) ⌝ }
+    ensures answer { λ r. ⌜ r ≡ fillingOf p (nodeTables (now (masks .entry)) (now (parents .entry)) (now («node_priorities» .entry))) ⌝ }
+    ensures written { λ _. ⌜ nodeTables (now (masks .exit)) (now (parents .exit)) (now («node_priorities» .exit)) ≡ filledOf p (nodeTables (now (masks .entry)) (now (parents .entry)) (now («node_priorities» .entry))) ⌝ }
 {
     let most = most_candidates(p);
     if most <= seen.len() {
         return list_and_write(
             p,
             heads,
-            hues,
+            colours,
             family,
             accepting,
             rejecting,
@@ -200,7 +200,7 @@ fn fill_within(
             kids,
             masks,
             parents,
-            ranks,
+            node_priorities,
         );
     }
     if most <= 256 {
@@ -211,7 +211,7 @@ fn fill_within(
         return fill_within(
             p,
             heads,
-            hues,
+            colours,
             family,
             &mut more_accepting,
             &mut more_rejecting,
@@ -219,26 +219,26 @@ fn fill_within(
             &mut more_kids,
             masks,
             parents,
-            ranks,
+            node_priorities,
         );
     }
-    fill_large(p, heads, hues, family, masks, parents, ranks)
+    fill_large(p, heads, colours, family, masks, parents, node_priorities)
 }
 
 // With space for any policy.
 fn fill_large(
     p: Policy,
     heads: &[u8; 64],
-    hues: &[u8; 64],
+    colours: &[u8; 64],
     family: &[bool; 256],
     masks: &mut [u64],
     parents: &mut [u16],
-    ranks: &mut [u8],
+    node_priorities: &mut [u8],
 ) -> Filled
-    requires lent { ⌜ (now heads ≡ p .target) × (now hues ≡ p .colour) × (now family ≡ p .family) ⌝ }
-    requires cleared { ⌜ (legal p ≡ true) × Cleared (now masks) (now parents) (now ranks) ⌝ }
-    ensures answer { λ r. ⌜ r ≡ fillingOf p (nodeTables (now (masks .entry)) (now (parents .entry)) (now (ranks .entry))) ⌝ }
-    ensures written { λ _. ⌜ nodeTables (now (masks .exit)) (now (parents .exit)) (now (ranks .exit)) ≡ filledOf p (nodeTables (now (masks .entry)) (now (parents .entry)) (now (ranks .entry))) ⌝ }
+    requires lent { ⌜ (now heads ≡ p .target) × (now colours ≡ p .colour) × (now family ≡ p .family) ⌝ }
+    requires cleared { ⌜ (legal p ≡ true) × Cleared (now masks) (now parents) (now «node_priorities») ⌝ }
+    ensures answer { λ r. ⌜ r ≡ fillingOf p (nodeTables (now (masks .entry)) (now (parents .entry)) (now («node_priorities» .entry))) ⌝ }
+    ensures written { λ _. ⌜ nodeTables (now (masks .exit)) (now (parents .exit)) (now («node_priorities» .exit)) ≡ filledOf p (nodeTables (now (masks .entry)) (now (parents .entry)) (now («node_priorities» .entry))) ⌝ }
 {
     let mut accepting = [0u64; 4096];
     let mut rejecting = [0u64; 4096];
@@ -247,7 +247,7 @@ fn fill_large(
     fill_within(
         p,
         heads,
-        hues,
+        colours,
         family,
         &mut accepting,
         &mut rejecting,
@@ -255,7 +255,7 @@ fn fill_large(
         &mut kids,
         masks,
         parents,
-        ranks,
+        node_priorities,
     )
 }
 
@@ -263,18 +263,18 @@ fn fill_large(
 pub fn fill_nodes<'a>(
     p: Policy,
     heads: &'a [u8; 64],
-    hues: &'a [u8; 64],
+    colours: &'a [u8; 64],
     family: &'a [bool; 256],
     masks: &mut [u64],
     parents: &mut [u16],
-    ranks: &mut [u8],
+    node_priorities: &mut [u8],
 ) -> Filled
-    requires lent { ⌜ (now heads ≡ p .target) × (now hues ≡ p .colour) × (now family ≡ p .family) ⌝ }
-    requires tables { ⌜ (legal p ≡ true) × (length (now parents) ≡ length (now masks)) × (length (now ranks) ≡ length (now masks)) ⌝ }
-    ensures answer { λ r. ⌜ r ≡ fillingOf p (nodeTables (now (masks .entry)) (now (parents .entry)) (now (ranks .entry))) ⌝ }
-    ensures filled { λ _. ⌜ nodeTables (now (masks .exit)) (now (parents .exit)) (now (ranks .exit)) ≡ filledOf p (nodeTables (now (masks .entry)) (now (parents .entry)) (now (ranks .entry))) ⌝ }
+    requires lent { ⌜ (now heads ≡ p .target) × (now colours ≡ p .colour) × (now family ≡ p .family) ⌝ }
+    requires tables { ⌜ (legal p ≡ true) × (length (now parents) ≡ length (now masks)) × (length (now «node_priorities») ≡ length (now masks)) ⌝ }
+    ensures answer { λ r. ⌜ r ≡ fillingOf p (nodeTables (now (masks .entry)) (now (parents .entry)) (now («node_priorities» .entry))) ⌝ }
+    ensures filled { λ _. ⌜ nodeTables (now (masks .exit)) (now (parents .exit)) (now («node_priorities» .exit)) ≡ filledOf p (nodeTables (now (masks .entry)) (now (parents .entry)) (now («node_priorities» .entry))) ⌝ }
 {
-    clear_nodes(masks, parents, ranks);
+    clear_nodes(masks, parents, node_priorities);
     let mut accepting = [0u64; 32];
     let mut rejecting = [0u64; 32];
     let mut seen = [0u32; 32];
@@ -283,7 +283,7 @@ pub fn fill_nodes<'a>(
         return list_and_write(
             p,
             heads,
-            hues,
+            colours,
             family,
             &mut accepting,
             &mut rejecting,
@@ -291,13 +291,13 @@ pub fn fill_nodes<'a>(
             &mut kids,
             masks,
             parents,
-            ranks,
+            node_priorities,
         );
     }
     fill_within(
         p,
         heads,
-        hues,
+        colours,
         family,
         &mut accepting,
         &mut rejecting,
@@ -305,6 +305,6 @@ pub fn fill_nodes<'a>(
         &mut kids,
         masks,
         parents,
-        ranks,
+        node_priorities,
     )
 }

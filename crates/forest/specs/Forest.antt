@@ -122,5 +122,5 @@ module _ (p : Policy) where
   unfoldable pub nodeParents : List ℕ
   nodeParents = map (λ (x : Node). x .parent) (forest p)
 
-  unfoldable pub nodeRanks : List ℕ
-  nodeRanks = map (priority p) (forest p)
+  unfoldable pub nodePriorities : List ℕ
+  nodePriorities = map (priority p) (forest p)

@@ -25,12 +25,12 @@ fn show_node(n: u64, mask: u64, parent: u16, rank: u8) {
 }
 
 // The first nodes of the tables, and whether a place past them is not 0.
-fn show_tables(count: usize, masks: &[u64; 256], parents: &[u16; 256], ranks: &[u8; 256]) {
+fn show_tables(count: usize, masks: &[u64; 256], parents: &[u16; 256], node_priorities: &[u8; 256]) {
     let mut n = 0;
     while n < 256 {
         if n < count {
-            show_node(n as u64, masks[n], parents[n], ranks[n]);
-        } else if masks[n] != 0 || parents[n] != 0 || ranks[n] != 0 {
+            show_node(n as u64, masks[n], parents[n], node_priorities[n]);
+        } else if masks[n] != 0 || parents[n] != 0 || node_priorities[n] != 0 {
             show_number(b"not 0 past the nodes: ", n as u64);
             io::write_all(1, b"\n");
         }
@@ -60,7 +60,7 @@ fn show_forest(name: &[u8], bytes: &[u8]) {
     if policy::is_legal(p) {
         let mut masks = [7u64; 256];
         let mut parents = [7u16; 256];
-        let mut ranks = [7u8; 256];
+        let mut node_priorities = [7u8; 256];
         let f = decomposition::nodes::fill_nodes(
             p,
             &p.target,
@@ -68,9 +68,9 @@ fn show_forest(name: &[u8], bytes: &[u8]) {
             &p.family,
             &mut masks,
             &mut parents,
-            &mut ranks,
+            &mut node_priorities,
         );
-        show_tables(show_filled(f), &masks, &parents, &ranks);
+        show_tables(show_filled(f), &masks, &parents, &node_priorities);
     } else {
         io::write_all(1, b": not legal\n");
     }
@@ -84,7 +84,7 @@ fn show_short(bytes: &[u8]) {
     if policy::is_legal(p) {
         let mut masks = [7u64; 2];
         let mut parents = [7u16; 2];
-        let mut ranks = [7u8; 2];
+        let mut node_priorities = [7u8; 2];
         let f = decomposition::nodes::fill_nodes(
             p,
             &p.target,
@@ -92,11 +92,11 @@ fn show_short(bytes: &[u8]) {
             &p.family,
             &mut masks,
             &mut parents,
-            &mut ranks,
+            &mut node_priorities,
         );
         show_filled(f);
-        show_node(0, masks[0], parents[0], ranks[0]);
-        show_node(1, masks[1], parents[1], ranks[1]);
+        show_node(0, masks[0], parents[0], node_priorities[0]);
+        show_node(1, masks[1], parents[1], node_priorities[1]);
     }
 }
 

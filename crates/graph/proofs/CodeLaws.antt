@@ -15,8 +15,8 @@ use lib.Bits.{bitOr}
 use lib.ListN.{length, getD, set, length-set}
 use lib.Seq.{getD-set-same, getD-set-other}
 use Rattle.lists.proofs.Bools.{test, or-cases, or-left, or-right, and-l, and-r, both, eqb≡, ≡eqb, bool-ext}
-use Rattle.masks.specs.Masks.{has, insert, gather, members}
-use Rattle.masks.proofs.Gather.{gather-none, gather-in, gather-out, has-gather}
+use Rattle.masks.specs.Masks.{has, insert, maskOf, members}
+use Rattle.masks.proofs.MaskOf.{mask-of-none, mask-of-in, mask-of-out, has-mask-of}
 use Rattle.masks.proofs.Bits.{has-none, has-or, has-insert, mask-ext}
 use Rattle.policy.specs.declared.Policy.{Policy}
 use Rattle.policy.specs.Policies.{edges, edgeOf, source, targetOf, legal}
@@ -24,7 +24,7 @@ use Rattle.policy.proofs.Laws.{legal-counts, edges-le, legal-target, source-edg
 use Rattle.graph.specs.Cycles.{Path, reach}
 use Rattle.graph.specs.Through.{cycleThrough, Rows, withEdge, edgeRow, edgeRows, States, joinRow, joinRows, joinedRows, mutualTo, inner, innerTo}
 use Rattle.graph.proofs.Paths.{members-has, members-lt, reach-sound, reach-complete}
-use Rattle.graph.proofs.Coloured.{gather-some}
+use Rattle.graph.proofs.Coloured.{mask-of-some}
 use Rattle.graph.proofs.Through.{Leads, leads-join, leads-edge, through-some, some-through}
 
 -- ---- one more member
@@ -337,7 +337,7 @@ joined-more rows n k = rw add-one
 
 pub mutual-none : (rows : List ℕ) (v : ℕ) → mutualTo rows v 0 ≡ 0
 unfolding mutualTo
-mutual-none rows v = gather-none (λ (w : ℕ). has (getD rows v 0) w && has (getD rows w 0) v)
+mutual-none rows v = mask-of-none (λ (w : ℕ). has (getD rows v 0) w && has (getD rows w 0) v)
 
 pub mutual-next : (rows : List ℕ) (v n : ℕ)
     → mutualTo rows v (n + 1) ≡ cond (has (getD rows v 0) n && has (getD rows n 0) v) (insert (mutualTo rows v n) n) (mutualTo rows v n)
@@ -345,8 +345,8 @@ unfolding mutualTo
 mutual-next rows v n = go (has (getD rows v 0) n && has (getD rows n 0) v) refl
   where
     go : (b : Bool) → has (getD rows v 0) n && has (getD rows n 0) v ≡ b → mutualTo rows v (n + 1) ≡ cond b (insert (mutualTo rows v n) n) (mutualTo rows v n)
-    go true h = gather-in (λ (w : ℕ). has (getD rows v 0) w && has (getD rows w 0) v) n h
-    go false h = gather-out (λ (w : ℕ). has (getD rows v 0) w && has (getD rows w 0) v) n h
+    go true h = mask-of-in (λ (w : ℕ). has (getD rows v 0) w && has (getD rows w 0) v) n h
+    go false h = mask-of-out (λ (w : ℕ). has (getD rows v 0) w && has (getD rows w 0) v) n h
 
 pub inner-none : (t : List ℕ) (l m s u x : ℕ) → inner t l m s u x 0 ≡ x
 unfolding inner
@@ -377,7 +377,7 @@ module _ (p : Policy) (ok : legal p ≡ true) (m s : ℕ) where
 
   -- such edges that leave the states below u
   betweenTo : ℕ → ℕ
-  betweenTo u = gather between (u * p .letters)
+  betweenTo u = maskOf between (u * p .letters)
 
   module _ (u : ℕ) where
     -- whether the edge at letter a is one, by whether s has u
@@ -385,9 +385,9 @@ module _ (p : Policy) (ok : legal p ≡ true) (m s : ℕ) where
     unfolding between targetOf edgeOf
     between-at b h a la = rw (source-edge p ok u a la, h) refl
 
-    inner-between : has s u ≡ true → (a : ℕ) → a ≤ p .letters → inner (p .target) (p .letters) m s u (betweenTo u) a ≡ gather between (u * p .letters + a)
+    inner-between : has s u ≡ true → (a : ℕ) → a ≤ p .letters → inner (p .target) (p .letters) m s u (betweenTo u) a ≡ maskOf between (u * p .letters + a)
     unfolding inner betweenTo
-    inner-between h zero k = ap (gather between) (sym (add-zero (u * p .letters)))
+    inner-between h zero k = ap (maskOf between) (sym (add-zero (u * p .letters)))
     inner-between h (suc a) k = go (test into) (inner-between h a (omega arith))
       where
         e : ℕ
@@ -399,29 +399,29 @@ module _ (p : Policy) (ok : legal p ≡ true) (m s : ℕ) where
         is : between e ≡ into
         is = between-at true h a k ∙ ap (λ (b : Bool). b && has s (getD (p .target) e 0)) (and-true (has m e))
 
-        next : gather between (e + 1) ≡ gather between (u * p .letters + suc a)
-        next = let q : e + 1 ≡ u * p .letters + suc a = omega arith in ap (gather between) q
+        next : maskOf between (e + 1) ≡ maskOf between (u * p .letters + suc a)
+        next = let q : e + 1 ≡ u * p .letters + suc a = omega arith in ap (maskOf between) q
 
-        go : (into ≡ true) ⊎ (into ≡ false) → inner (p .target) (p .letters) m s u (betweenTo u) a ≡ gather between e → inner (p .target) (p .letters) m s u (betweenTo u) (suc a) ≡ gather between (u * p .letters + suc a)
-        go (inl t) ih = rw t (ap (λ (x : ℕ). insert x e) ih ∙ sym (gather-in between e (is ∙ t)) ∙ next)
-        go (inr f) ih = rw f (ih ∙ sym (gather-out between e (is ∙ f)) ∙ next)
+        go : (into ≡ true) ⊎ (into ≡ false) → inner (p .target) (p .letters) m s u (betweenTo u) a ≡ maskOf between e → inner (p .target) (p .letters) m s u (betweenTo u) (suc a) ≡ maskOf between (u * p .letters + suc a)
+        go (inl t) ih = rw t (ap (λ (x : ℕ). insert x e) ih ∙ sym (mask-of-in between e (is ∙ t)) ∙ next)
+        go (inr f) ih = rw f (ih ∙ sym (mask-of-out between e (is ∙ f)) ∙ next)
 
-    none-between : has s u ≡ false → (a : ℕ) → a ≤ p .letters → betweenTo u ≡ gather between (u * p .letters + a)
+    none-between : has s u ≡ false → (a : ℕ) → a ≤ p .letters → betweenTo u ≡ maskOf between (u * p .letters + a)
     unfolding betweenTo
-    none-between h zero k = ap (gather between) (sym (add-zero (u * p .letters)))
+    none-between h zero k = ap (maskOf between) (sym (add-zero (u * p .letters)))
     none-between h (suc a) k =
         let e = u * p .letters + a in
         let off : between e ≡ false = between-at false h a k ∙ ap (λ (b : Bool). b && has s (getD (p .target) e 0)) (and-false (has m e)) in
         let q : e + 1 ≡ u * p .letters + suc a = omega arith in
-        none-between h a (omega arith) ∙ sym (gather-out between e off) ∙ ap (gather between) q
+        none-between h a (omega arith) ∙ sym (mask-of-out between e off) ∙ ap (maskOf between) q
 
-    last : gather between (u * p .letters + p .letters) ≡ betweenTo (suc u)
+    last : maskOf between (u * p .letters + p .letters) ≡ betweenTo (suc u)
     unfolding betweenTo
-    last = let q : u * p .letters + p .letters ≡ suc u * p .letters = rw (suc-mul u (p .letters)) (omega arith) in ap (gather between) q
+    last = let q : u * p .letters + p .letters ≡ suc u * p .letters = rw (suc-mul u (p .letters)) (omega arith) in ap (maskOf between) q
 
   inner-to : (u : ℕ) → innerTo (p .target) (p .letters) m s u ≡ betweenTo u
   unfolding innerTo betweenTo
-  inner-to zero = sym (ap (gather between) (zero-mul (p .letters)) ∙ gather-none between)
+  inner-to zero = sym (ap (maskOf between) (zero-mul (p .letters)) ∙ mask-of-none between)
   inner-to (suc u) = go (test (has s u)) (inner-to u)
     where
       go : (has s u ≡ true) ⊎ (has s u ≡ false) → innerTo (p .target) (p .letters) m s u ≡ betweenTo u → innerTo (p .target) (p .letters) m s (suc u) ≡ betweenTo (suc u)
@@ -443,7 +443,7 @@ module _ (p : Policy) (ok : legal p ≡ true) (m v : ℕ) (rows : List ℕ) (is 
   ring-some : (w : ℕ) → has ring w ≡ true → Leads p m v w × Leads p m w v
   unfolding ring mutualTo es
   ring-some w h =
-      let r = gather-some (λ (w : ℕ). has (getD rows v 0) w && has (getD rows w 0) v) (p .states) w h in
+      let r = mask-of-some (λ (w : ℕ). has (getD rows v 0) w && has (getD rows w 0) v) (p .states) w h in
       let a = and-l (has (getD rows v 0) w) (has (getD rows w 0) v) (r .1) in
       let b = and-r (has (getD rows v 0) w) (has (getD rows w 0) v) (r .1) in
       (reach-sound p es v w (ap (λ (x : ℕ). has x w) (sym (is v l)) ∙ a), reach-sound p es w v (ap (λ (x : ℕ). has x v) (sym (is w (r .0))) ∙ b))
@@ -451,7 +451,7 @@ module _ (p : Policy) (ok : legal p ≡ true) (m v : ℕ) (rows : List ℕ) (is 
   some-ring : (w : ℕ) → w < p .states → Leads p m v w → Leads p m w v → has ring w ≡ true
   unfolding ring mutualTo es
   some-ring w lw a b =
-      has-gather (λ (w : ℕ). has (getD rows v 0) w && has (getD rows w 0) v) (p .states) w lw
+      has-mask-of (λ (w : ℕ). has (getD rows v 0) w && has (getD rows w 0) v) (p .states) w lw
       ∙ both (has (getD rows v 0) w) (has (getD rows w 0) v) (ap (λ (x : ℕ). has x w) (is v l) ∙ reach-complete p es v l targets-lt (a .0) w (a .1))
       (ap (λ (x : ℕ). has x v) (is w lw) ∙ reach-complete p es w lw targets-lt (b .0) v (b .1))
 
@@ -464,7 +464,7 @@ module _ (p : Policy) (ok : legal p ≡ true) (m v : ℕ) (rows : List ℕ) (is 
 
       there : (e : ℕ) → has (betweenTo p ok m ring (p .states)) e ≡ true → has (cycleThrough p m v) e ≡ true
       there e h =
-          let r = gather-some (between p ok m ring) (p .states * p .letters) e h in
+          let r = mask-of-some (between p ok m ring) (p .states * p .letters) e h in
           let a = and-l (has m e && has ring (source p e)) (has ring (targetOf p e)) (r .1) in
           let t = and-l (has m e) (has ring (source p e)) a in
           some-through p targets m v l e (r .0) t (ring-some (source p e) (and-r (has m e) (has ring (source p e)) a) .0) (ring-some (targetOf p e) (and-r (has m e && has ring (source p e)) (has ring (targetOf p e)) (r .1)) .1)
@@ -475,7 +475,7 @@ module _ (p : Policy) (ok : legal p ≡ true) (m v : ℕ) (rows : List ℕ) (is 
           let step = leads-edge p m e (r .0) (r .1) in
           let src = some-ring (source p e) (source-lt p ok e (r .0)) (r .2) (leads-join p m (source p e) (targetOf p e) v step (r .3)) in
           let tgt = some-ring (targetOf p e) (targets e (r .0)) (leads-join p m v (source p e) (targetOf p e) (r .2) step) (r .3) in
-          has-gather (between p ok m ring) (p .states * p .letters) e (r .0)
+          has-mask-of (between p ok m ring) (p .states * p .letters) e (r .0)
           ∙ both (has m e && has ring (source p e)) (has ring (targetOf p e)) (both (has m e) (has ring (source p e)) (r .1) src) tgt
 
   pub rows-through : (t : List ℕ) (s : ℕ) → t ≡ p .target → s ≡ mutualTo rows v (p .states) → innerTo t (p .letters) m s (p .states) ≡ cycleThrough p m v

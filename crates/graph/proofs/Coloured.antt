@@ -6,33 +6,33 @@ use mathlib.Core.List.{List·Memᴰ}
 use Rattle.lists.specs.Lists.{all}
 use Rattle.lists.proofs.Bools.{and-l, and-r, both}
 use Rattle.lists.proofs.Lists.{all-each, each-all}
-use Rattle.masks.specs.Masks.{has, inside, gather}
+use Rattle.masks.specs.Masks.{has, inside, maskOf}
 use Rattle.masks.proofs.Bits.{all-inside}
-use Rattle.masks.proofs.Gather.{has-gather, gather-lt}
+use Rattle.masks.proofs.MaskOf.{has-mask-of, mask-of-lt}
 use Rattle.policy.specs.declared.Policy.{Policy}
 use Rattle.policy.specs.Policies.{edges, edgeColours, coloursOf}
 use Rattle.policy.proofs.Laws.{colours-some}
 use Rattle.graph.specs.Coloured.{coloured}
 use Rattle.graph.proofs.Cycles.{bit-lt}
 
--- what a gathered set has
-pub gather-some : (t : ℕ → Bool) (n e : ℕ) → has (gather t n) e ≡ true → (e < n) × (t e ≡ true)
-gather-some t n e h = let l = bit-lt n (gather t n) e (gather-lt t n) h in (l, sym (has-gather t n e l) ∙ h)
+-- what a mask-of-some set has
+pub mask-of-some : (t : ℕ → Bool) (n e : ℕ) → has (maskOf t n) e ≡ true → (e < n) × (t e ≡ true)
+mask-of-some t n e h = let l = bit-lt n (maskOf t n) e (mask-of-lt t n) h in (l, sym (has-mask-of t n e l) ∙ h)
 
 module _ (p : Policy) where
   pub coloured-some : (m c e : ℕ) → has (coloured p m c) e ≡ true → (e < edges p) × (has m e ≡ true) × ((d : ℕ) → List·Memᴰ d (edgeColours p e) → has c d ≡ true)
   unfolding coloured
   coloured-some m c e h =
-      let r = gather-some (λ (f : ℕ). has m f && all (has c) (edgeColours p f)) (edges p) e h in
+      let r = mask-of-some (λ (f : ℕ). has m f && all (has c) (edgeColours p f)) (edges p) e h in
       (r .0, and-l (has m e) _ (r .1), all-each (has c) (edgeColours p e) (and-r (has m e) _ (r .1)))
 
   pub some-coloured : (m c e : ℕ) → e < edges p → has m e ≡ true → ((d : ℕ) → List·Memᴰ d (edgeColours p e) → has c d ≡ true) → has (coloured p m c) e ≡ true
   unfolding coloured
-  some-coloured m c e l h t = has-gather (λ (f : ℕ). has m f && all (has c) (edgeColours p f)) (edges p) e l ∙ both (has m e) _ h (each-all (has c) (edgeColours p e) t)
+  some-coloured m c e l h t = has-mask-of (λ (f : ℕ). has m f && all (has c) (edgeColours p f)) (edges p) e l ∙ both (has m e) _ h (each-all (has c) (edgeColours p e) t)
 
   pub coloured-lt : (m c : ℕ) → coloured p m c < 2 ^ edges p
   unfolding coloured
-  coloured-lt m c = gather-lt _ (edges p)
+  coloured-lt m c = mask-of-lt _ (edges p)
 
   pub coloured-inside : (m c : ℕ) → inside (coloured p m c) m ≡ true
   coloured-inside m c = all-inside (coloured p m c) m (λ e h. coloured-some m c e h .1)

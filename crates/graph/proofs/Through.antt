@@ -9,15 +9,15 @@ use mathlib.Core.List.{List, [], _∷_, _++_, List·Memᴰ}
 use Rattle.lists.specs.Lists.{any, below}
 use Rattle.lists.proofs.Bools.{test, and-l, and-r, both}
 use Rattle.lists.proofs.Lists.{any-some, none-any, mem-below}
-use Rattle.masks.specs.Masks.{has, inside, gather, members}
+use Rattle.masks.specs.Masks.{has, inside, maskOf, members}
 use Rattle.masks.proofs.Bits.{has-none, mask-ext, inside-all, all-inside, inside-antisym}
-use Rattle.masks.proofs.Gather.{has-gather, gather-lt}
+use Rattle.masks.proofs.MaskOf.{has-mask-of, mask-of-lt}
 use Rattle.policy.specs.declared.Policy.{Policy}
 use Rattle.policy.specs.Policies.{edges, source, targetOf}
 use Rattle.graph.specs.Cycles.{Path, reach, isCycle, contains}
 use Rattle.graph.specs.Through.{cycleThrough}
 use Rattle.graph.proofs.Paths.{members-has, members-lt, has-members, path-join, path-weaken, reach-sound, reach-complete}
-use Rattle.graph.proofs.Coloured.{gather-some}
+use Rattle.graph.proofs.Coloured.{mask-of-some}
 use Rattle.graph.proofs.Cycles.{Targets, bit-lt, some-nonzero, cycle-some, cycle-edge, cycle-path, path-cycle, contains-some, some-contains, contains-inside}
 
 -- a set of numbers below n is empty, or has a member
@@ -55,7 +55,7 @@ module _ (p : Policy) where
   pub through-some : (m v e : ℕ) → has (cycleThrough p m v) e ≡ true → (e < edges p) × (has m e ≡ true) × Leads m v (source p e) × Leads m (targetOf p e) v
   unfolding cycleThrough
   through-some m v e h =
-      let r = gather-some (λ (f : ℕ). has m f && has (reach p es v) (source p f) && has (reach p es (targetOf p f)) v) (edges p) e h in
+      let r = mask-of-some (λ (f : ℕ). has m f && has (reach p es v) (source p f) && has (reach p es (targetOf p f)) v) (edges p) e h in
       let a : has m e && has (reach p es v) (source p e) ≡ true = and-l (has m e && has (reach p es v) (source p e)) _ (r .1) in (
         r .0,
         and-l (has m e) _ a,
@@ -68,7 +68,7 @@ module _ (p : Policy) where
 
   pub through-lt : (m v : ℕ) → cycleThrough p m v < 2 ^ edges p
   unfolding cycleThrough
-  through-lt m v = gather-lt _ (edges p)
+  through-lt m v = mask-of-lt _ (edges p)
 
   pub through-inside : (m v : ℕ) → inside (cycleThrough p m v) m ≡ true
   through-inside m v = all-inside (cycleThrough p m v) m (λ e t. through-some m v e t .1)
@@ -81,7 +81,7 @@ module _ (p : Policy) where
     pub some-through : (e : ℕ) → e < edges p → has m e ≡ true → Leads m v (source p e) → Leads m (targetOf p e) v → has (cycleThrough p m v) e ≡ true
     unfolding cycleThrough
     some-through e l h a b =
-        has-gather (λ (f : ℕ). has m f && has (reach p es v) (source p f) && has (reach p es (targetOf p f)) v) (edges p) e l
+        has-mask-of (λ (f : ℕ). has m f && has (reach p es v) (source p f) && has (reach p es (targetOf p f)) v) (edges p) e l
         ∙ both (has m e && has (reach p es v) (source p e)) _
         (both (has m e) _ h (reach-complete p es v state lt (a .0) (source p e) (a .1)))
         (reach-complete p es (targetOf p e) (targets e l) lt (b .0) v (b .1))

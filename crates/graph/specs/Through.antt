@@ -6,7 +6,7 @@ use mathlib.Core.Bool.{_&&_, cond}
 use mathlib.Core.List.{List}
 use lib.ListN.{getD, set}
 use lib.Bits.{bitOr}
-use Rattle.masks.specs.Masks.{has, insert, gather, members}
+use Rattle.masks.specs.Masks.{has, insert, maskOf, members}
 use Rattle.policy.specs.declared.Policy.{Policy}
 use Rattle.policy.specs.Policies.{edges, source, targetOf}
 use Rattle.graph.specs.Cycles.{reach}
@@ -15,7 +15,7 @@ module _ (p : Policy) where
   -- the edges of m whose source v reaches inside m, and whose target reaches v inside m; none where v is on no cycle inside m
   unfoldable pub cycleThrough : ℕ → ℕ → ℕ
   cycleThrough m v = let es = members (edges p) m in let r = reach p es v in
-      gather (λ e. has m e && has r (source p e) && has (reach p es (targetOf p e)) v) (edges p)
+      maskOf (λ e. has m e && has r (source p e) && has (reach p es (targetOf p e)) v) (edges p)
 
   -- row v is the set of the states that v reaches inside m
   abbrev pub Rows : ℕ → List ℕ → Type 0
@@ -58,7 +58,7 @@ joinedRows rows n (suc k) = let r = joinedRows rows n k in joinRows r k (getD r 
 -- ---- the largest cycle, state by state
 -- the states below n that v's row has, and whose row has v
 unfoldable pub mutualTo : List ℕ → ℕ → ℕ → ℕ
-mutualTo rows v n = gather (λ w. has (getD rows v 0) w && has (getD rows w 0) v) n
+mutualTo rows v n = maskOf (λ w. has (getD rows v 0) w && has (getD rows w 0) v) n
 
 -- the edges x, with those of the first a edges of u that are in m and lead to a state of s
 unfoldable pub inner : List ℕ → ℕ → ℕ → ℕ → ℕ → ℕ → ℕ → ℕ

@@ -23,8 +23,8 @@ use Rattle.running.specs.declared.Run.{Run}
 use Rattle.running.specs.declared.Reading.the-variants.{Moved, Refused as NotRead}
 use Rattle.running.specs.Running.{policyStep, policyMeets, rowOf, rowStates, shaped, readingOf, rowStep, rowMeets}
 use Rattle.running.proofs.Steps.{policy-within, row-moves, row-within}
-use Rattle.judging.specs.Judging.{nonEmpty, inRange, leastOf, recurringColours, noState, strayMeets, everStray, leastRecurring}
-use Rattle.judging.specs.Strays.{Strays}
+use Rattle.judging.specs.Judging.{nonEmpty, inRange, leastOf, recurringColours, noState, danglingMeets, everDangling, leastRecurring}
+use Rattle.judging.specs.ReadsDangling.{ReadsDangling}
 use Rattle.judging.proofs.Collect.{after-any, iter-any}
 use Rattle.judging.proofs.Laws.{set-has, least-le, least-mem, member-some, nonEmpty-append}
 
@@ -41,8 +41,8 @@ module _ (letters : ℕ) (targets priorities : List ℕ) where
   abbrev step : Run → ℕ → Run
   step = rowStep letters targets priorities
 
-  abbrev strays : Run → ℕ → List ℕ
-  strays = strayMeets letters targets priorities
+  abbrev dangles : Run → ℕ → List ℕ
+  dangles = danglingMeets letters targets priorities
 
   abbrev states : ℕ
   states = rowStates letters targets priorities
@@ -57,24 +57,24 @@ module _ (letters : ℕ) (targets priorities : List ℕ) where
   asked-13 true false z w r r′ k e = absurd (false≢true e)
   asked-13 false y z w r r′ k e = absurd (false≢true e)
 
-  stray-answer : (r : Run) (a : ℕ) → nonEmpty (strays r a) ≡ true → readingOf letters targets priorities r a ≡ NotRead 13 r
-  unfolding strayMeets readingOf
-  stray-answer r a t = asked-13 (shaped letters targets priorities) (ltb (r .state) states) (ltb a letters) (ltb (getD targets (rowOf letters (r .state) a) 0) states) r
+  dangling-answer : (r : Run) (a : ℕ) → nonEmpty (dangles r a) ≡ true → readingOf letters targets priorities r a ≡ NotRead 13 r
+  unfolding danglingMeets readingOf
+  dangling-answer r a t = asked-13 (shaped letters targets priorities) (ltb (r .state) states) (ltb a letters) (ltb (getD targets (rowOf letters (r .state) a) 0) states) r
       (record { state = getD targets (rowOf letters (r .state) a) 0 }) (getD priorities (rowOf letters (r .state) a) 0) (go (noState (readingOf letters targets priorities r a)) t)
     where
       go : (b : Bool) → nonEmpty (cond b (a ∷ []) []) ≡ true → b ≡ true
       go true t = refl
       go false t = absurd (false≢true t)
 
-  answer-stray : (r : Run) (a : ℕ) → readingOf letters targets priorities r a ≡ NotRead 13 r → List·Memᴰ a (strays r a)
-  unfolding strayMeets
-  answer-stray r a e = rw e (List·Memᴰ·head refl)
+  answer-dangling : (r : Run) (a : ℕ) → readingOf letters targets priorities r a ≡ NotRead 13 r → List·Memᴰ a (dangles r a)
+  unfolding danglingMeets
+  answer-dangling r a e = rw e (List·Memᴰ·head refl)
 
   -- for rows of the right shape, a state and a letter of theirs: the row's target is no state
-  pub stray-target : (r : Run) (a : ℕ) → shaped letters targets priorities ≡ true → r .state < states → a < letters
+  pub dangling-target : (r : Run) (a : ℕ) → shaped letters targets priorities ≡ true → r .state < states → a < letters
       → (readingOf letters targets priorities r a ≡ NotRead 13 r) ↔ (states ≤ getD targets (rowOf letters (r .state) a) 0)
   unfolding readingOf
-  stray-target r a ok s l = (to (test (ltb t states)), λ h. rw (ok, lt-ltb _ _ s, lt-ltb _ _ l, le-ltb _ _ h) refl)
+  dangling-target r a ok s l = (to (test (ltb t states)), λ h. rw (ok, lt-ltb _ _ s, lt-ltb _ _ l, le-ltb _ _ h) refl)
     where
       t : ℕ
       t = getD targets (rowOf letters (r .state) a) 0
@@ -87,46 +87,46 @@ module _ (letters : ℕ) (targets priorities : List ℕ) where
       to (inr n) e = lt-false t states n
 
   -- ---- a list of letters
-  met-strays : (w : List ℕ) (r : Run) → nonEmpty (met step strays w r) ≡ true → Strays letters targets priorities r w
+  met-dangles : (w : List ℕ) (r : Run) → nonEmpty (met step dangles w r) ≡ true → ReadsDangling letters targets priorities r w
   unfolding met after
-  met-strays [] r t = absurd (false≢true t)
-  met-strays (a ∷ w) r t = go (or-cases (nonEmpty (strays r a)) (nonEmpty (met step strays w (step r a))) (sym (nonEmpty-append (strays r a) (met step strays w (step r a))) ∙ t)) (met-strays w (step r a))
+  met-dangles [] r t = absurd (false≢true t)
+  met-dangles (a ∷ w) r t = go (or-cases (nonEmpty (dangles r a)) (nonEmpty (met step dangles w (step r a))) (sym (nonEmpty-append (dangles r a) (met step dangles w (step r a))) ∙ t)) (met-dangles w (step r a))
     where
-      go : (nonEmpty (strays r a) ≡ true) ⊎ (nonEmpty (met step strays w (step r a)) ≡ true) → (nonEmpty (met step strays w (step r a)) ≡ true → Strays letters targets priorities (step r a) w)
-          → Strays letters targets priorities r (a ∷ w)
-      go (inl q) ih = record { start = []; letter = a; rest = w; letters-are = refl; answered = stray-answer r a q }
+      go : (nonEmpty (dangles r a) ≡ true) ⊎ (nonEmpty (met step dangles w (step r a)) ≡ true) → (nonEmpty (met step dangles w (step r a)) ≡ true → ReadsDangling letters targets priorities (step r a) w)
+          → ReadsDangling letters targets priorities r (a ∷ w)
+      go (inl q) ih = record { start = []; letter = a; rest = w; letters-are = refl; answered = dangling-answer r a q }
       go (inr q) ih = let s = ih q in record { start = a ∷ s .start; letter = s .letter; rest = s .rest; letters-are = ap (λ (l : List ℕ). a ∷ l) (s .letters-are); answered = s .answered }
 
-  strays-met : (w : List ℕ) (r : Run) → Strays letters targets priorities r w → (y : ℕ) × List·Memᴰ y (met step strays w r)
+  dangles-met : (w : List ℕ) (r : Run) → ReadsDangling letters targets priorities r w → (y : ℕ) × List·Memᴰ y (met step dangles w r)
   unfolding met
-  strays-met w r s =
-      let same = after-any step (rowMeets letters targets priorities) strays (s .start) r in
-      let last = after step strays (s .start) r in
-      let here : List·Memᴰ (s .letter) (strays last (s .letter)) = answer-stray last (s .letter) (subst (λ (x : Run). readingOf letters targets priorities x (s .letter) ≡ NotRead 13 x) same (s .answered)) in (
+  dangles-met w r s =
+      let same = after-any step (rowMeets letters targets priorities) dangles (s .start) r in
+      let last = after step dangles (s .start) r in
+      let here : List·Memᴰ (s .letter) (dangles last (s .letter)) = answer-dangling last (s .letter) (subst (λ (x : Run). readingOf letters targets priorities x (s .letter) ≡ NotRead 13 x) same (s .answered)) in (
         s .letter,
-        subst (List·Memᴰ (s .letter)) (sym (ap (λ (l : List ℕ). met step strays l r) (s .letters-are) ∙ met-append step strays (s .start) (s .letter ∷ s .rest) r))
-            (Memᴰ·append-right (met step strays (s .start) r) (Memᴰ·append-left (met step strays (s .rest) (step last (s .letter))) here)),
+        subst (List·Memᴰ (s .letter)) (sym (ap (λ (l : List ℕ). met step dangles l r) (s .letters-are) ∙ met-append step dangles (s .start) (s .letter ∷ s .rest) r))
+            (Memᴰ·append-right (met step dangles (s .start) r) (Memᴰ·append-left (met step dangles (s .rest) (step last (s .letter))) here)),
       )
 
   module _ (r : Run) (stem loop : List ℕ) where
     -- the stem's end
     abbrev begun : Run
-    begun = after step strays stem r
+    begun = after step dangles stem r
 
     abbrev round : Run → Run
-    round = after step strays loop
+    round = after step dangles loop
 
     abbrev found : Run → List ℕ
-    found = met step strays loop
+    found = met step dangles loop
 
     -- all that the stem and k rounds meet
-    met-all : (k : ℕ) → met step strays (stem ++ times k loop) r ≡ met step strays stem r ++ rounds round found begun 0 k
+    met-all : (k : ℕ) → met step dangles (stem ++ times k loop) r ≡ met step dangles stem r ++ rounds round found begun 0 k
     unfolding iter
-    met-all k = met-append step strays stem (times k loop) r ∙ ap (λ (l : List ℕ). met step strays stem r ++ l) (met-times step strays loop begun 0 k)
+    met-all k = met-append step dangles stem (times k loop) r ∙ ap (λ (l : List ℕ). met step dangles stem r ++ l) (met-times step dangles loop begun 0 k)
 
-    ever-met : everStray letters targets priorities r stem loop ≡ nonEmpty (met step strays (stem ++ times states loop) r)
-    unfolding everStray
-    ever-met = sym (ap nonEmpty (met-all states) ∙ nonEmpty-append (met step strays stem r) (rounds round found begun 0 states))
+    ever-met : everDangling letters targets priorities r stem loop ≡ nonEmpty (met step dangles (stem ++ times states loop) r)
+    unfolding everDangling
+    ever-met = sym (ap nonEmpty (met-all states) ∙ nonEmpty-append (met step dangles stem r) (rounds round found begun 0 states))
 
     module _ (h : r .state < states) where
       -- the run keeps to the states
@@ -134,20 +134,20 @@ module _ (letters : ℕ) (targets priorities : List ℕ) where
       begun-lt m w x l = after-keeps step m (λ x. x .state < states) (row-within letters targets priorities) w x l
 
       -- what any round meets, one of the first rounds meets
-      met-once : (t y : ℕ) → List·Memᴰ y (found (iter round t begun)) → everStray letters targets priorities r stem loop ≡ true
+      met-once : (t y : ℕ) → List·Memᴰ y (found (iter round t begun)) → everDangling letters targets priorities r stem loop ≡ true
       met-once t y m =
-          let q = met-first round found begun (λ r. r .state) (λ n. record { state = n }) (λ r. refl) (λ n. refl) states (λ x l. begun-lt strays loop x l) (begun-lt strays stem r h) t y m in
-          ever-met ∙ ap nonEmpty (met-all states) ∙ member-some (met step strays stem r ++ rounds round found begun 0 states) y (Memᴰ·append-right (met step strays stem r) q)
+          let q = met-first round found begun (λ r. r .state) (λ n. record { state = n }) (λ r. refl) (λ n. refl) states (λ x l. begun-lt dangles loop x l) (begun-lt dangles stem r h) t y m in
+          ever-met ∙ ap nonEmpty (met-all states) ∙ member-some (met step dangles stem r ++ rounds round found begun 0 states) y (Memᴰ·append-right (met step dangles stem r) q)
 
       -- question 13: the run ever reads such a row
-      pub stray : (everStray letters targets priorities r stem loop ≡ true) ↔ ((k : ℕ) × Strays letters targets priorities r (stem ++ times k loop))
-      stray = (λ t. (states, met-strays (stem ++ times states loop) r (sym ever-met ∙ t)), λ q. from (q .0) (strays-met (stem ++ times (q .0) loop) r (q .1)))
+      pub dangling : (everDangling letters targets priorities r stem loop ≡ true) ↔ ((k : ℕ) × ReadsDangling letters targets priorities r (stem ++ times k loop))
+      dangling = (λ t. (states, met-dangles (stem ++ times states loop) r (sym ever-met ∙ t)), λ q. from (q .0) (dangles-met (stem ++ times (q .0) loop) r (q .1)))
         where
-          from : (k : ℕ) → ((y : ℕ) × List·Memᴰ y (met step strays (stem ++ times k loop) r)) → everStray letters targets priorities r stem loop ≡ true
-          from k q = cases (List·Memᴰ·append-cases (met step strays stem r) (subst (List·Memᴰ (q .0)) (met-all k) (q .1)))
+          from : (k : ℕ) → ((y : ℕ) × List·Memᴰ y (met step dangles (stem ++ times k loop) r)) → everDangling letters targets priorities r stem loop ≡ true
+          from k q = cases (List·Memᴰ·append-cases (met step dangles stem r) (subst (List·Memᴰ (q .0)) (met-all k) (q .1)))
             where
-              cases : List·Memᴰ (q .0) (met step strays stem r) ⊎ List·Memᴰ (q .0) (rounds round found begun 0 k) → everStray letters targets priorities r stem loop ≡ true
-              cases (inl m) = ever-met ∙ ap nonEmpty (met-all states) ∙ member-some (met step strays stem r ++ rounds round found begun 0 states) (q .0) (Memᴰ·append-left (rounds round found begun 0 states) m)
+              cases : List·Memᴰ (q .0) (met step dangles stem r) ⊎ List·Memᴰ (q .0) (rounds round found begun 0 k) → everDangling letters targets priorities r stem loop ≡ true
+              cases (inl m) = ever-met ∙ ap nonEmpty (met-all states) ∙ member-some (met step dangles stem r ++ rounds round found begun 0 states) (q .0) (Memᴰ·append-left (rounds round found begun 0 states) m)
               cases (inr m) = let w = mem-rounds round found begun 0 k (q .0) m in met-once (w .0) (q .0) (w .3)
 
       -- ---- the least recurring priority
@@ -159,10 +159,10 @@ module _ (letters : ℕ) (targets priorities : List ℕ) where
       at t = iter (after step meets loop) t (after step meets stem r)
 
       at-same : (t : ℕ) → at t ≡ iter round t begun
-      at-same t = iter-any (after step meets loop) round (λ x. after-any step meets strays loop x) t (after step meets stem r) ∙ ap (iter round t) (after-any step meets strays stem r)
+      at-same t = iter-any (after step meets loop) round (λ x. after-any step meets dangles loop x) t (after step meets stem r) ∙ ap (iter round t) (after-any step meets dangles stem r)
 
       -- where no such row is read, a round meets a priority of the table
-      round-meets : shaped letters targets priorities ≡ true → inRange letters loop ≡ true → nonEmpty loop ≡ true → everStray letters targets priorities r stem loop ≡ false
+      round-meets : shaped letters targets priorities ≡ true → inRange letters loop ≡ true → nonEmpty loop ≡ true → everDangling letters targets priorities r stem loop ≡ false
           → (t : ℕ) → (i : ℕ) × List·Memᴰ (getD priorities i 0) (met step meets loop (at t))
       unfolding met inRange
       round-meets ok range some none t = go loop refl some range
@@ -183,16 +183,16 @@ module _ (letters : ℕ) (targets priorities : List ℕ) where
               inside : at t .state < states
               inside = iter-keeps (after step meets loop) (λ x. x .state < states) (λ x l. begun-lt meets loop x l) (after step meets stem r) (begun-lt meets stem r h) t
 
-              met-here : readingOf letters targets priorities (at t) a ≡ NotRead 13 (at t) → List·Memᴰ a (met step strays (a ∷ w) (iter round t begun))
-              met-here k = Memᴰ·append-left (met step strays w (step (iter round t begun) a)) (answer-stray (iter round t begun) a (subst (λ (x : Run). readingOf letters targets priorities x a ≡ NotRead 13 x) (at-same t) k))
+              met-here : readingOf letters targets priorities (at t) a ≡ NotRead 13 (at t) → List·Memᴰ a (met step dangles (a ∷ w) (iter round t begun))
+              met-here k = Memᴰ·append-left (met step dangles w (step (iter round t begun) a)) (answer-dangling (iter round t begun) a (subst (λ (x : Run). readingOf letters targets priorities x a ≡ NotRead 13 x) (at-same t) k))
 
               target : (ltb to states ≡ true) ⊎ (ltb to states ≡ false) → to < states
               target (inl y) = lt-true to states y
               target (inr n) =
-                  let k = stray-target (at t) a ok inside (lt-true a letters a-letter) .1 (lt-false to states n) in
-                  absurd (true≢false (sym (met-once t a (subst (λ (l : List ℕ). List·Memᴰ a (met step strays l (iter round t begun))) (sym e) (met-here k))) ∙ none))
+                  let k = dangling-target (at t) a ok inside (lt-true a letters a-letter) .1 (lt-false to states n) in
+                  absurd (true≢false (sym (met-once t a (subst (λ (l : List ℕ). List·Memᴰ a (met step dangles l (iter round t begun))) (sym e) (met-here k))) ∙ none))
 
-      pub least-recurring : shaped letters targets priorities ≡ true → nonEmpty loop ≡ true → inRange letters loop ≡ true → everStray letters targets priorities r stem loop ≡ false
+      pub least-recurring : shaped letters targets priorities ≡ true → nonEmpty loop ≡ true → inRange letters loop ≡ true → everDangling letters targets priorities r stem loop ≡ false
           → ((i : ℕ) → getD priorities i 0 ≤ 255)
           → Recurring (rowStep letters targets priorities) (rowMeets letters targets priorities) stem loop r (leastRecurring letters targets priorities r stem loop)
           × ((k : ℕ) → Recurring (rowStep letters targets priorities) (rowMeets letters targets priorities) stem loop r k → leastRecurring letters targets priorities r stem loop ≤ k)

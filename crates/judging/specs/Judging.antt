@@ -88,18 +88,18 @@ noState (NotRead n r) = eqb n 13
 
 module _ (letters : ℕ) (targets priorities : List ℕ) where
   -- what a letter meets, if only such rows are looked for
-  unfoldable pub strayMeets : Run → ℕ → List ℕ
-  strayMeets r a = cond (noState (readingOf letters targets priorities r a)) (a ∷ []) []
+  unfoldable pub danglingMeets : Run → ℕ → List ℕ
+  danglingMeets r a = cond (noState (readingOf letters targets priorities r a)) (a ∷ []) []
 
   module _ (r : Run) (stem loop : List ℕ) where
     abbrev pub step : Run → ℕ → Run
     step = rowStep letters targets priorities
 
     -- such a row is read in the stem, or in one of the first rounds, as many as there are states
-    unfoldable pub everStray : Bool
-    everStray =
-        nonEmpty (met step strayMeets stem r)
-        || nonEmpty (rounds (after step strayMeets loop) (met step strayMeets loop) (after step strayMeets stem r) 0 (rowStates letters targets priorities))
+    unfoldable pub everDangling : Bool
+    everDangling =
+        nonEmpty (met step danglingMeets stem r)
+        || nonEmpty (rounds (after step danglingMeets loop) (met step danglingMeets loop) (after step danglingMeets stem r) 0 (rowStates letters targets priorities))
 
     unfoldable pub leastRecurring : ℕ
     leastRecurring = leastOf (window step (rowMeets letters targets priorities) (rowStates letters targets priorities) stem loop r)
@@ -107,12 +107,12 @@ module _ (letters : ℕ) (targets priorities : List ℕ) where
     unfoldable pub rowsVerdict : RowsVerdict
     rowsVerdict =
         let k = leastRecurring in
-        let stray = everStray in
+        let dangling = everDangling in
         cond (shaped letters targets priorities)
         (cond (ltb (r .state) (rowStates letters targets priorities))
         (cond (nonEmpty loop)
         (cond (inRange letters stem && inRange letters loop)
-        (cond stray (RefusedRows 13) (Least k))
+        (cond dangling (RefusedRows 13) (Least k))
         (RefusedRows 12))
         (RefusedRows 14))
         (RefusedRows 11))

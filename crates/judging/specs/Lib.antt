@@ -1,3 +1,3 @@
 pub mod Judging
 pub mod Rounds
-pub mod Strays
+pub mod ReadsDangling

@@ -34,19 +34,19 @@ runOf s = record { state = s .state }
 
 -- after a reading more
 abbrev pub seenWith : Seen → Reading → Seen
-seenWith s (Moved r k) = record { state = r .state; least = cond (ltb k (s .least)) k (s .least); stray = s .stray }
-seenWith s (Refused n r) = record { state = r .state; least = s .least; stray = s .stray || eqb n 13 }
+seenWith s (Moved r k) = record { state = r .state; least = cond (ltb k (s .least)) k (s .least); dangling = s .dangling }
+seenWith s (Refused n r) = record { state = r .state; least = s .least; dangling = s .dangling || eqb n 13 }
 
 -- with no priority met yet; so taken up where the kept state was kept 0 rounds ago
 abbrev pub seenAnew : Seen → Seen
-seenAnew s = record { state = s .state; least = 255; stray = s .stray }
+seenAnew s = record { state = s .state; least = 255; dangling = s .dangling }
 
 unfoldable pub seenSince : Seen → ℕ → Seen
 seenSince s since = cond (eqb since 0) (seenAnew s) s
 
 -- what s met and a round from there with no priority met yet, at its end
 abbrev pub seenJoined : Seen → Seen → Seen
-seenJoined s one = record { state = one .state; least = cond (ltb (one .least) (s .least)) (one .least) (s .least); stray = one .stray }
+seenJoined s one = record { state = one .state; least = cond (ltb (one .least) (s .least)) (one .least) (s .least); dangling = one .dangling }
 
 module _ (letters : ℕ) (targets priorities : List ℕ) where
   unfoldable pub seenStep : Seen → ℕ → Seen

@@ -6,7 +6,7 @@ ghost use Prim.Native.Nat.{_<_};
 ghost use Rattle.recurrence.specs.Recurs.{iter};
 ghost use Rattle.policy.specs.Policies.{legal};
 ghost use Rattle.running.specs.Running.{rowStates, shaped};
-ghost use Rattle.judging.specs.Judging.{inRange, recurringColours, everStray, leastRecurring, policyVerdict, rowsVerdict};
+ghost use Rattle.judging.specs.Judging.{inRange, recurringColours, everDangling, leastRecurring, policyVerdict, rowsVerdict};
 ghost use Rattle.judging.specs.Rounds.{watchNext, runOf, seenStep, seenAfter, seenSince, seenJoined, colouredStep, colouredAfter, colouredSince, colouredJoined};
 use policy::Policy;
 
@@ -65,7 +65,7 @@ fn watch_next(w: Watch, state: usize) -> Watch
 struct Seen {
     pub state: usize,
     pub least: u8,
-    pub stray: bool,
+    pub dangling: bool,
 }
 
 // After a letter more, over rows of n states that question 8 lets through: of running's questions only 13 is left to ask.
@@ -79,7 +79,7 @@ fn seen_with(s: Seen, letter: u8, n: usize, letters: u8, targets: &[u16], priori
         return Seen {
             state: s.state,
             least: s.least,
-            stray: true,
+            dangling: true,
         };
     }
     let met = priorities[row];
@@ -87,7 +87,7 @@ fn seen_with(s: Seen, letter: u8, n: usize, letters: u8, targets: &[u16], priori
     Seen {
         state: t,
         least: least,
-        stray: s.stray,
+        dangling: s.dangling,
     }
 }
 
@@ -115,19 +115,19 @@ fn seen_word(
 // After n rounds.
 fn seen_rounds(
     s: Seen,
-    cycle: &[u8],
+    period: &[u8],
     n: usize,
     letters: u8,
     targets: &[u16],
     priorities: &[u8],
 ) -> Seen
-    requires { ⌜ (shaped letters (now targets) (now priorities) ≡ true) × (n ≡ rowStates letters (now targets) (now priorities)) × (s .state < n) × (inRange letters (now cycle) ≡ true) ⌝ }
-    ensures { λ r. ⌜ r ≡ iter (seenAfter letters (now (targets .entry)) (now (priorities .entry)) (now (cycle .entry))) n s ⌝ }
+    requires { ⌜ (shaped letters (now targets) (now priorities) ≡ true) × (n ≡ rowStates letters (now targets) (now priorities)) × (s .state < n) × (inRange letters (now period) ≡ true) ⌝ }
+    ensures { λ r. ⌜ r ≡ iter (seenAfter letters (now (targets .entry)) (now (priorities .entry)) (now (period .entry))) n s ⌝ }
 {
     let mut t = s;
     let mut i = 0;
     while i < n {
-        t = seen_word(t, cycle, n, letters, targets, priorities);
+        t = seen_word(t, period, n, letters, targets, priorities);
         i += 1;
     }
     t
@@ -141,13 +141,13 @@ fn seen_since(s: Seen, since: usize) -> Seen
         return Seen {
             state: s.state,
             least: 255,
-            stray: s.stray,
+            dangling: s.dangling,
         };
     }
     s
 }
 
-// What was met before a round and in it, at its end; the round was run with nothing met yet, but for strays.
+// What was met before a round and in it, at its end; the round was run with nothing met yet, but for dangling targets.
 fn seen_joined(s: Seen, one: Seen) -> Seen
     ensures { λ r. ⌜ r ≡ seenJoined s one ⌝ }
 {
@@ -159,7 +159,7 @@ fn seen_joined(s: Seen, one: Seen) -> Seen
     Seen {
         state: one.state,
         least: least,
-        stray: one.stray,
+        dangling: one.dangling,
     }
 }
 
@@ -167,14 +167,14 @@ fn seen_joined(s: Seen, one: Seen) -> Seen
 // the run comes back to it; or, where n rounds do not come back, in n rounds more.
 fn seen_recurring(
     s: Seen,
-    cycle: &[u8],
+    period: &[u8],
     n: usize,
     letters: u8,
     targets: &[u16],
     priorities: &[u8],
 ) -> Seen
-    requires { ⌜ (shaped letters (now targets) (now priorities) ≡ true) × (n ≡ rowStates letters (now targets) (now priorities)) × (s .state < n) × (inRange letters (now cycle) ≡ true) ⌝ }
-    ensures { λ r. ⌜ (r .least ≡ leastRecurring letters (now (targets .entry)) (now (priorities .entry)) (runOf s) [] (now (cycle .entry))) × (r .stray ≡ s .stray || everStray letters (now (targets .entry)) (now (priorities .entry)) (runOf s) [] (now (cycle .entry))) ⌝ }
+    requires { ⌜ (shaped letters (now targets) (now priorities) ≡ true) × (n ≡ rowStates letters (now targets) (now priorities)) × (s .state < n) × (inRange letters (now period) ≡ true) ⌝ }
+    ensures { λ r. ⌜ (r .least ≡ leastRecurring letters (now (targets .entry)) (now (priorities .entry)) (runOf s) [] (now (period .entry))) × (r .dangling ≡ s .dangling || everDangling letters (now (targets .entry)) (now (priorities .entry)) (runOf s) [] (now (period .entry))) ⌝ }
 {
     let mut t = seen_since(s, 0);
     let mut w = Watch {
@@ -184,7 +184,7 @@ fn seen_recurring(
     };
     let mut round = 0;
     while round < n {
-        let one = seen_word(seen_since(t, 0), cycle, n, letters, targets, priorities);
+        let one = seen_word(seen_since(t, 0), period, n, letters, targets, priorities);
         if one.state == t.state {
             return one;
         }
@@ -196,7 +196,7 @@ fn seen_recurring(
         t = seen_since(t, w.since);
         round += 1;
     }
-    seen_rounds(seen_since(t, 0), cycle, n, letters, targets, priorities)
+    seen_rounds(seen_since(t, 0), period, n, letters, targets, priorities)
 }
 
 // The least priority that the run over the rows meets again and again, from a state over the stem and then the loop without end.
@@ -206,9 +206,9 @@ pub fn judge_rows(
     priorities: &[u8],
     state: u16,
     stem: &[u8],
-    cycle: &[u8],
+    period: &[u8],
 ) -> RowsVerdict
-    ensures { λ r. ⌜ r ≡ rowsVerdict letters (now (targets .entry)) (now (priorities .entry)) (record { state = state }) (now (stem .entry)) (now (cycle .entry)) ⌝ }
+    ensures { λ r. ⌜ r ≡ rowsVerdict letters (now (targets .entry)) (now (priorities .entry)) (record { state = state }) (now (stem .entry)) (now (period .entry)) ⌝ }
 {
     let n = running::states_of(letters, targets, priorities);
     if 65535 < n {
@@ -217,20 +217,20 @@ pub fn judge_rows(
     if n <= state as usize {
         return RowsVerdict::Refused(11);
     }
-    if cycle.len() == 0 {
+    if period.len() == 0 {
         return RowsVerdict::Refused(14);
     }
-    if !(in_range(letters, stem) & in_range(letters, cycle)) {
+    if !(in_range(letters, stem) & in_range(letters, period)) {
         return RowsVerdict::Refused(12);
     }
     let start = Seen {
         state: state as usize,
         least: 255,
-        stray: false,
+        dangling: false,
     };
     let before = seen_word(start, stem, n, letters, targets, priorities);
-    let all = seen_recurring(before, cycle, n, letters, targets, priorities);
-    if all.stray {
+    let all = seen_recurring(before, period, n, letters, targets, priorities);
+    if all.dangling {
         return RowsVerdict::Refused(13);
     }
     RowsVerdict::Least(all.least)
@@ -242,21 +242,21 @@ struct Coloured {
     pub colours: u8,
 }
 
-// After a letter more. The heads and the hues are the targets and the colours of p's edges, lent, since p's own would be copied at each letter.
+// After a letter more. The heads and the colours are the targets and the colours of p's edges, lent, since p's own would be copied at each letter.
 fn coloured_with<'a>(
     p: Policy,
     heads: &'a [u8; 64],
-    hues: &'a [u8; 64],
+    colours: &'a [u8; 64],
     m: Coloured,
     letter: u8,
 ) -> Coloured
-    requires { ⌜ (legal p ≡ true) × (m .state < p .states) × (letter < p .letters) × (now heads ≡ p .target) × (now hues ≡ p .colour) ⌝ }
+    requires { ⌜ (legal p ≡ true) × (m .state < p .states) × (letter < p .letters) × (now heads ≡ p .target) × (now colours ≡ p .colour) ⌝ }
     ensures { λ r. ⌜ r ≡ colouredStep p m letter ⌝ }
 {
     let e = m.state * p.letters as usize + letter as usize;
     Coloured {
         state: heads[e] as usize,
-        colours: masks::set_with(m.colours, hues[e]),
+        colours: masks::set_with(m.colours, colours[e]),
     }
 }
 
@@ -264,17 +264,17 @@ fn coloured_with<'a>(
 fn coloured_word<'a>(
     p: Policy,
     heads: &'a [u8; 64],
-    hues: &'a [u8; 64],
+    colours: &'a [u8; 64],
     m: Coloured,
     word: &[u8],
 ) -> Coloured
-    requires { ⌜ (legal p ≡ true) × (m .state < p .states) × (inRange (p .letters) (now word) ≡ true) × (now heads ≡ p .target) × (now hues ≡ p .colour) ⌝ }
+    requires { ⌜ (legal p ≡ true) × (m .state < p .states) × (inRange (p .letters) (now word) ≡ true) × (now heads ≡ p .target) × (now colours ≡ p .colour) ⌝ }
     ensures { λ r. ⌜ r ≡ colouredAfter p (now (word .entry)) m ⌝ }
 {
     let mut t = m;
     let mut i = 0;
     while i < word.len() {
-        t = coloured_with(p, heads, hues, t, word[i]);
+        t = coloured_with(p, heads, colours, t, word[i]);
         i += 1;
     }
     t
@@ -284,18 +284,18 @@ fn coloured_word<'a>(
 fn coloured_rounds<'a>(
     p: Policy,
     heads: &'a [u8; 64],
-    hues: &'a [u8; 64],
+    colours: &'a [u8; 64],
     m: Coloured,
     k: usize,
-    cycle: &[u8],
+    period: &[u8],
 ) -> Coloured
-    requires { ⌜ (legal p ≡ true) × (m .state < p .states) × (inRange (p .letters) (now cycle) ≡ true) × (now heads ≡ p .target) × (now hues ≡ p .colour) ⌝ }
-    ensures { λ r. ⌜ r ≡ iter (colouredAfter p (now (cycle .entry))) k m ⌝ }
+    requires { ⌜ (legal p ≡ true) × (m .state < p .states) × (inRange (p .letters) (now period) ≡ true) × (now heads ≡ p .target) × (now colours ≡ p .colour) ⌝ }
+    ensures { λ r. ⌜ r ≡ iter (colouredAfter p (now (period .entry))) k m ⌝ }
 {
     let mut t = m;
     let mut i = 0;
     while i < k {
-        t = coloured_word(p, heads, hues, t, cycle);
+        t = coloured_word(p, heads, colours, t, period);
         i += 1;
     }
     t
@@ -329,12 +329,12 @@ fn coloured_joined(m: Coloured, one: Coloured) -> Coloured
 fn coloured_recurring<'a>(
     p: Policy,
     heads: &'a [u8; 64],
-    hues: &'a [u8; 64],
+    colours: &'a [u8; 64],
     m: Coloured,
-    cycle: &[u8],
+    period: &[u8],
 ) -> Coloured
-    requires { ⌜ (legal p ≡ true) × (m .state < p .states) × (inRange (p .letters) (now cycle) ≡ true) × (now heads ≡ p .target) × (now hues ≡ p .colour) ⌝ }
-    ensures { λ r. ⌜ r .colours ≡ recurringColours p (m .state) [] (now (cycle .entry)) ⌝ }
+    requires { ⌜ (legal p ≡ true) × (m .state < p .states) × (inRange (p .letters) (now period) ≡ true) × (now heads ≡ p .target) × (now colours ≡ p .colour) ⌝ }
+    ensures { λ r. ⌜ r .colours ≡ recurringColours p (m .state) [] (now (period .entry)) ⌝ }
 {
     let n = p.states as usize;
     let mut t = coloured_since(m, 0);
@@ -345,7 +345,7 @@ fn coloured_recurring<'a>(
     };
     let mut round = 0;
     while round < n {
-        let one = coloured_word(p, heads, hues, coloured_since(t, 0), cycle);
+        let one = coloured_word(p, heads, colours, coloured_since(t, 0), period);
         if one.state == t.state {
             return one;
         }
@@ -357,12 +357,12 @@ fn coloured_recurring<'a>(
         t = coloured_since(t, w.since);
         round += 1;
     }
-    coloured_rounds(p, heads, hues, coloured_since(t, 0), n, cycle)
+    coloured_rounds(p, heads, colours, coloured_since(t, 0), n, period)
 }
 
 // The colours that the policy's run meets again and again, from a state over the stem and then the loop without end, and their verdict.
-pub fn judge_policy(p: Policy, state: u8, stem: &[u8], cycle: &[u8]) -> PolicyVerdict
-    ensures { λ r. ⌜ r ≡ policyVerdict p state (now (stem .entry)) (now (cycle .entry)) ⌝ }
+pub fn judge_policy(p: Policy, state: u8, stem: &[u8], period: &[u8]) -> PolicyVerdict
+    ensures { λ r. ⌜ r ≡ policyVerdict p state (now (stem .entry)) (now (period .entry)) ⌝ }
 {
     if !policy::is_legal(p) {
         return PolicyVerdict::Refused(7);
@@ -370,10 +370,10 @@ pub fn judge_policy(p: Policy, state: u8, stem: &[u8], cycle: &[u8]) -> PolicyVe
     if p.states <= state {
         return PolicyVerdict::Refused(11);
     }
-    if cycle.len() == 0 {
+    if period.len() == 0 {
         return PolicyVerdict::Refused(14);
     }
-    if !(in_range(p.letters, stem) & in_range(p.letters, cycle)) {
+    if !(in_range(p.letters, stem) & in_range(p.letters, period)) {
         return PolicyVerdict::Refused(12);
     }
     let start = Coloured {
@@ -381,6 +381,6 @@ pub fn judge_policy(p: Policy, state: u8, stem: &[u8], cycle: &[u8]) -> PolicyVe
         colours: 0,
     };
     let before = coloured_word(p, &p.target, &p.colour, start, stem);
-    let all = coloured_recurring(p, &p.target, &p.colour, before, cycle);
+    let all = coloured_recurring(p, &p.target, &p.colour, before, period);
     PolicyVerdict::Judged(all.colours, p.family[all.colours as usize])
 }

@@ -1,3 +1,3 @@
 pub mod Bits
-pub mod Gather
+pub mod MaskOf
 pub mod Submasks

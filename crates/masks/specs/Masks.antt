@@ -27,9 +27,9 @@ unfoldable pub properly : ℕ → ℕ → Bool
 properly a b = inside a b && not (eqb a b)
 
 -- the numbers below n that pass a test, as a mask
-unfoldable pub gather : (ℕ → Bool) → ℕ → ℕ
-gather t zero = 0
-gather t (suc n) = let r = gather t n in cond (t n) (r + 2 ^ n) r
+unfoldable pub maskOf : (ℕ → Bool) → ℕ → ℕ
+maskOf t zero = 0
+maskOf t (suc n) = let r = maskOf t n in cond (t n) (r + 2 ^ n) r
 
 -- the members of m below n, ascending
 unfoldable pub members : ℕ → ℕ → List ℕ

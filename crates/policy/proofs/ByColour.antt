@@ -14,9 +14,9 @@ use lib.Seq.{ext-getD, getD-set-same, getD-set-other}
 use Rattle.lists.specs.Lists.{all, below}
 use Rattle.lists.proofs.Bools.{test, and-l, and-r, both, or-cases, or-left, or-right, eqb≡, ≡eqb, neqb, bool-ext}
 use Rattle.lists.proofs.Lists.{getD-map-below}
-use Rattle.masks.specs.Masks.{has, insert, gather}
+use Rattle.masks.specs.Masks.{has, insert, maskOf}
 use Rattle.masks.proofs.Bits.{has-and, has-or, has-none, has-insert, has-high, mask-ext}
-use Rattle.masks.proofs.Gather.{gather-lt, has-gather, gather-in, gather-out}
+use Rattle.masks.proofs.MaskOf.{mask-of-lt, has-mask-of, mask-of-in, mask-of-out}
 use Rattle.policy.specs.declared.Policy.{Policy}
 use Rattle.policy.specs.Policies.{edges, colourOf, edgeColours, coloursOf, inFamily, accepting, legal}
 use Rattle.policy.specs.ByColour.{hasColour, edgesIn, byColourTo, byColour, tableEdgesTo, tableEdges, tableColoursTo, tableColours}
@@ -115,56 +115,56 @@ some-colours-to t (suc n) m c l h = go (ℕ-discrete n c) (test (eqb (bitAnd m (
     go (no q) (inr u) ih = rw u (has-insert (tableColoursTo t n m) n c ∙ or-left (has (tableColoursTo t n m) c) (eqb n c) (ih (omega arith) h))
 
 -- ---- one turn of the loop that fills the table
-module _ (hues : List ℕ) where
-  of-colour : (c e : ℕ) → getD hues e 0 ≡ c → hasColour hues c e ≡ true
+module _ (colours : List ℕ) where
+  of-colour : (c e : ℕ) → getD colours e 0 ≡ c → hasColour colours c e ≡ true
   unfolding hasColour
-  of-colour c e q = ≡eqb (getD hues e 0) c q
+  of-colour c e q = ≡eqb (getD colours e 0) c q
 
-  not-colour : (c e : ℕ) → getD hues e 0 ≢ c → hasColour hues c e ≡ false
+  not-colour : (c e : ℕ) → getD colours e 0 ≢ c → hasColour colours c e ≡ false
   unfolding hasColour
-  not-colour c e q = neqb (getD hues e 0) c q
+  not-colour c e q = neqb (getD colours e 0) c q
 
-  is-colour : (c e : ℕ) → hasColour hues c e ≡ true → getD hues e 0 ≡ c
+  is-colour : (c e : ℕ) → hasColour colours c e ≡ true → getD colours e 0 ≡ c
   unfolding hasColour
-  is-colour c e t = eqb≡ (getD hues e 0) c t
+  is-colour c e t = eqb≡ (getD colours e 0) c t
 
-  pub by-none : replicate 8 0 ≡ byColourTo hues 0
-  unfolding byColourTo gather
+  pub by-none : replicate 8 0 ≡ byColourTo colours 0
+  unfolding byColourTo maskOf
   by-none = refl
 
-  by-long : (n : ℕ) → length (byColourTo hues n) ≡ 8
+  by-long : (n : ℕ) → length (byColourTo colours n) ≡ 8
   unfolding byColourTo
   by-long n = refl
 
-  by-at : (n c : ℕ) → c < 8 → getD (byColourTo hues n) c 0 ≡ gather (hasColour hues c) n
+  by-at : (n c : ℕ) → c < 8 → getD (byColourTo colours n) c 0 ≡ maskOf (hasColour colours c) n
   unfolding byColourTo
-  by-at n c l = getD-map-below (λ (c : ℕ). gather (hasColour hues c) n) 8 c 0 l
+  by-at n c l = getD-map-below (λ (c : ℕ). maskOf (hasColour colours c) n) 8 c 0 l
 
-  pub by-more : (n : ℕ) → getD hues n 0 < 8 → set (byColourTo hues n) (getD hues n 0) (insert (getD (byColourTo hues n) (getD hues n 0) 0) n) ≡ byColourTo hues (n + 1)
-  by-more n l = ext-getD 0 after (byColourTo hues (n + 1)) (long ∙ sym (by-long (n + 1))) (λ c h. at c (subst (λ (k : ℕ). c < k) long h) (ℕ-discrete c k))
+  pub by-more : (n : ℕ) → getD colours n 0 < 8 → set (byColourTo colours n) (getD colours n 0) (insert (getD (byColourTo colours n) (getD colours n 0) 0) n) ≡ byColourTo colours (n + 1)
+  by-more n l = ext-getD 0 after (byColourTo colours (n + 1)) (long ∙ sym (by-long (n + 1))) (λ c h. at c (subst (λ (k : ℕ). c < k) long h) (ℕ-discrete c k))
     where
       k : ℕ
-      k = getD hues n 0
+      k = getD colours n 0
 
       after : List ℕ
-      after = set (byColourTo hues n) k (insert (getD (byColourTo hues n) k 0) n)
+      after = set (byColourTo colours n) k (insert (getD (byColourTo colours n) k 0) n)
 
       long : length after ≡ 8
-      long = length-set (byColourTo hues n) k (insert (getD (byColourTo hues n) k 0) n) ∙ by-long n
+      long = length-set (byColourTo colours n) k (insert (getD (byColourTo colours n) k 0) n) ∙ by-long n
 
-      at : (c : ℕ) → c < 8 → Dec (c ≡ k) → getD after c 0 ≡ getD (byColourTo hues (n + 1)) c 0
+      at : (c : ℕ) → c < 8 → Dec (c ≡ k) → getD after c 0 ≡ getD (byColourTo colours (n + 1)) c 0
       at c h (yes q) =
-          ap (λ (c : ℕ). getD after c 0) q ∙ getD-set-same (byColourTo hues n) k (insert (getD (byColourTo hues n) k 0) n) 0 (subst (λ (z : ℕ). k < z) (sym (by-long n)) l)
+          ap (λ (c : ℕ). getD after c 0) q ∙ getD-set-same (byColourTo colours n) k (insert (getD (byColourTo colours n) k 0) n) 0 (subst (λ (z : ℕ). k < z) (sym (by-long n)) l)
           ∙ ap (λ (x : ℕ). insert x n) (by-at n k l)
-          ∙ sym (gather-in (hasColour hues k) n (of-colour k n refl)) ∙ sym (by-at (n + 1) k l) ∙ ap (λ (c : ℕ). getD (byColourTo hues (n + 1)) c 0) (sym q)
+          ∙ sym (mask-of-in (hasColour colours k) n (of-colour k n refl)) ∙ sym (by-at (n + 1) k l) ∙ ap (λ (c : ℕ). getD (byColourTo colours (n + 1)) c 0) (sym q)
       at c h (no q) =
-          getD-set-other (byColourTo hues n) k c (insert (getD (byColourTo hues n) k 0) n) 0 q
-          ∙ by-at n c h ∙ sym (gather-out (hasColour hues c) n (not-colour c n (λ e. q (sym e)))) ∙ sym (by-at (n + 1) c h)
+          getD-set-other (byColourTo colours n) k c (insert (getD (byColourTo colours n) k 0) n) 0 q
+          ∙ by-at n c h ∙ sym (mask-of-out (hasColour colours c) n (not-colour c n (λ e. q (sym e)))) ∙ sym (by-at (n + 1) c h)
 
 module _ (p : Policy) where
-  pub by-all : (hues : List ℕ) (n : ℕ) → hues ≡ p .colour → n ≡ edges p → byColourTo hues n ≡ byColour p
+  pub by-all : (colours : List ℕ) (n : ℕ) → colours ≡ p .colour → n ≡ edges p → byColourTo colours n ≡ byColour p
   unfolding byColour
-  by-all hues n h q = ap₂ byColourTo h q
+  by-all colours n h q = ap₂ byColourTo h q
 
   -- ---- the table, by its edges
   bit-lt : (n m e : ℕ) → m < 2 ^ n → has m e ≡ true → e < n
@@ -174,27 +174,27 @@ module _ (p : Policy) where
       go (yes k) = k
       go (no k) = absurd (false≢true (sym (has-high n e m l (omega arith)) ∙ t))
 
-  gathered : (t : ℕ → Bool) (n e : ℕ) → has (gather t n) e ≡ true → (e < n) × (t e ≡ true)
-  gathered t n e h = let l = bit-lt n (gather t n) e (gather-lt t n) h in (l, sym (has-gather t n e l) ∙ h)
+  mask-of-some : (t : ℕ → Bool) (n e : ℕ) → has (maskOf t n) e ≡ true → (e < n) × (t e ≡ true)
+  mask-of-some t n e h = let l = bit-lt n (maskOf t n) e (mask-of-lt t n) h in (l, sym (has-mask-of t n e l) ∙ h)
 
   table-some : (c e : ℕ) → c < 8 → has (getD (byColour p) c 0) e ≡ true → (e < edges p) × (colourOf p e ≡ c)
   unfolding byColour colourOf
   table-some c e l h =
-      let r = gathered (hasColour (p .colour) c) (edges p) e (ap (λ (m : ℕ). has m e) (sym (by-at (p .colour) (edges p) c l)) ∙ h) in
+      let r = mask-of-some (hasColour (p .colour) c) (edges p) e (ap (λ (m : ℕ). has m e) (sym (by-at (p .colour) (edges p) c l)) ∙ h) in
       (r .0, is-colour (p .colour) c e (r .1))
 
   some-table : (c e : ℕ) → c < 8 → e < edges p → colourOf p e ≡ c → has (getD (byColour p) c 0) e ≡ true
   unfolding byColour colourOf
-  some-table c e l h q = ap (λ (m : ℕ). has m e) (by-at (p .colour) (edges p) c l) ∙ has-gather (hasColour (p .colour) c) (edges p) e h ∙ of-colour (p .colour) c e q
+  some-table c e l h q = ap (λ (m : ℕ). has m e) (by-at (p .colour) (edges p) c l) ∙ has-mask-of (hasColour (p .colour) c) (edges p) e h ∙ of-colour (p .colour) c e q
 
   -- ---- the edges of a colour set
   pub edges-in-some : (c e : ℕ) → has (edgesIn p c) e ≡ true → (e < edges p) × (all (has c) (edgeColours p e) ≡ true)
   unfolding edgesIn
-  edges-in-some c e h = gathered (λ (e : ℕ). all (has c) (edgeColours p e)) (edges p) e h
+  edges-in-some c e h = mask-of-some (λ (e : ℕ). all (has c) (edgeColours p e)) (edges p) e h
 
   pub some-edges-in : (c e : ℕ) → e < edges p → all (has c) (edgeColours p e) ≡ true → has (edgesIn p c) e ≡ true
   unfolding edgesIn
-  some-edges-in c e l h = has-gather (λ (e : ℕ). all (has c) (edgeColours p e)) (edges p) e l ∙ h
+  some-edges-in c e l h = has-mask-of (λ (e : ℕ). all (has c) (edgeColours p e)) (edges p) e l ∙ h
 
   colours-one : (c e : ℕ) → all (has c) (edgeColours p e) ≡ has c (colourOf p e)
   unfolding edgeColours

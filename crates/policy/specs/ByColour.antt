@@ -6,23 +6,23 @@ use lib.Bits.{bitAnd, bitOr}
 use lib.Dec.{eqb}
 use lib.ListN.{getD}
 use Rattle.lists.specs.Lists.{all, below}
-use Rattle.masks.specs.Masks.{has, insert, gather}
+use Rattle.masks.specs.Masks.{has, insert, maskOf}
 use Rattle.policy.specs.declared.Policy.{Policy}
 use Rattle.policy.specs.Policies.{edges, edgeColours}
 
 -- ---- of the colours of the edges, in a list
 -- e has colour c
 unfoldable pub hasColour : List ℕ → ℕ → ℕ → Bool
-hasColour hues c e = eqb (getD hues e 0) c
+hasColour colours c e = eqb (getD colours e 0) c
 
 -- entry c: the edges below n with colour c
 unfoldable pub byColourTo : List ℕ → ℕ → List ℕ
-byColourTo hues n = map (λ c. gather (hasColour hues c) n) (below 8)
+byColourTo colours n = map (λ c. maskOf (hasColour colours c) n) (below 8)
 
 module _ (p : Policy) where
   -- the edges whose colours lie in the colour set c
   unfoldable pub edgesIn : ℕ → ℕ
-  edgesIn c = gather (λ e. all (has c) (edgeColours p e)) (edges p)
+  edgesIn c = maskOf (λ e. all (has c) (edgeColours p e)) (edges p)
 
   -- the table: entry c has the edges with colour c
   unfoldable pub byColour : List ℕ

@@ -27,14 +27,14 @@ pub fn edges(p: Policy) -> usize
 // ---- the edges by colour
 
 // The edges of each colour.
-pub fn by_colour(p: Policy, hues: &[u8; 64]) -> [u64; 8]
-    requires { ⌜ (legal p ≡ true) × (now hues ≡ p .colour) ⌝ }
+pub fn by_colour(p: Policy, colours: &[u8; 64]) -> [u64; 8]
+    requires { ⌜ (legal p ≡ true) × (now colours ≡ p .colour) ⌝ }
     ensures { λ r. ⌜ r ≡ byColour p ⌝ }
 {
     let mut t = [0u64; 8];
     let n = edges(p);
     for e in 0..n {
-        let c = hues[e] as usize;
+        let c = colours[e] as usize;
         t[c] = masks::with(t[c], e);
     }
     t
@@ -98,8 +98,8 @@ fn has_legal_edges(p: Policy) -> bool
     let mut b = true;
     for e in 0..64u8 {
         let heads = if e < n { p.states } else { 1 };
-        let hues = if e < n { p.colours } else { 1 };
-        b = b & (p.target[e as usize] < heads) & (p.colour[e as usize] < hues);
+        let colours = if e < n { p.colours } else { 1 };
+        b = b & (p.target[e as usize] < heads) & (p.colour[e as usize] < colours);
     }
     b
 }

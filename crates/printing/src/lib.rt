@@ -49,10 +49,10 @@ fn show_row(s: u64, letter: u64, target: u16, priority: u8) {
 }
 
 // The first nodes of the tables.
-fn show_nodes(count: u16, masks: &[u64; 1024], parents: &[u16; 1024], ranks: &[u8; 1024]) {
+fn show_nodes(count: u16, masks: &[u64; 1024], parents: &[u16; 1024], node_priorities: &[u8; 1024]) {
     let mut n: usize = 0;
     while n < 1024 && n < count as usize {
-        show_node(n as u64, masks[n], parents[n], ranks[n]);
+        show_node(n as u64, masks[n], parents[n], node_priorities[n]);
         n += 1;
     }
 }
@@ -102,7 +102,7 @@ fn translate_rows(
     p: policy::Policy,
     masks: &mut [u64],
     parents: &mut [u16],
-    ranks: &mut [u8],
+    node_priorities: &mut [u8],
     sources: &mut [u8],
     leaves: &mut [u16],
     targets: &mut [u16],
@@ -115,7 +115,7 @@ fn translate_rows(
         p,
         masks,
         parents,
-        ranks,
+        node_priorities,
         sources,
         leaves,
         &mut targets[..rows],
@@ -128,7 +128,7 @@ fn show_translation(p: policy::Policy) {
     let letters = p.letters;
     let mut masks = [0u64; 1024];
     let mut parents = [0u16; 1024];
-    let mut ranks = [0u8; 1024];
+    let mut node_priorities = [0u8; 1024];
     let mut sources = [0u8; 1024];
     let mut leaves = [0u16; 1024];
     let mut targets = [0u16; 8192];
@@ -138,7 +138,7 @@ fn show_translation(p: policy::Policy) {
         p,
         &mut masks,
         &mut parents,
-        &mut ranks,
+        &mut node_priorities,
         &mut sources,
         &mut leaves,
         &mut targets,
@@ -150,7 +150,7 @@ fn show_translation(p: policy::Policy) {
             show(b"nodes ", nodes as u64);
             show(b" states ", states as u64);
             end_line();
-            show_nodes(nodes, &masks, &parents, &ranks);
+            show_nodes(nodes, &masks, &parents, &node_priorities);
             show_states(states, &sources, &leaves);
             show_rows(states, letters, &targets, &priorities);
             show(b"start ", start as u64);

@@ -14,6 +14,7 @@ use borrow.Author.Tests.{ltb-true, leb-true, lt-ltb, le-ltb, le-leb, lt-leb, eq-
 use Rattle.lists.specs.Lists.{all, below}
 use Rattle.lists.proofs.Bools.{and-l, and-r, bool-ext}
 use Rattle.lists.proofs.Lists.{all-each, each-all, mem-below, below-lt}
+use Rattle.lists.specs.Questions.{ask}
 use Rattle.masks.specs.Masks.{has, inside}
 use Rattle.masks.proofs.Bits.{inside-all, all-inside, has-high, has-full}
 use Rattle.policy.specs.declared.Policy.{Policy}
@@ -22,7 +23,7 @@ use Rattle.policy.proofs.Laws.{edge-lt}
 use Rattle.reading.specs.declared.Draft.{Draft}
 use Rattle.reading.specs.declared.Command.{Command}
 use Rattle.reading.specs.declared.Command.the-variants.{Edge}
-use Rattle.reading.specs.Reading.{Bounded, allGiven, ask, commandAt, commandKnown, completeAtEnd, firstTime, inPlace, operandCount, operandsThere, refusalOf, withinLimits}
+use Rattle.reading.specs.Reading.{Bounded, allGiven, commandAt, commandKnown, completeAtEnd, firstTime, inPlace, operandCount, operandsThere, refusalOf, withinLimits}
 
 -- ---- numbers and tests
 pub product-lt : {a b : ℕ} → a < 256 → b < 256 → a * b < 65536

@@ -6,6 +6,7 @@ use mathlib.Core.List.{List, []}
 use lib.Dec.{eqb, ltb, leb}
 use lib.ListN.{length, getD, set, drop, replicate}
 use Rattle.lists.specs.Lists.{all, below}
+use Rattle.lists.specs.Questions.{ask}
 use Rattle.masks.specs.Masks.{has, insert}
 use Rattle.policy.specs.declared.Policy.{Policy}
 use Rattle.policy.specs.Policies.{edges, edgeOf, inFamily, legalCounts}
@@ -123,10 +124,6 @@ completeAtEnd d End = allGiven (d .given) (edges (d .policy))
 completeAtEnd d (Shape states letters colours initial) = true
 completeAtEnd d (Edge state letter target colour) = true
 completeAtEnd d (Accept s) = true
-
--- a question, its number, and what comes after a "yes"
-abbrev pub ask : Bool → ℕ → ℕ → ℕ
-ask answer number next = cond answer next number
 
 -- the number of the first question that is answered "no"; 0 where there is none
 unfoldable pub refusalOf : List ℕ → ℕ → Draft → ℕ

@@ -185,10 +185,10 @@ module _ (p : Policy) where
 -- ---- the walk over the tables
 -- what the walk is called with
 abbrev pub Called : Policy → List ℕ → List ℕ → List ℕ → ℕ → ℕ → Type 0
-Called p masks parents ranks e l =
-    (legal p ≡ true) × Nodes p masks parents ranks × (e < edges p) × List·Memᴰ l (orElse 65535 (leaves (forest p) p (source p e)))
+Called p masks parents node-priorities e l =
+    (legal p ≡ true) × Nodes p masks parents node-priorities × (e < edges p) × List·Memᴰ l (orElse 65535 (leaves (forest p) p (source p e)))
 
-module _ (p : Policy) (masks parents ranks : List ℕ) (e l : ℕ) (a : Called p masks parents ranks e l) where
+module _ (p : Policy) (masks parents node-priorities : List ℕ) (e l : ℕ) (a : Called p masks parents node-priorities e l) where
   good : Good (forest p) p (source p e) l
   good = leaves-good p (forest p) (forest-laws p (a .0)) (source p e) l (a .3)
 
@@ -208,8 +208,8 @@ module _ (p : Policy) (masks parents ranks : List ℕ) (e l : ℕ) (a : Called p
     pub walk-small : n < 65535
     walk-small = omega (arith, at-node, a .1 .few)
 
-    pub walk-in : (n < length masks) × (n < length parents) × (n < length ranks)
-    walk-in = (omega (arith, at-node, a .1 .masks-long), omega (arith, at-node, a .1 .parents-long), omega (arith, at-node, a .1 .ranks-long))
+    pub walk-in : (n < length masks) × (n < length parents) × (n < length node-priorities)
+    walk-in = (omega (arith, at-node, a .1 .masks-long), omega (arith, at-node, a .1 .parents-long), omega (arith, at-node, a .1 .node-priorities-long))
 
     pub walk-up : (up : ℕ) → up ≡ getD parents n 0 → has (getD masks n 0) e ≡ false → Climbing p e l up n
     walk-up up u f =
@@ -219,9 +219,9 @@ module _ (p : Policy) (masks parents ranks : List ℕ) (e l : ℕ) (a : Called p
     pub walk-less : (up : ℕ) → up ≡ getD parents n 0 → left up < left n
     walk-less up u = subst (λ (x : ℕ). left x < left n) (sym (u ∙ a .1 .parents-are n at-node)) (climb-less p (a .0) (a .1 .few) e (a .2) l good n c k h)
 
-    pub walk-met : has (getD masks n 0) e ≡ true → Met p e l true n c (getD ranks n 0)
+    pub walk-met : has (getD masks n 0) e ≡ true → Met p e l true n c (getD node-priorities n 0)
     walk-met t =
-        subst (Met p e l true n c) (sym (a .1 .ranks-are n at-node)) (climb-met p (a .0) (a .1 .few) e (a .2) l good n c k h (subst (λ (m : ℕ). has m e ≡ true) (a .1 .masks-are n at-node) t))
+        subst (Met p e l true n c) (sym (a .1 .node-priorities-are n at-node)) (climb-met p (a .0) (a .1 .few) e (a .2) l good n c k h (subst (λ (m : ℕ). has m e ≡ true) (a .1 .masks-are n at-node) t))
 
 -- ---- the searches
 module _ (p : Policy) (ok : legal p ≡ true) (ls : List ℕ) (col : LeafColumn p ls) (e : ℕ) (he : e < edges p) (l : ℕ) (good : Good (forest p) p (source p e) l)

@@ -161,8 +161,8 @@ pub struct Meeting {
 }
 
 // From the leaf up to the deepest node that has e.
-fn climb(p: Policy, masks: &[u64], parents: &[u16], ranks: &[u8], e: usize, leaf: usize) -> Meeting
-    requires { ⌜ (legal p ≡ true) × Nodes p (now masks) (now parents) (now ranks) × (e < edges p) × List·Memᴰ leaf (orElse 65535 (leaves (forest p) p (source p e))) ⌝ }
+fn climb(p: Policy, masks: &[u64], parents: &[u16], node_priorities: &[u8], e: usize, leaf: usize) -> Meeting
+    requires { ⌜ (legal p ≡ true) × Nodes p (now masks) (now parents) (now «node_priorities») × (e < edges p) × List·Memᴰ leaf (orElse 65535 (leaves (forest p) p (source p e))) ⌝ }
     ensures { λ r. ⌜ Met p e leaf (r .met) (r .node) (r .child) (r .priority) ⌝ }
 {
     let mut n = leaf;
@@ -173,7 +173,7 @@ fn climb(p: Policy, masks: &[u64], parents: &[u16], ranks: &[u8], e: usize, leaf
                 met: true,
                 node: n,
                 child: child,
-                priority: ranks[n],
+                priority: node_priorities[n],
             };
         }
         child = n;
@@ -262,7 +262,7 @@ fn share(
     p: Policy,
     masks: &[u64],
     parents: &[u16],
-    ranks: &[u8],
+    node_priorities: &[u8],
     ends: &[u16],
     entries: &[u16],
     e: usize,
@@ -271,7 +271,7 @@ fn share(
     to: usize,
     last: Shared,
 ) -> Shared
-    requires nodes { ⌜ (legal p ≡ true) × Nodes p (now masks) (now parents) (now ranks) × Ends p (now ends) × LeafColumn p (now entries) ⌝ }
+    requires nodes { ⌜ (legal p ≡ true) × Nodes p (now masks) (now parents) (now «node_priorities») × Ends p (now ends) × LeafColumn p (now entries) ⌝ }
     requires place { ⌜ (e < edges p) × List·Memᴰ leaf (orElse 65535 (leaves (forest p) p (source p e))) × (from ≡ firstOver p (targetOf p e)) × (to ≡ firstOver p (targetOf p e + 1)) ⌝ }
     requires shared { ⌜ Shares p e (last .from) (last .to) (last .target) (last .priority) ⌝ }
     ensures { λ r. ⌜ SharedBy p e leaf (r .from) (r .to) (r .target) (r .priority) ⌝ }
@@ -279,7 +279,7 @@ fn share(
     if (last.from <= leaf) & (leaf < last.to) {
         return last;
     }
-    let m = climb(p, masks, parents, ranks, e, leaf);
+    let m = climb(p, masks, parents, node_priorities, e, leaf);
     find(p, ends, entries, e, leaf, m, from, to, last.hint)
 }
 
@@ -289,7 +289,7 @@ pub fn fill_edge(
     heads: &[u8; 64],
     masks: &[u64],
     parents: &[u16],
-    ranks: &[u8],
+    node_priorities: &[u8],
     ends: &[u16],
     entries: &[u16],
     starts: &[usize; 17],
@@ -298,7 +298,7 @@ pub fn fill_edge(
     targets: &mut [u16],
     priorities: &mut [u8],
 )
-    requires nodes { ⌜ (legal p ≡ true) × Nodes p (now masks) (now parents) (now ranks) × Ends p (now ends) ⌝ }
+    requires nodes { ⌜ (legal p ≡ true) × Nodes p (now masks) (now parents) (now «node_priorities») × Ends p (now ends) ⌝ }
     requires states { ⌜ LeafColumn p (now entries) × Starts p (now starts) ⌝ }
     requires edge { ⌜ (v < p .states) × (letter < p .letters) × (now heads ≡ p .target) ⌝ }
     requires room { ⌜ (p .letters * length (built p) ≤ length (now targets)) × (p .letters * length (built p) ≤ length (now priorities)) ⌝ }
@@ -324,7 +324,7 @@ pub fn fill_edge(
             p,
             masks,
             parents,
-            ranks,
+            node_priorities,
             ends,
             entries,
             e,

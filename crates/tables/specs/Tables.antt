@@ -1,7 +1,8 @@
--- What a table holds: a list, and 0 in every place past it.
-use Prim.Native.Nat.{ℕ, _-_}
+-- What a table holds: a list at its beginning, 0 in every place past it, or what is left free.
+use Prim.Native.Nat.{ℕ, _-_, _≤_, _<_}
+use mathlib.Core.Path.{_≡_}
 use mathlib.Core.List.{List, _++_}
-use lib.ListN.{length, replicate}
+use lib.ListN.{length, getD, replicate}
 
 -- l, and 0 in every place past it, n places in all
 unfoldable pub padded : ℕ → List ℕ → List ℕ
@@ -10,3 +11,12 @@ padded n l = l ++ replicate (n - length l) 0
 -- 0 in every place
 unfoldable pub zeros : List ℕ → List ℕ
 zeros t = replicate (length t) 0
+
+-- a table that begins with the list l
+pub record Column (l t : List ℕ) : Type 0 where
+  pub long : length l ≤ length t
+  pub each : (i : ℕ) → i < length l → getD t i 0 ≡ getD l i 0
+
+-- scratch, t₀ before: what it holds at exit is left free, and it is as long as it was
+pub record Undecided (t₀ t : List ℕ) : Type 0 where
+  pub long : length t ≡ length t₀

@@ -56,7 +56,7 @@ fn translate_parts(
     p: policy::Policy,
     masks: &mut [u64],
     parents: &mut [u16],
-    ranks: &mut [u8],
+    node_priorities: &mut [u8],
     sources: &mut [u8],
     leaves: &mut [u16],
     targets: &mut [u16],
@@ -65,14 +65,14 @@ fn translate_parts(
     states: usize,
     rows: usize,
 ) -> Translation
-    requires nodes { ⌜ (nodes ≤ length (now masks)) × (nodes ≤ length (now parents)) × (nodes ≤ length (now ranks)) ⌝ }
+    requires nodes { ⌜ (nodes ≤ length (now masks)) × (nodes ≤ length (now parents)) × (nodes ≤ length (now «node_priorities»)) ⌝ }
     requires states { ⌜ (states ≤ length (now sources)) × (states ≤ length (now leaves)) × (rows ≤ length (now targets)) × (rows ≤ length (now priorities)) ⌝ }
 {
     builder::translating::translate(
         p,
         &mut masks[..nodes],
         &mut parents[..nodes],
-        &mut ranks[..nodes],
+        &mut node_priorities[..nodes],
         &mut sources[..states],
         &mut leaves[..states],
         &mut targets[..rows],
@@ -86,7 +86,7 @@ fn show_room(name: &[u8], p: policy::Policy, nodes: usize, states: usize, rows: 
 {
     let mut masks = [7u64; 4];
     let mut parents = [7u16; 4];
-    let mut ranks = [7u8; 4];
+    let mut node_priorities = [7u8; 4];
     let mut sources = [7u8; 4];
     let mut leaves = [7u16; 4];
     let mut targets = [7u16; 8];
@@ -96,7 +96,7 @@ fn show_room(name: &[u8], p: policy::Policy, nodes: usize, states: usize, rows: 
         p,
         &mut masks,
         &mut parents,
-        &mut ranks,
+        &mut node_priorities,
         &mut sources,
         &mut leaves,
         &mut targets,

@@ -20,7 +20,7 @@ module _ (p : Policy) (m q r s l t k : List ℕ) where
   illegal-tables f = rw f (record {
     masks-are = refl;
     parents-are = refl;
-    ranks-are = refl;
+    node-priorities-are = refl;
     sources-are = refl;
     leaves-are = refl;
     targets-are = refl;

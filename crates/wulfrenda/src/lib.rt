@@ -42,23 +42,23 @@ pub extern "C" fn wulfrenda_translate(
     packed: &[u8; 388],
     masks: &mut [u64],
     parents: &mut [u16],
-    ranks: &mut [u8],
+    node_priorities: &mut [u8],
     sources: &mut [u8],
     leaves: &mut [u16],
     targets: &mut [u16],
     priorities: &mut [u8],
     counts: &mut [u16; 3],
 ) -> u8
-    ensures number { λ r. ⌜ r ≡ translateNumberOf (translationOf (policyOf (now (packed .entry))) (tables (now (masks .entry)) (now (parents .entry)) (now (ranks .entry)) (now (sources .entry)) (now (leaves .entry)) (now (targets .entry)) (now (priorities .entry)))) ⌝ }
-    ensures counts { λ _. ⌜ now (counts .exit) ≡ countsOf (translationOf (policyOf (now (packed .entry))) (tables (now (masks .entry)) (now (parents .entry)) (now (ranks .entry)) (now (sources .entry)) (now (leaves .entry)) (now (targets .entry)) (now (priorities .entry)))) ⌝ }
-    ensures tables { λ _. ⌜ Hold (tablesAfter (policyOf (now (packed .entry))) (tables (now (masks .entry)) (now (parents .entry)) (now (ranks .entry)) (now (sources .entry)) (now (leaves .entry)) (now (targets .entry)) (now (priorities .entry)))) (now (masks .exit)) (now (parents .exit)) (now (ranks .exit)) (now (sources .exit)) (now (leaves .exit)) (now (targets .exit)) (now (priorities .exit)) ⌝ }
+    ensures number { λ r. ⌜ r ≡ translateNumberOf (translationOf (policyOf (now (packed .entry))) (tables (now (masks .entry)) (now (parents .entry)) (now («node_priorities» .entry)) (now (sources .entry)) (now (leaves .entry)) (now (targets .entry)) (now (priorities .entry)))) ⌝ }
+    ensures counts { λ _. ⌜ now (counts .exit) ≡ countsOf (translationOf (policyOf (now (packed .entry))) (tables (now (masks .entry)) (now (parents .entry)) (now («node_priorities» .entry)) (now (sources .entry)) (now (leaves .entry)) (now (targets .entry)) (now (priorities .entry)))) ⌝ }
+    ensures tables { λ _. ⌜ Hold (tablesAfter (policyOf (now (packed .entry))) (tables (now (masks .entry)) (now (parents .entry)) (now («node_priorities» .entry)) (now (sources .entry)) (now (leaves .entry)) (now (targets .entry)) (now (priorities .entry)))) (now (masks .exit)) (now (parents .exit)) (now («node_priorities» .exit)) (now (sources .exit)) (now (leaves .exit)) (now (targets .exit)) (now (priorities .exit)) ⌝ }
 {
     let p = records::policy_of(packed);
     let t = builder::translating::translate(
         p,
         masks,
         parents,
-        ranks,
+        node_priorities,
         sources,
         leaves,
         targets,
@@ -75,7 +75,7 @@ pub extern "C" fn wulfrenda_translate_bytes(
     bytes: &[u8],
     masks: &mut [u64],
     parents: &mut [u16],
-    ranks: &mut [u8],
+    node_priorities: &mut [u8],
     sources: &mut [u8],
     leaves: &mut [u16],
     targets: &mut [u16],
@@ -83,9 +83,9 @@ pub extern "C" fn wulfrenda_translate_bytes(
     counts: &mut [u16; 3],
     offset: &mut usize,
 ) -> u8
-    ensures number { λ r. ⌜ r ≡ firstOf (readNumberOf (readingOf (now (bytes .entry)) .outcome)) (translateNumberOf (translationOf (readingOf (now (bytes .entry)) .policy) (tables (now (masks .entry)) (now (parents .entry)) (now (ranks .entry)) (now (sources .entry)) (now (leaves .entry)) (now (targets .entry)) (now (priorities .entry))))) ⌝ }
-    ensures counts { λ _. ⌜ now (counts .exit) ≡ countsOf (translationOf (readingOf (now (bytes .entry)) .policy) (tables (now (masks .entry)) (now (parents .entry)) (now (ranks .entry)) (now (sources .entry)) (now (leaves .entry)) (now (targets .entry)) (now (priorities .entry)))) ⌝ }
-    ensures tables { λ _. ⌜ Hold (tablesAfter (readingOf (now (bytes .entry)) .policy) (tables (now (masks .entry)) (now (parents .entry)) (now (ranks .entry)) (now (sources .entry)) (now (leaves .entry)) (now (targets .entry)) (now (priorities .entry)))) (now (masks .exit)) (now (parents .exit)) (now (ranks .exit)) (now (sources .exit)) (now (leaves .exit)) (now (targets .exit)) (now (priorities .exit)) ⌝ }
+    ensures number { λ r. ⌜ r ≡ firstOf (readNumberOf (readingOf (now (bytes .entry)) .outcome)) (translateNumberOf (translationOf (readingOf (now (bytes .entry)) .policy) (tables (now (masks .entry)) (now (parents .entry)) (now («node_priorities» .entry)) (now (sources .entry)) (now (leaves .entry)) (now (targets .entry)) (now (priorities .entry))))) ⌝ }
+    ensures counts { λ _. ⌜ now (counts .exit) ≡ countsOf (translationOf (readingOf (now (bytes .entry)) .policy) (tables (now (masks .entry)) (now (parents .entry)) (now («node_priorities» .entry)) (now (sources .entry)) (now (leaves .entry)) (now (targets .entry)) (now (priorities .entry)))) ⌝ }
+    ensures tables { λ _. ⌜ Hold (tablesAfter (readingOf (now (bytes .entry)) .policy) (tables (now (masks .entry)) (now (parents .entry)) (now («node_priorities» .entry)) (now (sources .entry)) (now (leaves .entry)) (now (targets .entry)) (now (priorities .entry)))) (now (masks .exit)) (now (parents .exit)) (now («node_priorities» .exit)) (now (sources .exit)) (now (leaves .exit)) (now (targets .exit)) (now (priorities .exit)) ⌝ }
     ensures offset { λ _. ⌜ now (offset .exit) ≡ offsetOf (readingOf (now (bytes .entry)) .outcome) ⌝ }
 {
     let answer = reading::read(bytes);
@@ -101,7 +101,7 @@ pub extern "C" fn wulfrenda_translate_bytes(
         p,
         masks,
         parents,
-        ranks,
+        node_priorities,
         sources,
         leaves,
         targets,
@@ -138,16 +138,16 @@ pub extern "C" fn wulfrenda_judge_policy(
     packed: &[u8; 388],
     state: u8,
     stem: &[u8],
-    cycle: &[u8],
+    period: &[u8],
     colours: &mut u8,
     accepted: &mut u8,
 ) -> u8
-    ensures number { λ r. ⌜ r ≡ policyNumberOf (policyVerdict (policyOf (now (packed .entry))) state (now (stem .entry)) (now (cycle .entry))) ⌝ }
-    ensures colours { λ _. ⌜ now (colours .exit) ≡ policyColoursOf (policyVerdict (policyOf (now (packed .entry))) state (now (stem .entry)) (now (cycle .entry))) ⌝ }
-    ensures accepted { λ _. ⌜ now (accepted .exit) ≡ flag (policyAcceptedOf (policyVerdict (policyOf (now (packed .entry))) state (now (stem .entry)) (now (cycle .entry)))) ⌝ }
+    ensures number { λ r. ⌜ r ≡ policyNumberOf (policyVerdict (policyOf (now (packed .entry))) state (now (stem .entry)) (now (period .entry))) ⌝ }
+    ensures colours { λ _. ⌜ now (colours .exit) ≡ policyColoursOf (policyVerdict (policyOf (now (packed .entry))) state (now (stem .entry)) (now (period .entry))) ⌝ }
+    ensures accepted { λ _. ⌜ now (accepted .exit) ≡ flag (policyAcceptedOf (policyVerdict (policyOf (now (packed .entry))) state (now (stem .entry)) (now (period .entry)))) ⌝ }
 {
     let p = records::policy_of(packed);
-    let v = judging::judge_policy(p, state, stem, cycle);
+    let v = judging::judge_policy(p, state, stem, period);
     *colours = answers::policy_colours(v);
     *accepted = records::flag(answers::policy_accepted(v));
     answers::policy_number(v)
@@ -161,13 +161,13 @@ pub extern "C" fn wulfrenda_judge_rows(
     priorities: &[u8],
     state: u16,
     stem: &[u8],
-    cycle: &[u8],
+    period: &[u8],
     least: &mut u8,
 ) -> u8
-    ensures number { λ r. ⌜ r ≡ rowsNumberOf (rowsVerdict letters (now (targets .entry)) (now (priorities .entry)) (record { state = state }) (now (stem .entry)) (now (cycle .entry))) ⌝ }
-    ensures least { λ _. ⌜ now (least .exit) ≡ rowsLeastOf (rowsVerdict letters (now (targets .entry)) (now (priorities .entry)) (record { state = state }) (now (stem .entry)) (now (cycle .entry))) ⌝ }
+    ensures number { λ r. ⌜ r ≡ rowsNumberOf (rowsVerdict letters (now (targets .entry)) (now (priorities .entry)) (record { state = state }) (now (stem .entry)) (now (period .entry))) ⌝ }
+    ensures least { λ _. ⌜ now (least .exit) ≡ rowsLeastOf (rowsVerdict letters (now (targets .entry)) (now (priorities .entry)) (record { state = state }) (now (stem .entry)) (now (period .entry))) ⌝ }
 {
-    let v = judging::judge_rows(letters, targets, priorities, state, stem, cycle);
+    let v = judging::judge_rows(letters, targets, priorities, state, stem, period);
     *least = answers::rows_least(v);
     answers::rows_number(v)
 }

@@ -16,10 +16,10 @@ use Rattle.comparing.proofs.pairs_agree.Statement.{statement}
 use Rattle.comparing.proofs.pairs_agree.Tie as tie
 
 abbrev Inv-loop : tie.InvT-loop
-Inv-loop p q heads hues family shades clan t u rows₀ n c₀ rows c = (c ≤ n) × (all (setAgrees p q) (below c) ≡ true) × (length rows ≡ 16)
+Inv-loop p q heads colours family colours2 family2 t u rows₀ n c₀ rows c = (c ≤ n) × (all (setAgrees p q) (below c) ≡ true) × (length rows ≡ 16)
 
 abbrev μ-loop : tie.MeasureT-loop
-μ-loop p q heads hues family shades clan t u rows₀ n c₀ rows c = n - c
+μ-loop p q heads colours family colours2 family2 t u rows₀ n c₀ rows c = n - c
 
 by-colour-requires : tie.Need-by-colour-requires Inv-loop μ-loop
 by-colour-requires c κs = (c .pre .0 .legal-p, c .pre .2)

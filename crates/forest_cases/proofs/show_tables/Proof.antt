@@ -5,10 +5,10 @@ use Rattle.forest_cases.proofs.show_tables.Statement.{statement}
 use Rattle.forest_cases.proofs.show_tables.Tie as tie
 
 abbrev Inv-loop : tie.InvT-loop
-Inv-loop count masks parents ranks n₀ t6 t7 n = n ≤ 256
+Inv-loop count masks parents node-priorities n₀ t6 t7 n = n ≤ 256
 
 abbrev μ-loop : tie.MeasureT-loop
-μ-loop count masks parents ranks n₀ t6 t7 n = 256 - n
+μ-loop count masks parents node-priorities n₀ t6 t7 n = 256 - n
 
 loop-holds : tie.Need-loop-holds Inv-loop μ-loop
 loop-holds c = search needs

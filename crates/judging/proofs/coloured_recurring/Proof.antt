@@ -14,10 +14,10 @@ use Rattle.judging.proofs.coloured_recurring.Statement.{statement}
 use Rattle.judging.proofs.coloured_recurring.Tie as tie
 
 abbrev Inv-loop : tie.InvT-loop
-Inv-loop p heads hues cycle n t₀ w₀ round₀ t w round = ColouredSeeking p cycle (t₀ .state) t w round
+Inv-loop p heads colours period n t₀ w₀ round₀ t w round = ColouredSeeking p period (t₀ .state) t w round
 
 abbrev μ-loop : tie.MeasureT-loop
-μ-loop p heads hues cycle n t₀ w₀ round₀ t w round = n - round
+μ-loop p heads colours period n t₀ w₀ round₀ t w round = n - round
 
 cast-n : tie.Need-cast-n Inv-loop μ-loop
 cast-n c = search needs
@@ -29,8 +29,8 @@ loop-holds : tie.Need-loop-holds Inv-loop μ-loop
 unfolding colouredSince
 loop-holds c =
     let a = c .before .before .before .args in
-    subst (λ (x : Coloured). ColouredSeeking (a .p) (a .cycle .now) (x .state) x (record { kept = a .m .state; since = 0; limit = 1 }) 0) (sym (c .coloured-since .ensures))
-    (coloured-start (a .p) (a .cycle .now) (a .m .state) (colouredAnew (a .m)) refl)
+    subst (λ (x : Coloured). ColouredSeeking (a .p) (a .period .now) (x .state) x (record { kept = a .m .state; since = 0; limit = 1 }) 0) (sym (c .coloured-since .ensures))
+    (coloured-start (a .p) (a .period .now) (a .m .state) (colouredAnew (a .m)) refl)
 
 -- the state in which the search begins
 starts : (c : tie.At-loop Inv-loop μ-loop) → let d = c .before .before .before .before in c .before .coloured-since .result ≡ colouredAnew (d .args .m)
@@ -45,7 +45,7 @@ within : (c : tie.At-loop Inv-loop μ-loop) → let d = c .before .before .befor
 within c =
     let d = c .before .before .before .before in
     let a = d .args in
-    coloured-within (a .p) (a .cycle .now) (c .before .coloured-since .result .state) (c .loop .t) (c .loop .w) (c .loop .round) (c .loop .inv) (d .pre .0) (low c)
+    coloured-within (a .p) (a .period .now) (c .before .coloured-since .result .state) (c .loop .t) (c .loop .w) (c .loop .round) (c .loop .inv) (d .pre .0) (low c)
 
 coloured-since-requires-2 : tie.Need-coloured-since-requires-2 Inv-loop μ-loop
 coloured-since-requires-2 c κs = search needs
@@ -58,9 +58,9 @@ coloured-word-requires c κs =
     (d .pre .0, subst (λ (x : Coloured). x .state < d .args .p .states) (sym (c .coloured-since2 .ensures)) (within l), d .pre .2, d .pre .3, d .pre .4)
 
 -- a round, run with nothing met yet
-one : (c : tie.After-coloured-word Inv-loop μ-loop) → let a = c .before .before .before .before .before .before .before .args in c .coloured-word .result ≡ colouredAfter (a .p) (a .cycle .now) (colouredAnew (c .before .before .before .loop .t))
+one : (c : tie.After-coloured-word Inv-loop μ-loop) → let a = c .before .before .before .before .before .before .before .args in c .coloured-word .result ≡ colouredAfter (a .p) (a .period .now) (colouredAnew (c .before .before .before .loop .t))
 unfolding colouredSince
-one c = let a = c .before .before .before .before .before .before .before .args in c .coloured-word .ensures ∙ ap (colouredAfter (a .p) (a .cycle .now)) (c .before .coloured-since2 .ensures)
+one c = let a = c .before .before .before .before .before .before .before .args in c .coloured-word .ensures ∙ ap (colouredAfter (a .p) (a .period .now)) (c .before .coloured-since2 .ensures)
 
 returns : tie.Need-returns Inv-loop μ-loop
 returns c =
@@ -68,8 +68,8 @@ returns c =
     let l = r .before .before .before in
     let d = l .before .before .before .before in
     let a = d .args in
-    coloured-alone (a .p) (a .cycle .now) (l .before .coloured-since .result .state) (l .loop .t) (l .loop .w) (l .loop .round) (l .loop .inv) (r .coloured-word .result) (one r) (d .pre .0) (low l) (c .if1 .taken)
-    ∙ ap (λ (x : Coloured). recurringColours (a .p) (x .state) [] (a .cycle .now)) (starts l)
+    coloured-alone (a .p) (a .period .now) (l .before .coloured-since .result .state) (l .loop .t) (l .loop .w) (l .loop .round) (l .loop .inv) (r .coloured-word .result) (one r) (d .pre .0) (low l) (c .if1 .taken)
+    ∙ ap (λ (x : Coloured). recurringColours (a .p) (x .state) [] (a .period .now)) (starts l)
 
 coloured-joined-requires : tie.Need-coloured-joined-requires Inv-loop μ-loop
 coloured-joined-requires c κs = search needs
@@ -81,9 +81,9 @@ returns-2 c =
     let l = r .before .before .before in
     let d = l .before .before .before .before in
     let a = d .args in
-    coloured-found (a .p) (a .cycle .now) (l .before .coloured-since .result .state) (l .loop .t) (l .loop .w) (l .loop .round) (l .loop .inv) (r .coloured-word .result) (one r)
+    coloured-found (a .p) (a .period .now) (l .before .coloured-since .result .state) (l .loop .t) (l .loop .w) (l .loop .round) (l .loop .inv) (r .coloured-word .result) (one r)
     (j .coloured-joined .result) (j .coloured-joined .ensures) (d .pre .0) (low l) (c .if2 .taken)
-    ∙ ap (λ (x : Coloured). recurringColours (a .p) (x .state) [] (a .cycle .now)) (starts l)
+    ∙ ap (λ (x : Coloured). recurringColours (a .p) (x .state) [] (a .period .now)) (starts l)
 
 watch-next-requires : tie.Need-watch-next-requires Inv-loop μ-loop
 watch-next-requires c κs =
@@ -111,7 +111,7 @@ loop-again c =
     let r = j .before .before .before .before in
     let l = r .before .before .before in
     let a = l .before .before .before .before .args in
-    coloured-next (a .p) (a .cycle .now) (l .before .coloured-since .result .state) (l .loop .t) (l .loop .w) (l .loop .round) (l .loop .inv) (r .coloured-word .result) (one r)
+    coloured-next (a .p) (a .period .now) (l .before .coloured-since .result .state) (l .loop .t) (l .loop .w) (l .loop .round) (l .loop .inv) (r .coloured-word .result) (one r)
     (j .coloured-joined .result) (j .coloured-joined .ensures) (r .before .before .loop-test .taken) (c .before .watch-next .result) (c .before .watch-next .ensures) _ (c .coloured-since3 .ensures)
 
 coloured-since-requires-4 : tie.Need-coloured-since-requires-4 Inv-loop μ-loop
@@ -129,9 +129,9 @@ unfolding colouredSince
 returns-3 c =
     let l = c .before .before .before in
     let a = l .before .before .before .before .args in
-    coloured-end (a .p) (a .cycle .now) (l .before .coloured-since .result .state) (l .loop .t) (l .loop .w) (l .loop .round) (l .loop .inv) (c .before .before .loop-test .left) (c .coloured-rounds .result)
-    (c .coloured-rounds .ensures ∙ ap (iter (colouredAfter (a .p) (a .cycle .now)) (a .p .states)) (c .before .coloured-since4 .ensures))
-    ∙ ap (λ (x : Coloured). recurringColours (a .p) (x .state) [] (a .cycle .now)) (starts l)
+    coloured-end (a .p) (a .period .now) (l .before .coloured-since .result .state) (l .loop .t) (l .loop .w) (l .loop .round) (l .loop .inv) (c .before .before .loop-test .left) (c .coloured-rounds .result)
+    (c .coloured-rounds .ensures ∙ ap (iter (colouredAfter (a .p) (a .period .now)) (a .p .states)) (c .before .coloured-since4 .ensures))
+    ∙ ap (λ (x : Coloured). recurringColours (a .p) (x .state) [] (a .period .now)) (starts l)
 
 pub coloured-recurring-spec : {M : Type 1} → statement M
 coloured-recurring-spec =

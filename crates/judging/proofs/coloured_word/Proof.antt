@@ -11,10 +11,10 @@ use Rattle.judging.proofs.coloured_word.Statement.{statement}
 use Rattle.judging.proofs.coloured_word.Tie as tie
 
 abbrev Inv-loop : tie.InvT-loop
-Inv-loop p heads hues word t₀ i₀ t i = (i ≤ length word) × (t .state < p .states) × (colouredAfter p (drop i word) t ≡ colouredAfter p word t₀)
+Inv-loop p heads colours word t₀ i₀ t i = (i ≤ length word) × (t .state < p .states) × (colouredAfter p (drop i word) t ≡ colouredAfter p word t₀)
 
 abbrev μ-loop : tie.MeasureT-loop
-μ-loop p heads hues word t₀ i₀ t i = length word - i
+μ-loop p heads colours word t₀ i₀ t i = length word - i
 
 loop-holds : tie.Need-loop-holds Inv-loop μ-loop
 loop-holds c = (omega arith, c .before .pre .1, refl)

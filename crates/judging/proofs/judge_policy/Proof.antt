@@ -19,7 +19,7 @@ is-legal-requires c κs = search needs
 returns : tie.Need-returns
 returns c =
     let a = c .before .before .before .before .args in
-    sym (policy-7 (a .t1) (a .state) (a .stem .now) (a .cycle .now) (sym (c .before .is-legal .ensures) ∙ not-true _ (c .if1 .taken)))
+    sym (policy-7 (a .t1) (a .state) (a .stem .now) (a .period .now) (sym (c .before .is-legal .ensures) ∙ not-true _ (c .if1 .taken)))
 
 -- past question 7
 ok : (c : tie.Else1) → legal (c .before .before .before .before .args .t1) ≡ true
@@ -28,12 +28,12 @@ ok c = sym (c .before .is-legal .ensures) ∙ not-false _ (c .if1 .left)
 returns-2 : tie.Need-returns-2
 returns-2 c =
     let a = c .before .before .before .before .before .args in
-    sym (policy-11 (a .t1) (a .state) (a .stem .now) (a .cycle .now) (ok (c .before)) (c .if2 .taken))
+    sym (policy-11 (a .t1) (a .state) (a .stem .now) (a .period .now) (ok (c .before)) (c .if2 .taken))
 
 returns-3 : tie.Need-returns-3
 returns-3 c =
     let a = c .before .before .before .before .before .before .args in
-    sym (policy-14 (a .t1) (a .state) (a .stem .now) (a .cycle .now) (ok (c .before .before)) (c .before .if2 .left) (c .if3 .taken))
+    sym (policy-14 (a .t1) (a .state) (a .stem .now) (a .period .now) (ok (c .before .before)) (c .before .if2 .left) (c .if3 .taken))
 
 in-range-requires : tie.Need-in-range-requires
 in-range-requires c κs = search needs
@@ -45,11 +45,11 @@ returns-4 : tie.Need-returns-4
 returns-4 c =
     let e = c .before .before .before in
     let a = e .before .before .before .before .before .before .args in
-    sym (policy-12 (a .t1) (a .state) (a .stem .now) (a .cycle .now) (ok (e .before .before)) (e .before .if2 .left) (e .if3 .left)
+    sym (policy-12 (a .t1) (a .state) (a .stem .now) (a .period .now) (ok (e .before .before)) (e .before .if2 .left) (e .if3 .left)
     (sym (ap₂ _&&_ (c .before .before .in-range .ensures) (c .before .in-range2 .ensures)) ∙ not-true _ (c .if4 .taken)))
 
 -- past question 12
-range : (c : tie.Else4) → let a = c .before .before .before .before .before .before .before .before .before .args in inRange (a .t1 .letters) (a .stem .now) && inRange (a .t1 .letters) (a .cycle .now) ≡ true
+range : (c : tie.Else4) → let a = c .before .before .before .before .before .before .before .before .before .args in inRange (a .t1 .letters) (a .stem .now) && inRange (a .t1 .letters) (a .period .now) ≡ true
 range c = sym (ap₂ _&&_ (c .before .before .in-range .ensures) (c .before .in-range2 .ensures)) ∙ not-false _ (c .if4 .left)
 
 coloured-word-requires : tie.Need-coloured-word-requires
@@ -57,7 +57,7 @@ coloured-word-requires c κs =
     let d = c .before .before .before in
     let e = d .before .before .before in
     let a = e .before .before .before .before .before .before .args in
-    (ok (e .before .before), e .before .if2 .left, and-l (inRange (a .t1 .letters) (a .stem .now)) (inRange (a .t1 .letters) (a .cycle .now)) (range d), refl, refl)
+    (ok (e .before .before), e .before .if2 .left, and-l (inRange (a .t1 .letters) (a .stem .now)) (inRange (a .t1 .letters) (a .period .now)) (range d), refl, refl)
 
 coloured-recurring-requires : tie.Need-coloured-recurring-requires
 coloured-recurring-requires c κs =
@@ -67,7 +67,7 @@ coloured-recurring-requires c κs =
     let a = e .before .before .before .before .before .before .args in (
       ok (e .before .before),
       subst (λ (m : Coloured). m .state < a .t1 .states) (sym (w .coloured-word .ensures)) (word-within (a .t1) (ok (e .before .before)) (a .stem .now) _ (e .before .if2 .left)),
-      and-r (inRange (a .t1 .letters) (a .stem .now)) (inRange (a .t1 .letters) (a .cycle .now)) (range d),
+      and-r (inRange (a .t1 .letters) (a .stem .now)) (inRange (a .t1 .letters) (a .period .now)) (range d),
       refl,
       refl,
     )
@@ -86,9 +86,9 @@ returns-5 c =
     let d = f .before .before .before .before in
     let e = d .before .before .before in
     let a = e .before .before .before .before .before .before .args in
-    let is = r .coloured-recurring .ensures ∙ colours-after (a .t1) (a .state) (a .stem .now) (a .cycle .now) _ (f .coloured-word .ensures) in
+    let is = r .coloured-recurring .ensures ∙ colours-after (a .t1) (a .state) (a .stem .now) (a .period .now) _ (f .coloured-word .ensures) in
     ap₂ Judged is (ap (inFamily (a .t1)) is)
-    ∙ sym (policy-judged (a .t1) (a .state) (a .stem .now) (a .cycle .now) (ok (e .before .before)) (e .before .if2 .left) (e .if3 .left) (range d))
+    ∙ sym (policy-judged (a .t1) (a .state) (a .stem .now) (a .period .now) (ok (e .before .before)) (e .before .if2 .left) (e .if3 .left) (range d))
 
 pub judge-policy-spec : {M : Type 1} → statement M
 judge-policy-spec =

@@ -10,7 +10,7 @@ use Rattle.running.proofs.Shapes.{states-shaped, states-unshaped}
 use Rattle.judging.specs.declared.RowsVerdict.the-variants.{Least}
 use Rattle.judging.specs.declared.Seen.{Seen}
 use Rattle.judging.specs.Judging.{inRange}
-use Rattle.judging.proofs.Rows.{word-stays, least-after, stray-after, rows-8, rows-11, rows-14, rows-12, rows-13, rows-least}
+use Rattle.judging.proofs.Rows.{word-stays, least-after, dangling-after, rows-8, rows-11, rows-14, rows-12, rows-13, rows-least}
 use borrow.Author.Needs.{needs}
 use Rattle.judging.proofs.judge_rows.Statement.{statement}
 use Rattle.judging.proofs.judge_rows.Tie as tie
@@ -21,7 +21,7 @@ states-of-requires c κs = search needs
 returns : tie.Need-returns
 returns c =
     let a = c .before .before .before .before .before .before .args in
-    sym (rows-8 (a .letters) (a .targets .now) (a .priorities .now) (record { state = a .state }) (a .stem .now) (a .cycle .now) (states-unshaped _ _ _ _ (c .before .states-of .ensures) (c .if1 .taken)))
+    sym (rows-8 (a .letters) (a .targets .now) (a .priorities .now) (record { state = a .state }) (a .stem .now) (a .period .now) (states-unshaped _ _ _ _ (c .before .states-of .ensures) (c .if1 .taken)))
 
 -- past question 8
 shape : (c : tie.Else1) → let a = c .before .before .before .before .before .before .args in shaped (a .letters) (a .targets .now) (a .priorities .now) ≡ true
@@ -37,12 +37,12 @@ state c = subst (λ (n : ℕ). c .before .before .before .before .before .before
 returns-2 : tie.Need-returns-2
 returns-2 c =
     let a = c .before .before .before .before .before .before .before .args in
-    sym (rows-11 (a .letters) (a .targets .now) (a .priorities .now) (record { state = a .state }) (a .stem .now) (a .cycle .now) (shape (c .before)) (subst (λ (n : ℕ). n ≤ a .state) (counted (c .before)) (c .if2 .taken)))
+    sym (rows-11 (a .letters) (a .targets .now) (a .priorities .now) (record { state = a .state }) (a .stem .now) (a .period .now) (shape (c .before)) (subst (λ (n : ℕ). n ≤ a .state) (counted (c .before)) (c .if2 .taken)))
 
 returns-3 : tie.Need-returns-3
 returns-3 c =
     let a = c .before .before .before .before .before .before .before .before .args in
-    sym (rows-14 (a .letters) (a .targets .now) (a .priorities .now) (record { state = a .state }) (a .stem .now) (a .cycle .now) (shape (c .before .before)) (state (c .before)) (c .if3 .taken))
+    sym (rows-14 (a .letters) (a .targets .now) (a .priorities .now) (record { state = a .state }) (a .stem .now) (a .period .now) (shape (c .before .before)) (state (c .before)) (c .if3 .taken))
 
 in-range-requires : tie.Need-in-range-requires
 in-range-requires c κs = search needs
@@ -54,18 +54,18 @@ returns-4 : tie.Need-returns-4
 returns-4 c =
     let a = c .before .before .before .before .before .before .before .before .before .before .before .args in
     let d = c .before .before .before in
-    sym (rows-12 (a .letters) (a .targets .now) (a .priorities .now) (record { state = a .state }) (a .stem .now) (a .cycle .now) (shape (d .before .before)) (state (d .before)) (d .if3 .left)
+    sym (rows-12 (a .letters) (a .targets .now) (a .priorities .now) (record { state = a .state }) (a .stem .now) (a .period .now) (shape (d .before .before)) (state (d .before)) (d .if3 .left)
     (sym (ap₂ _&&_ (c .before .before .in-range .ensures) (c .before .in-range2 .ensures)) ∙ not-true _ (c .if4 .taken)))
 
 -- past question 12
-range : (c : tie.Else4) → let a = c .before .before .before .before .before .before .before .before .before .before .before .args in inRange (a .letters) (a .stem .now) && inRange (a .letters) (a .cycle .now) ≡ true
+range : (c : tie.Else4) → let a = c .before .before .before .before .before .before .before .before .before .before .before .args in inRange (a .letters) (a .stem .now) && inRange (a .letters) (a .period .now) ≡ true
 range c = sym (ap₂ _&&_ (c .before .before .in-range .ensures) (c .before .in-range2 .ensures)) ∙ not-false _ (c .if4 .left)
 
 seen-word-requires : tie.Need-seen-word-requires
 seen-word-requires c κs =
     let e = c .before .before .before in
     let a = e .before .before .before .before .before .before .before .before .args in
-    (shape (e .before .before), counted (e .before .before), e .before .if2 .left, and-l (inRange (a .letters) (a .stem .now)) (inRange (a .letters) (a .cycle .now)) (range c))
+    (shape (e .before .before), counted (e .before .before), e .before .if2 .left, and-l (inRange (a .letters) (a .stem .now)) (inRange (a .letters) (a .period .now)) (range c))
 
 seen-recurring-requires : tie.Need-seen-recurring-requires
 seen-recurring-requires c κs =
@@ -76,7 +76,7 @@ seen-recurring-requires c κs =
       counted (e .before .before),
       subst (λ (n : ℕ). c .seen-word .result .state < n) (sym (counted (e .before .before)))
           (subst (λ (s : Seen). s .state < rowStates (a .letters) (a .targets .now) (a .priorities .now)) (sym (c .seen-word .ensures)) (word-stays (a .letters) (a .targets .now) (a .priorities .now) (a .stem .now) _ (state (e .before)))),
-      and-r (inRange (a .letters) (a .stem .now)) (inRange (a .letters) (a .cycle .now)) (range d),
+      and-r (inRange (a .letters) (a .stem .now)) (inRange (a .letters) (a .period .now)) (range d),
     )
 
 returns-5 : tie.Need-returns-5
@@ -86,8 +86,8 @@ returns-5 c =
     let e = d .before .before .before in
     let a = e .before .before .before .before .before .before .before .before .args in
     let r : Run = record { state = a .state } in
-    sym (rows-13 (a .letters) (a .targets .now) (a .priorities .now) r (a .stem .now) (a .cycle .now) (shape (e .before .before)) (state (e .before)) (e .if3 .left) (range d)
-    (sym (c .before .seen-recurring .ensures .1 ∙ stray-after (a .letters) (a .targets .now) (a .priorities .now) r (a .stem .now) (a .cycle .now) _ (f .seen-word .ensures)) ∙ c .if5 .taken))
+    sym (rows-13 (a .letters) (a .targets .now) (a .priorities .now) r (a .stem .now) (a .period .now) (shape (e .before .before)) (state (e .before)) (e .if3 .left) (range d)
+    (sym (c .before .seen-recurring .ensures .1 ∙ dangling-after (a .letters) (a .targets .now) (a .priorities .now) r (a .stem .now) (a .period .now) _ (f .seen-word .ensures)) ∙ c .if5 .taken))
 
 returns-6 : tie.Need-returns-6
 returns-6 c =
@@ -96,9 +96,9 @@ returns-6 c =
     let e = d .before .before .before in
     let a = e .before .before .before .before .before .before .before .before .args in
     let r : Run = record { state = a .state } in
-    ap Least (c .before .seen-recurring .ensures .0 ∙ least-after (a .letters) (a .targets .now) (a .priorities .now) r (a .stem .now) (a .cycle .now) _ (f .seen-word .ensures))
-    ∙ sym (rows-least (a .letters) (a .targets .now) (a .priorities .now) r (a .stem .now) (a .cycle .now) (shape (e .before .before)) (state (e .before)) (e .if3 .left) (range d)
-    (sym (c .before .seen-recurring .ensures .1 ∙ stray-after (a .letters) (a .targets .now) (a .priorities .now) r (a .stem .now) (a .cycle .now) _ (f .seen-word .ensures)) ∙ c .if5 .left))
+    ap Least (c .before .seen-recurring .ensures .0 ∙ least-after (a .letters) (a .targets .now) (a .priorities .now) r (a .stem .now) (a .period .now) _ (f .seen-word .ensures))
+    ∙ sym (rows-least (a .letters) (a .targets .now) (a .priorities .now) r (a .stem .now) (a .period .now) (shape (e .before .before)) (state (e .before)) (e .if3 .left) (range d)
+    (sym (c .before .seen-recurring .ensures .1 ∙ dangling-after (a .letters) (a .targets .now) (a .priorities .now) r (a .stem .now) (a .period .now) _ (f .seen-word .ensures)) ∙ c .if5 .left))
 
 pub judge-rows-spec : {M : Type 1} → statement M
 judge-rows-spec =

@@ -8,7 +8,7 @@ use Rattle.recurrence.specs.Recurs.{iter}
 use Rattle.running.specs.Running.{rowStates}
 use Rattle.running.proofs.Laws.{shaped-facts}
 use Rattle.judging.specs.declared.Seen.{Seen}
-use Rattle.judging.specs.Judging.{leastRecurring, everStray}
+use Rattle.judging.specs.Judging.{leastRecurring, everDangling}
 use Rattle.judging.specs.Rounds.{runOf, seenAfter, seenAnew, seenSince}
 use Rattle.judging.proofs.Rows.{SeenSeeking, seen-start, seeking-stays, seen-next, seen-alone, seen-found, seen-end}
 use borrow.Author.Needs.{needs}
@@ -16,10 +16,10 @@ use Rattle.judging.proofs.seen_recurring.Statement.{statement}
 use Rattle.judging.proofs.seen_recurring.Tie as tie
 
 abbrev Inv-loop : tie.InvT-loop
-Inv-loop cycle n letters targets priorities t₀ w₀ round₀ t w round = SeenSeeking letters targets priorities cycle t₀ t w round
+Inv-loop period n letters targets priorities t₀ w₀ round₀ t w round = SeenSeeking letters targets priorities period t₀ t w round
 
 abbrev μ-loop : tie.MeasureT-loop
-μ-loop cycle n letters targets priorities t₀ w₀ round₀ t w round = n - round
+μ-loop period n letters targets priorities t₀ w₀ round₀ t w round = n - round
 
 seen-since-requires : tie.Need-seen-since-requires Inv-loop μ-loop
 seen-since-requires c κs = search needs
@@ -28,8 +28,8 @@ loop-holds : tie.Need-loop-holds Inv-loop μ-loop
 unfolding seenSince
 loop-holds c =
     let a = c .before .before .before .before .args in
-    subst (λ (x : Seen). SeenSeeking (a .letters) (a .targets .now) (a .priorities .now) (a .cycle .now) x x (record { kept = a .s .state; since = 0; limit = 1 }) 0) (sym (c .seen-since .ensures))
-    (seen-start (a .letters) (a .targets .now) (a .priorities .now) (a .cycle .now) (seenAnew (a .s)) (seenAnew (a .s)) refl)
+    subst (λ (x : Seen). SeenSeeking (a .letters) (a .targets .now) (a .priorities .now) (a .period .now) x x (record { kept = a .s .state; since = 0; limit = 1 }) 0) (sym (c .seen-since .ensures))
+    (seen-start (a .letters) (a .targets .now) (a .priorities .now) (a .period .now) (seenAnew (a .s)) (seenAnew (a .s)) refl)
 
 -- where the search begins
 starts : (c : tie.At-loop Inv-loop μ-loop) → let a = c .before .before .before .before .before .args in c .before .seen-since .result ≡ seenAnew (a .s)
@@ -48,7 +48,7 @@ within c =
     let d = c .before .before .before .before .before in
     let a = d .args in
     subst (λ (k : ℕ). c .loop .t .state < k) (sym (d .pre .1))
-    (seeking-stays (a .letters) (a .targets .now) (a .priorities .now) (a .cycle .now) (c .before .seen-since .result) (c .loop .t) (c .loop .w) (c .loop .round) (c .loop .inv) (low c))
+    (seeking-stays (a .letters) (a .targets .now) (a .priorities .now) (a .period .now) (c .before .seen-since .result) (c .loop .t) (c .loop .w) (c .loop .round) (c .loop .inv) (low c))
 
 -- there are at most 65,535 states
 few : (c : tie.At-loop Inv-loop μ-loop) → let d = c .before .before .before .before .before in d .args .n ≤ 65535
@@ -57,11 +57,11 @@ few c = let d = c .before .before .before .before .before in subst (λ (k : ℕ)
 
 -- what is found from there is what is found from s
 from-s : (c : tie.At-loop Inv-loop μ-loop) (r : Seen) → let a = c .before .before .before .before .before .args in let x = c .before .seen-since .result in
-    (r .least ≡ leastRecurring (a .letters) (a .targets .now) (a .priorities .now) (runOf x) [] (a .cycle .now)) × (r .stray ≡ x .stray || everStray (a .letters) (a .targets .now) (a .priorities .now) (runOf x) [] (a .cycle .now))
-    → (r .least ≡ leastRecurring (a .letters) (a .targets .now) (a .priorities .now) (runOf (a .s)) [] (a .cycle .now)) × (r .stray ≡ a .s .stray || everStray (a .letters) (a .targets .now) (a .priorities .now) (runOf (a .s)) [] (a .cycle .now))
+    (r .least ≡ leastRecurring (a .letters) (a .targets .now) (a .priorities .now) (runOf x) [] (a .period .now)) × (r .dangling ≡ x .dangling || everDangling (a .letters) (a .targets .now) (a .priorities .now) (runOf x) [] (a .period .now))
+    → (r .least ≡ leastRecurring (a .letters) (a .targets .now) (a .priorities .now) (runOf (a .s)) [] (a .period .now)) × (r .dangling ≡ a .s .dangling || everDangling (a .letters) (a .targets .now) (a .priorities .now) (runOf (a .s)) [] (a .period .now))
 from-s c r h =
     let a = c .before .before .before .before .before .args in
-    subst (λ (x : Seen). (r .least ≡ leastRecurring (a .letters) (a .targets .now) (a .priorities .now) (runOf x) [] (a .cycle .now)) × (r .stray ≡ x .stray || everStray (a .letters) (a .targets .now) (a .priorities .now) (runOf x) [] (a .cycle .now))) (starts c) h
+    subst (λ (x : Seen). (r .least ≡ leastRecurring (a .letters) (a .targets .now) (a .priorities .now) (runOf x) [] (a .period .now)) × (r .dangling ≡ x .dangling || everDangling (a .letters) (a .targets .now) (a .priorities .now) (runOf x) [] (a .period .now))) (starts c) h
 
 seen-since-requires-2 : tie.Need-seen-since-requires-2 Inv-loop μ-loop
 seen-since-requires-2 c κs = search needs
@@ -74,9 +74,9 @@ seen-word-requires c κs =
     (d .pre .0, d .pre .1, subst (λ (x : Seen). x .state < d .args .n) (sym (c .seen-since2 .ensures)) (within l), d .pre .3)
 
 -- a round, run with no priority met yet
-one : (c : tie.After-seen-word Inv-loop μ-loop) → let a = c .before .before .before .before .before .before .before .before .args in c .seen-word .result ≡ seenAfter (a .letters) (a .targets .now) (a .priorities .now) (a .cycle .now) (seenAnew (c .before .before .before .loop .t))
+one : (c : tie.After-seen-word Inv-loop μ-loop) → let a = c .before .before .before .before .before .before .before .before .args in c .seen-word .result ≡ seenAfter (a .letters) (a .targets .now) (a .priorities .now) (a .period .now) (seenAnew (c .before .before .before .loop .t))
 unfolding seenSince
-one c = let a = c .before .before .before .before .before .before .before .before .args in c .seen-word .ensures ∙ ap (seenAfter (a .letters) (a .targets .now) (a .priorities .now) (a .cycle .now)) (c .before .seen-since2 .ensures)
+one c = let a = c .before .before .before .before .before .before .before .before .args in c .seen-word .ensures ∙ ap (seenAfter (a .letters) (a .targets .now) (a .priorities .now) (a .period .now)) (c .before .seen-since2 .ensures)
 
 returns : tie.Need-returns Inv-loop μ-loop
 returns c =
@@ -84,7 +84,7 @@ returns c =
     let l = r .before .before .before in
     let a = l .before .before .before .before .before .args in
     from-s l (r .seen-word .result)
-    (seen-alone (a .letters) (a .targets .now) (a .priorities .now) (a .cycle .now) (l .before .seen-since .result) (l .loop .t) (l .loop .w) (l .loop .round) (l .loop .inv) (r .seen-word .result) (one r)
+    (seen-alone (a .letters) (a .targets .now) (a .priorities .now) (a .period .now) (l .before .seen-since .result) (l .loop .t) (l .loop .w) (l .loop .round) (l .loop .inv) (r .seen-word .result) (one r)
     (low l) (c .if1 .taken))
 
 seen-joined-requires : tie.Need-seen-joined-requires Inv-loop μ-loop
@@ -97,7 +97,7 @@ returns-2 c =
     let l = r .before .before .before in
     let a = l .before .before .before .before .before .args in
     from-s l (j .seen-joined .result)
-    (seen-found (a .letters) (a .targets .now) (a .priorities .now) (a .cycle .now) (l .before .seen-since .result) (l .loop .t) (l .loop .w) (l .loop .round) (l .loop .inv) (r .seen-word .result) (one r)
+    (seen-found (a .letters) (a .targets .now) (a .priorities .now) (a .period .now) (l .before .seen-since .result) (l .loop .t) (l .loop .w) (l .loop .round) (l .loop .inv) (r .seen-word .result) (one r)
     (j .seen-joined .result) (j .seen-joined .ensures) (low l) (c .if2 .taken))
 
 watch-next-requires : tie.Need-watch-next-requires Inv-loop μ-loop
@@ -124,7 +124,7 @@ loop-again c =
     let l = r .before .before .before in
     let d = l .before .before .before .before .before in
     let a = d .args in
-    seen-next (a .letters) (a .targets .now) (a .priorities .now) (a .cycle .now) (l .before .seen-since .result) (l .loop .t) (l .loop .w) (l .loop .round) (l .loop .inv) (r .seen-word .result) (one r)
+    seen-next (a .letters) (a .targets .now) (a .priorities .now) (a .period .now) (l .before .seen-since .result) (l .loop .t) (l .loop .w) (l .loop .round) (l .loop .inv) (r .seen-word .result) (one r)
     (j .seen-joined .result) (j .seen-joined .ensures) (subst (λ (k : ℕ). l .loop .round < k) (d .pre .1) (r .before .before .loop-test .taken)) (c .before .watch-next .result) (c .before .watch-next .ensures) _ (c .seen-since3 .ensures)
 
 seen-since-requires-4 : tie.Need-seen-since-requires-4 Inv-loop μ-loop
@@ -143,11 +143,11 @@ returns-3 c =
     let l = c .before .before .before in
     let d = l .before .before .before .before .before in
     let a = d .args in
-    let f = seenAfter (a .letters) (a .targets .now) (a .priorities .now) (a .cycle .now) in
+    let f = seenAfter (a .letters) (a .targets .now) (a .priorities .now) (a .period .now) in
     let is : c .seen-rounds .result ≡ iter f (rowStates (a .letters) (a .targets .now) (a .priorities .now)) (seenAnew (l .loop .t))
     = c .seen-rounds .ensures ∙ ap (iter f (a .n)) (c .before .seen-since4 .ensures) ∙ ap (λ (k : ℕ). iter f k (seenAnew (l .loop .t))) (d .pre .1) in
     from-s l (c .seen-rounds .result)
-    (seen-end (a .letters) (a .targets .now) (a .priorities .now) (a .cycle .now) (l .before .seen-since .result) (l .loop .t) (l .loop .w) (l .loop .round) (l .loop .inv)
+    (seen-end (a .letters) (a .targets .now) (a .priorities .now) (a .period .now) (l .before .seen-since .result) (l .loop .t) (l .loop .w) (l .loop .round) (l .loop .inv)
     (low l) (subst (λ (k : ℕ). k ≤ l .loop .round) (d .pre .1) (c .before .before .loop-test .left)) (c .seen-rounds .result) is)
 
 pub seen-recurring-spec : {M : Type 1} → statement M

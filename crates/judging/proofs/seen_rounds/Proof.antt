@@ -12,10 +12,10 @@ use Rattle.judging.proofs.seen_rounds.Statement.{statement}
 use Rattle.judging.proofs.seen_rounds.Tie as tie
 
 abbrev Inv-loop : tie.InvT-loop
-Inv-loop cycle n letters targets priorities t₀ i₀ t i = (i ≤ n) × (t ≡ iter (seenAfter letters targets priorities cycle) i t₀)
+Inv-loop period n letters targets priorities t₀ i₀ t i = (i ≤ n) × (t ≡ iter (seenAfter letters targets priorities period) i t₀)
 
 abbrev μ-loop : tie.MeasureT-loop
-μ-loop cycle n letters targets priorities t₀ i₀ t i = n - i
+μ-loop period n letters targets priorities t₀ i₀ t i = n - i
 
 loop-holds : tie.Need-loop-holds Inv-loop μ-loop
 unfolding iter
@@ -29,8 +29,8 @@ seen-word-requires c κs =
       d .pre .0,
       d .pre .1,
       subst (λ (s : Seen). s .state < a .n) (sym (l .loop .inv .1))
-          (subst (λ (n : ℕ). iter (seenAfter (a .letters) (a .targets .now) (a .priorities .now) (a .cycle .now)) (l .loop .i) (a .s) .state < n) (sym (d .pre .1))
-          (rounds-stay (a .letters) (a .targets .now) (a .priorities .now) (a .cycle .now) (l .loop .i) (a .s) (subst (λ (n : ℕ). a .s .state < n) (d .pre .1) (d .pre .2)))),
+          (subst (λ (n : ℕ). iter (seenAfter (a .letters) (a .targets .now) (a .priorities .now) (a .period .now)) (l .loop .i) (a .s) .state < n) (sym (d .pre .1))
+          (rounds-stay (a .letters) (a .targets .now) (a .priorities .now) (a .period .now) (l .loop .i) (a .s) (subst (λ (n : ℕ). a .s .state < n) (d .pre .1) (d .pre .2)))),
       d .pre .3,
     )
 
@@ -44,7 +44,7 @@ loop-again : tie.Need-loop-again Inv-loop μ-loop
 loop-again c =
     let l = c .before .before in
     let a = l .before .before .before .before .args in
-    (omega (arith, c .before .loop-test .taken), iter-turn (seenAfter (a .letters) (a .targets .now) (a .priorities .now) (a .cycle .now)) (a .s) (l .loop .t) _ (l .loop .i) (l .loop .inv .1) (c .seen-word .ensures))
+    (omega (arith, c .before .loop-test .taken), iter-turn (seenAfter (a .letters) (a .targets .now) (a .priorities .now) (a .period .now)) (a .s) (l .loop .t) _ (l .loop .i) (l .loop .inv .1) (c .seen-word .ensures))
 
 returns : tie.Need-returns Inv-loop μ-loop
 returns c = cc (le-antisymm (c .before .loop .inv .0) (c .loop-test .left))

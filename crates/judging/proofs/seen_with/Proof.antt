@@ -6,7 +6,7 @@ use lib.ListN.{length}
 use borrow.Author.Tests.{lt-ltb, le-ltb}
 use Rattle.running.specs.Running.{rowStates}
 use Rattle.running.proofs.Laws.{shaped-facts, row-lt}
-use Rattle.judging.proofs.Rows.{seen-strays, seen-moves}
+use Rattle.judging.proofs.Rows.{seen-dangles, seen-moves}
 use Rattle.judging.proofs.seen_with.Statement.{statement}
 use Rattle.judging.proofs.seen_with.Tie as tie
 
@@ -40,7 +40,7 @@ returns : tie.Need-returns
 returns c =
     let d = c .before .before .before in
     let a = d .args in
-    seen-strays (a .letters) (a .targets .now) (a .priorities .now) (d .pre .0) (a .s) (a .letter) (among d _ (d .pre .2)) (d .pre .3) (beyond d _ (c .if1 .taken))
+    seen-dangles (a .letters) (a .targets .now) (a .priorities .now) (d .pre .0) (a .s) (a .letter) (among d _ (d .pre .2)) (d .pre .3) (beyond d _ (c .if1 .taken))
 
 shared-slice-read-met : tie.Need-shared-slice-read-met
 shared-slice-read-met c = let d = c .before .before .before .before in omega (arith, row d, shaped-facts _ _ _ (d .pre .0) .same)

@@ -14,22 +14,22 @@ use Rattle.policy.proofs.by_colour.Statement.{statement}
 use Rattle.policy.proofs.by_colour.Tie as tie
 
 abbrev Inv-loop : tie.InvT-loop
-Inv-loop hues t₀ n e₀ t e = (e ≤ n) × (t ≡ byColourTo hues e)
+Inv-loop colours t₀ n e₀ t e = (e ≤ n) × (t ≡ byColourTo colours e)
 
 abbrev μ-loop : tie.MeasureT-loop
-μ-loop hues t₀ n e₀ t e = n - e
+μ-loop colours t₀ n e₀ t e = n - e
 
 edges-requires : tie.Need-edges-requires Inv-loop μ-loop
 edges-requires c κs = search needs
 
 loop-holds : tie.Need-loop-holds Inv-loop μ-loop
-loop-holds c = (omega arith, by-none (c .before .args .hues .now))
+loop-holds c = (omega arith, by-none (c .before .args .colours .now))
 
 element-copy-out-c : tie.Need-element-copy-out-c Inv-loop μ-loop
 element-copy-out-c c = let s = c .before .before .before in omega (arith, edges-le (s .args .p) (s .pre .0))
 
 -- in the loop e is an edge, and its colour stands in the table
-few : (c : tie.In-loop Inv-loop μ-loop) → getD (c .before .before .before .args .hues .now) (c .before .loop .e) 0 < 8
+few : (c : tie.In-loop Inv-loop μ-loop) → getD (c .before .before .before .args .colours .now) (c .before .loop .e) 0 < 8
 unfolding colourOf
 few c =
     let s = c .before .before .before in
@@ -61,12 +61,12 @@ loop-less : tie.Need-loop-less Inv-loop μ-loop
 loop-less c = omega arith
 
 loop-again : tie.Need-loop-again Inv-loop μ-loop
-loop-again c = (omega arith, cc (by-more (c .before .before .before .before .before .args .hues .now) (c .before .before .before .loop .e) (few (c .before .before))))
+loop-again c = (omega arith, cc (by-more (c .before .before .before .before .before .args .colours .now) (c .before .before .before .loop .e) (few (c .before .before))))
 
 returns : tie.Need-returns Inv-loop μ-loop
 returns c =
     let s = c .before .before .before in
-    cc (by-all (s .args .p) (s .args .hues .now) (c .before .loop .e) (s .pre .1) (le-antisymm (c .before .loop .inv .0) (c .loop-test .left) ∙ c .before .before .edges .ensures))
+    cc (by-all (s .args .p) (s .args .colours .now) (c .before .loop .e) (s .pre .1) (le-antisymm (c .before .loop .inv .0) (c .loop-test .left) ∙ c .before .before .edges .ensures))
 
 pub by-colour-spec : {M : Type 1} → statement M
 by-colour-spec =

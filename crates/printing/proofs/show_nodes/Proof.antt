@@ -5,10 +5,10 @@ use Rattle.printing.proofs.show_nodes.Statement.{statement}
 use Rattle.printing.proofs.show_nodes.Tie as tie
 
 abbrev Inv-loop : tie.InvT-loop
-Inv-loop count masks parents ranks n₀ n = n ≤ 1024
+Inv-loop count masks parents node-priorities n₀ n = n ≤ 1024
 
 abbrev μ-loop : tie.MeasureT-loop
-μ-loop count masks parents ranks n₀ n = 1024 - n
+μ-loop count masks parents node-priorities n₀ n = 1024 - n
 
 loop-holds : tie.Need-loop-holds Inv-loop μ-loop
 loop-holds c = search needs

@@ -9,10 +9,10 @@ use Rattle.rows.proofs.climb.Statement.{statement}
 use Rattle.rows.proofs.climb.Tie as tie
 
 abbrev Inv-loop : tie.InvT-loop
-Inv-loop masks parents ranks e leaf n₀ child₀ n child = (p : Policy) → Called p masks parents ranks e leaf → Climbing p e leaf n child
+Inv-loop masks parents node-priorities e leaf n₀ child₀ n child = (p : Policy) → Called p masks parents node-priorities e leaf → Climbing p e leaf n child
 
 abbrev μ-loop : tie.MeasureT-loop
-μ-loop masks parents ranks e leaf n₀ child₀ n child = left n
+μ-loop masks parents node-priorities e leaf n₀ child₀ n child = left n
 
 loop-holds : tie.Need-loop-holds Inv-loop μ-loop
 loop-holds c = λ p a. walk-start p _ _ _ _ _ a

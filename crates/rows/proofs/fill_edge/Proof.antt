@@ -10,11 +10,11 @@ use Rattle.rows.proofs.fill_edge.Statement.{statement}
 use Rattle.rows.proofs.fill_edge.Tie as tie
 
 abbrev Inv-loop : tie.InvT-loop
-Inv-loop p heads masks parents ranks ends entries starts v letter targets₀ priorities₀ letters e w from to first end row₀ s₀ targets priorities row s =
+Inv-loop p heads masks parents node-priorities ends entries starts v letter targets₀ priorities₀ letters e w from to first end row₀ s₀ targets priorities row s =
     Edging p v letter targets₀ priorities₀ targets priorities s × Shares p e (row .from) (row .to) (row .target) (row .priority)
 
 abbrev μ-loop : tie.MeasureT-loop
-μ-loop p heads masks parents ranks ends entries starts v letter targets₀ priorities₀ letters e w from to first end row₀ s₀ targets priorities row s = end - s
+μ-loop p heads masks parents node-priorities ends entries starts v letter targets₀ priorities₀ letters e w from to first end row₀ s₀ targets priorities row s = end - s
 
 cast-letters : tie.Need-cast-letters Inv-loop μ-loop
 cast-letters c = search needs

@@ -29,7 +29,7 @@ returns : tie.Need-returns
 returns c =
     let args = c .before .before .before .before .before .before .before .before .args in
     let is = c .before .before .before .before .judge-policy .ensures
-    ∙ ap (λ (p : Policy). policyVerdict p (args .state) (args .stem .now) (args .cycle .now)) (c .before .before .before .before .before .policy-of .ensures) in (
+    ∙ ap (λ (p : Policy). policyVerdict p (args .state) (args .stem .now) (args .period .now)) (c .before .before .before .before .before .policy-of .ensures) in (
       c .policy-number .ensures ∙ ap policyNumberOf is,
       (
         c .before .before .before .policy-colours .ensures ∙ ap policyColoursOf is,

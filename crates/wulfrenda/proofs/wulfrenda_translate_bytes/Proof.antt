@@ -27,9 +27,9 @@ returns c =
     let illegal = number-illegal (a .bytes .now) (λ z. c .before .if1 .taken (n ∙ z)) in (
       first-refused _ _ _ n (c .before .if1 .taken),
       (
-        illegal-counts _ (a .masks .now) (a .parents .now) (a .ranks .now) (a .sources .now) (a .leaves .now) (a .targets .now) (a .priorities .now) illegal,
+        illegal-counts _ (a .masks .now) (a .parents .now) (a .node-priorities .now) (a .sources .now) (a .leaves .now) (a .targets .now) (a .priorities .now) illegal,
         (
-          illegal-tables _ (a .masks .now) (a .parents .now) (a .ranks .now) (a .sources .now) (a .leaves .now) (a .targets .now) (a .priorities .now) illegal,
+          illegal-tables _ (a .masks .now) (a .parents .now) (a .node-priorities .now) (a .sources .now) (a .leaves .now) (a .targets .now) (a .priorities .now) illegal,
           c .before .before .before .read-offset .ensures ∙ ap (λ (x : Answer). offsetOf (x .outcome)) is,
         ),
       ),
@@ -74,7 +74,7 @@ returns-2 c =
     let is = c .before .before .before .before .before .before .before .before .before .before .before .before .before .before .before .before .before .before .before .before .before .before .before .before .before .before .before .before .read .ensures in
     let n = c .before .before .before .before .before .before .before .before .before .before .before .before .before .before .before .before .before .before .before .before .before .before .before .before .before .read-number .ensures ∙ ap (λ (x : Answer). readNumberOf (x .outcome)) is in
     let t = c .before .before .before .before .before .before .before .before .before .before .before .before .before .before .before .before .translate-legal in
-    let before = tables (a .masks .now) (a .parents .now) (a .ranks .now) (a .sources .now) (a .leaves .now) (a .targets .now) (a .priorities .now) in
+    let before = tables (a .masks .now) (a .parents .now) (a .node-priorities .now) (a .sources .now) (a .leaves .now) (a .targets .now) (a .priorities .now) in
     let translated = t .ensures .0 ∙ ap (λ (x : Answer). translationOf (x .policy) before) is in (
       first-passed _ _ _ (sym n ∙ c .before .before .before .before .before .before .before .before .before .before .before .before .before .before .before .before .before .before .before .before .before .before .before .before .if1 .left) (c .translate-number .ensures ∙ ap numberOf translated),
       (

@@ -11,7 +11,7 @@ use Rattle.builder.proofs.translating.fill.Tie as tie
 fill-nodes-requires : tie.Need-fill-nodes-requires
 fill-nodes-requires c κs =
     let s = c .before .before .before .before .before .before .before .before .before .before in
-    let z = fit-lengths (s .args .p) (s .args .masks .now) (s .args .parents .now) (s .args .ranks .now) (s .args .sources .now) (s .args .leaves .now) (s .args .targets .now) (s .args .priorities .now) (s .pre .1 .1) in
+    let z = fit-lengths (s .args .p) (s .args .masks .now) (s .args .parents .now) (s .args .node-priorities .now) (s .args .sources .now) (s .args .leaves .now) (s .args .targets .now) (s .args .priorities .now) (s .pre .1 .1) in
     (s .pre .0, (s .pre .1 .0, z .0, z .1))
 
 enum-known-nodes : tie.Need-enum-known-nodes
@@ -48,16 +48,16 @@ returns : tie.Need-returns
 returns c =
     let s = c .before .before .before .before .before .before .before .before .before .before .before .before .before .before .before .before .before .before .before .before .before .before .before .before .before .before .before .before .before .before .before .before in
     let n = c .before .before .before .before .before .before .before .before .before .before .before .before .before .before .before .before .before .before .before .before .before .fill-nodes in
-    let f = nodes-none (s .args .p) (s .args .masks .now) (s .args .parents .now) (s .args .ranks .now) (n .ensures .0) (c .before .before .before .before .before .before .before .before .before .before .before .before .before .enum-told .given .1) in
-    refused-nine (s .args .p) (s .args .masks .now) (s .args .parents .now) (s .args .ranks .now) (s .args .sources .now) (s .args .leaves .now) (s .args .targets .now) (s .args .priorities .now) (s .pre .1 .0) (s .pre .1 .1) _ _ _ _ _ _ _ f (n .ensures .1) (c .before .before .before .before .before .before .before .before .clear-built .ensures)
+    let f = nodes-none (s .args .p) (s .args .masks .now) (s .args .parents .now) (s .args .node-priorities .now) (n .ensures .0) (c .before .before .before .before .before .before .before .before .before .before .before .before .before .enum-told .given .1) in
+    refused-nine (s .args .p) (s .args .masks .now) (s .args .parents .now) (s .args .node-priorities .now) (s .args .sources .now) (s .args .leaves .now) (s .args .targets .now) (s .args .priorities .now) (s .pre .1 .0) (s .pre .1 .1) _ _ _ _ _ _ _ f (n .ensures .1) (c .before .before .before .before .before .before .before .before .clear-built .ensures)
 
 build-requires : tie.Need-build-requires
 build-requires c κs =
     let s = c .before .before .before .before .before .before .before .before .before .before .before .before .before .before .before .before .before .before .before .before .before .before .before .before .before .before .before in
     let n = c .before .before .before .before .before .before .before .before .before .before .before .before .before .before .before .before .fill-nodes in
-    let z = fit-lengths (s .args .p) (s .args .masks .now) (s .args .parents .now) (s .args .ranks .now) (s .args .sources .now) (s .args .leaves .now) (s .args .targets .now) (s .args .priorities .now) (s .pre .1 .1) in
-    let f = nodes-fits (s .args .p) (s .args .masks .now) (s .args .parents .now) (s .args .ranks .now) (n .ensures .0) (c .before .before .before .before .before .before .before .before .nodes .given .1) in
-    (s .pre .1 .0, s .pre .0 .0, nodes-are (s .args .p) (s .args .masks .now) (s .args .parents .now) (s .args .ranks .now) _ _ _ (n .ensures .1) (f .0) (z .0) (z .1) (n .kept .1 .1 .1 .1 .0) (n .kept .1 .1 .1 .1 .1 .0) (n .kept .1 .1 .1 .1 .1 .1 .0), f .1, z .2)
+    let z = fit-lengths (s .args .p) (s .args .masks .now) (s .args .parents .now) (s .args .node-priorities .now) (s .args .sources .now) (s .args .leaves .now) (s .args .targets .now) (s .args .priorities .now) (s .pre .1 .1) in
+    let f = nodes-fits (s .args .p) (s .args .masks .now) (s .args .parents .now) (s .args .node-priorities .now) (n .ensures .0) (c .before .before .before .before .before .before .before .before .nodes .given .1) in
+    (s .pre .1 .0, s .pre .0 .0, nodes-are (s .args .p) (s .args .masks .now) (s .args .parents .now) (s .args .node-priorities .now) _ _ _ (n .ensures .1) (f .0) (z .0) (z .1) (n .kept .1 .1 .1 .1 .0) (n .kept .1 .1 .1 .1 .1 .0) (n .kept .1 .1 .1 .1 .1 .1 .0), f .1, z .2)
 
 enum-known-states : tie.Need-enum-known-states
 enum-known-states c = search needs
@@ -100,20 +100,20 @@ returns-2 c =
     let s = c .before .before .before .before .before .before .before .before .before .before .before .before .before .before .before .before .before .before .before .before .before .before .before .before .before .before .before .before .before .before .before .before .before .before .before .before .before .before .before .before .before .before .before .before .before .before .before .before .before .before in
     let n = c .before .before .before .before .before .before .before .before .before .before .before .before .before .before .before .before .before .before .before .before .before .before .before .before .before .before .before .before .before .before .before .before .before .before .before .before .before .before .before .fill-nodes in
     let b = c .before .before .before .before .before .before .before .before .before .before .before .before .before .before .before .before .before .before .before .before .before .before .build in
-    let f = nodes-fits (s .args .p) (s .args .masks .now) (s .args .parents .now) (s .args .ranks .now) (n .ensures .0) (c .before .before .before .before .before .before .before .before .before .before .before .before .before .before .before .before .before .before .before .before .before .before .before .before .before .before .before .before .before .before .before .nodes .given .1) in
+    let f = nodes-fits (s .args .p) (s .args .masks .now) (s .args .parents .now) (s .args .node-priorities .now) (n .ensures .0) (c .before .before .before .before .before .before .before .before .before .before .before .before .before .before .before .before .before .before .before .before .before .before .before .before .before .before .before .before .before .before .before .nodes .given .1) in
     let g = none-fits (s .args .p) (s .args .sources .now) (b .ensures .0) (c .before .before .before .before .before .before .before .before .before .before .before .before .enum-told2 .given .1) in
-    refused-ten (s .args .p) (s .args .masks .now) (s .args .parents .now) (s .args .ranks .now) (s .args .sources .now) (s .args .leaves .now) (s .args .targets .now) (s .args .priorities .now) (s .pre .1 .0) (s .pre .1 .1) _ _ _ _ _ _ _ (f .0) g (
+    refused-ten (s .args .p) (s .args .masks .now) (s .args .parents .now) (s .args .node-priorities .now) (s .args .sources .now) (s .args .leaves .now) (s .args .targets .now) (s .args .priorities .now) (s .pre .1 .0) (s .pre .1 .1) _ _ _ _ _ _ _ (f .0) g (
       c .before .before .before .before .before .before .before .before .before .before .clear64 .ensures ∙ zeros-same (n .last .1 .1 .1 .1 .0) (s .args .masks .now) (n .kept .1 .1 .1 .1 .0),
       c .before .before .before .before .before .before .clear16 .ensures ∙ zeros-same (n .last .1 .1 .1 .1 .1 .0) (s .args .parents .now) (n .kept .1 .1 .1 .1 .1 .0),
-      c .before .before .clear8 .ensures ∙ zeros-same (n .last .1 .1 .1 .1 .1 .1 .0) (s .args .ranks .now) (n .kept .1 .1 .1 .1 .1 .1 .0),
+      c .before .before .clear8 .ensures ∙ zeros-same (n .last .1 .1 .1 .1 .1 .1 .0) (s .args .node-priorities .now) (n .kept .1 .1 .1 .1 .1 .1 .0),
     ) (b .ensures .1)
 
 cast-t53 : tie.Need-cast-t53
 cast-t53 c =
     let s = c .before .before .before .before .before .before .before .before .before .before .before .before .before .before .before .before .before .before .before .before .before .before .before .before .before .before .before .before .before .before .before .before .before .before .before .before .before .before .before in
     let n = c .before .before .before .before .before .before .before .before .before .before .before .before .before .before .before .before .before .before .before .before .before .before .before .before .before .before .before .before .fill-nodes in
-    let f = nodes-fits (s .args .p) (s .args .masks .now) (s .args .parents .now) (s .args .ranks .now) (n .ensures .0) (c .before .before .before .before .before .before .before .before .before .before .before .before .before .before .before .before .before .before .before .before .nodes .given .1) in
-    omega (arith, f .1, nodes-few (s .args .p) (s .args .masks .now) (s .args .parents .now) (s .args .ranks .now) (f .0))
+    let f = nodes-fits (s .args .p) (s .args .masks .now) (s .args .parents .now) (s .args .node-priorities .now) (n .ensures .0) (c .before .before .before .before .before .before .before .before .before .before .before .before .before .before .before .before .before .before .before .before .nodes .given .1) in
+    omega (arith, f .1, nodes-few (s .args .p) (s .args .masks .now) (s .args .parents .now) (s .args .node-priorities .now) (f .0))
 
 cast-t54 : tie.Need-cast-t54
 cast-t54 c =
@@ -148,9 +148,9 @@ returns-3 c =
     let s = c .before .before .before .before .before .before .before .before .before .before .before .before .before .before .before .before .before .before .before .before .before .before .before .before .before .before .before .before .before .before .before .before .before .before .before .before .before .before .before in
     let n = c .before .before .before .before .before .before .before .before .before .before .before .before .before .before .before .before .before .before .before .before .before .before .before .before .before .before .before .before .fill-nodes in
     let b = c .before .before .before .before .before .before .before .before .before .before .before .build in
-    let f = nodes-fits (s .args .p) (s .args .masks .now) (s .args .parents .now) (s .args .ranks .now) (n .ensures .0) (c .before .before .before .before .before .before .before .before .before .before .before .before .before .before .before .before .before .before .before .before .nodes .given .1) in
+    let f = nodes-fits (s .args .p) (s .args .masks .now) (s .args .parents .now) (s .args .node-priorities .now) (n .ensures .0) (c .before .before .before .before .before .before .before .before .before .before .before .before .before .before .before .before .before .before .before .before .nodes .given .1) in
     let g = whole-fits (s .args .p) (s .args .sources .now) (b .ensures .0) (c .before .states .given .1) in
-    translated (s .args .p) (s .args .masks .now) (s .args .parents .now) (s .args .ranks .now) (s .args .sources .now) (s .args .leaves .now) (s .args .targets .now) (s .args .priorities .now) (s .pre .1 .0) (s .pre .1 .1) _ _ _ _ _ _ _ (f .0) (f .1) (g .0) (g .1) (g .2) (n .ensures .1) (b .ensures .1)
+    translated (s .args .p) (s .args .masks .now) (s .args .parents .now) (s .args .node-priorities .now) (s .args .sources .now) (s .args .leaves .now) (s .args .targets .now) (s .args .priorities .now) (s .pre .1 .0) (s .pre .1 .1) _ _ _ _ _ _ _ (f .0) (f .1) (g .0) (g .1) (g .2) (n .ensures .1) (b .ensures .1)
 
 pub fill-spec : {M : Type 1} → statement M
 fill-spec =

@@ -12,18 +12,18 @@ use Rattle.builder.proofs.translating.fill_rows.Statement.{statement}
 use Rattle.builder.proofs.translating.fill_rows.Tie as tie
 
 abbrev Inv-loop2 : tie.InvT-loop2
-Inv-loop2 p heads masks parents ranks ends sources leaves starts count targets₀ priorities₀ states letters v letter₀ targets priorities letter =
+Inv-loop2 p heads masks parents node-priorities ends sources leaves starts count targets₀ priorities₀ states letters v letter₀ targets priorities letter =
     (letter ≤ letters) × Rowed p targets₀ priorities₀ targets priorities (edgeOf p v 0) (edgeOf p v letter)
 
 abbrev μ-loop2 : tie.MeasureT-loop2
-μ-loop2 p heads masks parents ranks ends sources leaves starts count targets₀ priorities₀ states letters v letter₀ targets priorities letter = letters - letter
+μ-loop2 p heads masks parents node-priorities ends sources leaves starts count targets₀ priorities₀ states letters v letter₀ targets priorities letter = letters - letter
 
 abbrev Inv-loop : tie.InvT-loop
-Inv-loop p heads masks parents ranks ends sources leaves starts count targets₀ priorities₀ states letters v₀ targets priorities v =
+Inv-loop p heads masks parents node-priorities ends sources leaves starts count targets₀ priorities₀ states letters v₀ targets priorities v =
     Rowed p targets₀ priorities₀ targets priorities 0 (edgeOf p v 0)
 
 abbrev μ-loop : tie.MeasureT-loop
-μ-loop p heads masks parents ranks ends sources leaves starts count targets₀ priorities₀ states letters v₀ targets priorities v = states - v
+μ-loop p heads masks parents node-priorities ends sources leaves starts count targets₀ priorities₀ states letters v₀ targets priorities v = states - v
 
 cast-states : tie.Need-cast-states Inv-loop2 μ-loop2 Inv-loop μ-loop
 cast-states c = search needs

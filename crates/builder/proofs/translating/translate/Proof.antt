@@ -13,7 +13,7 @@ is-legal-requires c κs = search needs
 returns : tie.Need-returns
 returns c =
     let s = c .before .before .before .before .before .before .before .before .before in
-    refused-seven (s .args .p) (s .args .masks .now) (s .args .parents .now) (s .args .ranks .now) (s .args .sources .now) (s .args .leaves .now) (s .args .targets .now) (s .args .priorities .now) (sym (c .before .is-legal .ensures) ∙ not-true (c .before .is-legal .result) (c .if1 .taken))
+    refused-seven (s .args .p) (s .args .masks .now) (s .args .parents .now) (s .args .node-priorities .now) (s .args .sources .now) (s .args .leaves .now) (s .args .targets .now) (s .args .priorities .now) (sym (c .before .is-legal .ensures) ∙ not-true (c .before .is-legal .result) (c .if1 .taken))
 
 translate-legal-requires : tie.Need-translate-legal-requires
 translate-legal-requires c κs = let l = c .before .before .before .before .before .before .before .before .is-legal in sym (l .ensures) ∙ unnot (l .result) (c .before .before .before .before .before .before .before .if1 .left)

@@ -35,7 +35,7 @@ returns : tie.Need-returns
 returns c =
     let s = c .before .before .before .before .before .before .before .before .before .before .before .before .before .before .before .before in
     let l = c .before .has-fitting-lengths in
-    refused-eight (s .args .t1) (s .args .masks .now) (s .args .parents .now) (s .args .ranks .now) (s .args .sources .now) (s .args .leaves .now) (s .args .targets .now) (s .args .priorities .now) (s .pre) (sym (l .ensures) ∙ not-true (l .result) (c .if1 .taken))
+    refused-eight (s .args .t1) (s .args .masks .now) (s .args .parents .now) (s .args .node-priorities .now) (s .args .sources .now) (s .args .leaves .now) (s .args .targets .now) (s .args .priorities .now) (s .pre) (sym (l .ensures) ∙ not-true (l .result) (c .if1 .taken))
 
 fill-requires : tie.Need-fill-requires
 fill-requires c κs =

@@ -42,7 +42,7 @@ returns : tie.Need-returns
 returns c =
     let s = c .before .before .before .before .before .before .before .before .before .before .before .before .before .before .before .before .before .before .before .before .before .before .before .before .before .before .before .before .before .before .before .before .before in
     let k = c .before .before .before .before .before .before .before .before .before .before .before .before .before .before .before .before .before .before .before .before .before .before .before .before .before .before .clear-nodes .kept in
-    let same = filled-same (s .args .p) (s .args .masks .now) (s .args .parents .now) (s .args .ranks .now) _ _ _ (k .0) (k .1 .0) (k .1 .1 .0) in
+    let same = filled-same (s .args .p) (s .args .masks .now) (s .args .parents .now) (s .args .node-priorities .now) _ _ _ (k .0) (k .1 .0) (k .1 .1 .0) in
     (c .before .before .before .before .before .before .before .before .before .before .list-and-write .ensures .0 ∙ same .0, c .before .before .before .before .before .before .before .before .before .before .list-and-write .ensures .1 ∙ same .1)
 
 slice-aggregate-fill-within : tie.Need-slice-aggregate-fill-within
@@ -75,7 +75,7 @@ returns-2 : tie.Need-returns-2
 returns-2 c =
     let s = c .before .before .before .before .before .before .before .before .before .before .before .before .before .before .before .before .before .before .before .before .before .before .before .before .before .before .before .before .before .before .before .before .before in
     let k = c .before .before .before .before .before .before .before .before .before .before .before .before .before .before .before .before .before .before .before .before .before .before .before .before .before .before .clear-nodes .kept in
-    let same = filled-same (s .args .p) (s .args .masks .now) (s .args .parents .now) (s .args .ranks .now) _ _ _ (k .0) (k .1 .0) (k .1 .1 .0) in
+    let same = filled-same (s .args .p) (s .args .masks .now) (s .args .parents .now) (s .args .node-priorities .now) _ _ _ (k .0) (k .1 .0) (k .1 .1 .0) in
     (c .before .before .before .before .before .before .before .before .before .before .fill-within .ensures .0 ∙ same .0, c .before .before .before .before .before .before .before .before .before .before .fill-within .ensures .1 ∙ same .1)
 
 pub fill-nodes-spec : {M : Type 1} → statement M

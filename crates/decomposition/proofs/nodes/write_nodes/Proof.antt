@@ -38,11 +38,11 @@ returns c =
     let k = c .before .before .before .before .before .before .before .before .before .before .before .before .before .before .before .before .before .before .before .grow-roots .kept .1 .1 .1 .1 .1 .1 .1 in
     filled-none (s .args .p) _ _ _ _ _ _ (omega (arith, c .before .before .before .before .before .before .before .before .before .before .if1 .taken, c .before .before .before .before .before .before .before .before .before .before .before .before .before .before .before .before .before .before .before .grow-roots .ensures .next-is, c .before .before .before .before .before .before .before .before .before .before .before .before .before .before .before .before .before .before .before .before .before .before .before .before .lesser .ensures)) (k .0) (k .1 .0) refl (c .before .before .before .before .before .before .clear-nodes .ensures)
 
-write-ranks-requires : tie.Need-write-ranks-requires
-write-ranks-requires c κs =
+write-priorities-requires : tie.Need-write-priorities-requires
+write-priorities-requires c κs =
     let s = c .before .before .before .before .before .before .before .before .before .before .before .before .before .before .before .before .before .before .before .before .before .before .before .before .before .before in
     let k = c .before .before .before .before .before .before .before .before .before .before .before .before .grow-roots .kept .1 .1 .1 .1 .1 .1 .1 in
-    (s .pre .0, (s .pre .1 .0, grown-written (s .pre .1 .2) (c .before .before .before .before .before .before .before .before .before .before .before .before .before .before .before .before .before .lesser .ensures) (c .before .before .before .before .before .before .before .before .before .before .before .before .grow-roots .ensures) (c .before .before .before .if1 .left) (k .0) (k .1 .0), omega (arith, c .before .before .before .if1 .left, c .before .before .before .before .before .before .before .before .before .before .before .before .before .before .before .before .before .lesser .ensures, s .pre .1 .2 .ranks-long), s .pre .1 .2 .ranks-are))
+    (s .pre .0, (s .pre .1 .0, grown-written (s .pre .1 .2) (c .before .before .before .before .before .before .before .before .before .before .before .before .before .before .before .before .before .lesser .ensures) (c .before .before .before .before .before .before .before .before .before .before .before .before .grow-roots .ensures) (c .before .before .before .if1 .left) (k .0) (k .1 .0), omega (arith, c .before .before .before .if1 .left, c .before .before .before .before .before .before .before .before .before .before .before .before .before .before .before .before .before .lesser .ensures, s .pre .1 .2 .node-priorities-long), s .pre .1 .2 .node-priorities-are))
 
 same-length-6 : tie.Need-same-length-6
 same-length-6 c = search needs
@@ -62,7 +62,7 @@ same-length-10 c = search needs
 returns-2 : tie.Need-returns-2
 returns-2 c =
     let s = c .before .before .before .before .before .before .before .before .before .before .before .before .before .before .before .before .before .before .before .before .before .before .before .before .before .before .before .before .before in
-    filled-whole (s .args .p) _ _ _ (omega (arith, c .before .before .before .before .before .before .before .before .before .before .before .before .before .before .before .grow-roots .ensures .next-is, c .before .before .before .before .before .before .if1 .left)) (omega (arith, c .before .before .before .before .before .before .if1 .left, c .before .before .before .before .before .before .before .before .before .before .before .before .before .before .before .before .before .before .before .before .lesser .ensures)) (grown-masks (s .pre .1 .2) (c .before .before .before .before .before .before .before .before .before .before .before .before .before .before .before .before .before .before .before .before .lesser .ensures) (c .before .before .before .before .before .before .before .before .before .before .before .before .before .before .before .grow-roots .ensures) (c .before .before .before .before .before .before .if1 .left)) (grown-parents (s .pre .1 .2) (c .before .before .before .before .before .before .before .before .before .before .before .before .before .before .before .before .before .before .before .before .lesser .ensures) (c .before .before .before .before .before .before .before .before .before .before .before .before .before .before .before .grow-roots .ensures) (c .before .before .before .before .before .before .if1 .left)) (c .before .before .write-ranks .ensures)
+    filled-whole (s .args .p) _ _ _ (omega (arith, c .before .before .before .before .before .before .before .before .before .before .before .before .before .before .before .grow-roots .ensures .next-is, c .before .before .before .before .before .before .if1 .left)) (omega (arith, c .before .before .before .before .before .before .if1 .left, c .before .before .before .before .before .before .before .before .before .before .before .before .before .before .before .before .before .before .before .before .lesser .ensures)) (grown-masks (s .pre .1 .2) (c .before .before .before .before .before .before .before .before .before .before .before .before .before .before .before .before .before .before .before .before .lesser .ensures) (c .before .before .before .before .before .before .before .before .before .before .before .before .before .before .before .grow-roots .ensures) (c .before .before .before .before .before .before .if1 .left)) (grown-parents (s .pre .1 .2) (c .before .before .before .before .before .before .before .before .before .before .before .before .before .before .before .before .before .before .before .before .lesser .ensures) (c .before .before .before .before .before .before .before .before .before .before .before .before .before .before .before .grow-roots .ensures) (c .before .before .before .before .before .before .if1 .left)) (c .before .before .write-priorities .ensures)
 
 pub write-nodes-spec : {M : Type 1} → statement M
 write-nodes-spec =
@@ -77,7 +77,7 @@ write-nodes-spec =
     same-length-4
     same-length-5
     returns
-    write-ranks-requires
+    write-priorities-requires
     same-length-6
     same-length-7
     same-length-8

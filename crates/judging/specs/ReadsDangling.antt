@@ -9,7 +9,7 @@ use Rattle.running.specs.Running.{readingOf, rowStep, rowMeets}
 
 module _ (letters : ℕ) (targets priorities : List ℕ) where
   -- the run from r over the letters w reads a row whose target is no state
-  pub record Strays (r : Run) (w : List ℕ) : Type 0 where
+  pub record ReadsDangling (r : Run) (w : List ℕ) : Type 0 where
     pub start : List ℕ
     pub letter : ℕ
     pub rest : List ℕ
