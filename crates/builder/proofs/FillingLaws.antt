@@ -19,8 +19,8 @@ use Rattle.forest.specs.Forest.{Node, forest, priority}
 use Rattle.decomposition.specs.NodeTables.{NodeTables, nodeTables, nodesFit, fillingOf, filledOf}
 use Rattle.forest.specs.Forest.{nodeMasks, nodeParents, nodePriorities}
 use Rattle.decomposition.proofs.NodeColumns.{masks-at, parents-at, node-priorities-at}
-use Rattle.builder.specs.declared.translating.Building.{Building}
-use Rattle.builder.specs.declared.translating.Building.the-variants.{Whole, TooMany}
+use Rattle.builder.specs.declared.Building.{Building}
+use Rattle.builder.specs.declared.Building.the-variants.{Whole, TooMany}
 use Rattle.automaton.specs.Automaton.{Built, built, stateAt, start, rowTargets, rowPriorities}
 use Rattle.automaton.specs.Stages.{Nodes, States}
 use Rattle.states.specs.Placing.{MaskColumn, Filled}

@@ -1,10 +1,11 @@
 -- What translating answers and leaves in the seven tables, question by question. Assumes nothing.
 use Prim.Native.Nat.{ℕ, _*_}
-use mathlib.Core.Path.{_≡_, refl, sym, _∙_, subst}
+use mathlib.Core.Path.{_≡_, refl, sym, ap, _∙_, subst}
 use mathlib.Core.Bool.{Bool, true, false, _&&_, cond}
-use mathlib.Core.List.{List}
+use mathlib.Core.List.{List, [], _∷_}
 use lib.Dec.{eqb}
 use lib.ListN.{length}
+use Rattle.lists.specs.Questions.{ask}
 use Rattle.lists.proofs.Bools.{eqb≡, and-l, and-r}
 use Rattle.tables.specs.Tables.{padded, zeros}
 use Rattle.policy.specs.declared.Policy.{Policy}
@@ -16,7 +17,7 @@ use Rattle.forest.specs.Forest.{nodeMasks, nodeParents, nodePriorities}
 use Rattle.builder.specs.declared.Translation.{Translation}
 use Rattle.builder.specs.declared.Translation.the-variants.{Translated, Refused}
 use Rattle.automaton.specs.Automaton.{built, start}
-use Rattle.builder.specs.Tables.{Tables, lengthsFit, nodesFit, statesFit, filled, cleared, translationOf, tablesAfter, Hold, tables}
+use Rattle.builder.specs.Tables.{Tables, numberOf, countsOf, lengthsFit, nodesFit, statesFit, filled, cleared, translationOf, refusalOf, countsAfter, tablesAfter, Hold, tables, Translates}
 use Rattle.builder.specs.Filling.{Sized, builtFit, BuiltTables}
 use Rattle.builder.proofs.FillingLaws.{nodes-filled, nodes-cleared}
 
@@ -45,6 +46,31 @@ module _ (a b c d : Bool) (x : Translation) (u v w : Tables) where
 
 three : (n c a n′ c′ a′ : ℕ) → n ≡ n′ → c ≡ c′ → a ≡ a′ → Translated n c a ≡ Translated n′ c′ a′
 three n c a n′ c′ a′ e f g = rw (e, f, g) refl
+
+-- ---- the number and the values of an answer
+module _ (n c x : ℕ) where
+  number-decided : (a b f g : Bool) → numberOf (decided a b f g (Translated n c x)) ≡ ask a 7 (ask b 8 (ask f 9 (ask g 10 0)))
+  number-decided false b f g = refl
+  number-decided true false f g = refl
+  number-decided true true false g = refl
+  number-decided true true true false = refl
+  number-decided true true true true = refl
+
+  counts-decided : (a b f g : Bool) → countsOf (decided a b f g (Translated n c x)) ≡ cond (eqb (ask a 7 (ask b 8 (ask f 9 (ask g 10 0)))) 0) (n ∷ c ∷ x ∷ []) (0 ∷ 0 ∷ 0 ∷ [])
+  counts-decided false b f g = refl
+  counts-decided true false f g = refl
+  counts-decided true true false g = refl
+  counts-decided true true true false = refl
+  counts-decided true true true true = refl
+
+module _ (p : Policy) (t : Tables) where
+  pub number-of : numberOf (translationOf p t) ≡ refusalOf p t
+  unfolding translationOf refusalOf
+  number-of = number-decided (length (forest p)) (length (built p)) (start p) (legal p) (lengthsFit p t) (nodesFit p t) (statesFit p t)
+
+  pub counts-of : countsOf (translationOf p t) ≡ countsAfter p t
+  unfolding translationOf refusalOf countsAfter
+  counts-of = counts-decided (length (forest p)) (length (built p)) (start p) (legal p) (lengthsFit p t) (nodesFit p t) (statesFit p t)
 
 module _ (p : Policy) (m₀ q₀ r₀ s₀ l₀ t₀ k₀ : List ℕ) where
   abbrev pub entry : Tables
@@ -83,9 +109,9 @@ module _ (p : Policy) (m₀ q₀ r₀ s₀ l₀ t₀ k₀ : List ℕ) where
       h2 : a && b ≡ true
       h2 = and-l (a && b) c h3
 
-  -- the answer and the tables, in one
-  abbrev pub Ends : Translation → List ℕ → List ℕ → List ℕ → List ℕ → List ℕ → List ℕ → List ℕ → Type 0
-  Ends x m q r s l w k = (x ≡ translationOf p entry) × Hold (tablesAfter p entry) m q r s l w k
+  -- the answer and the tables settle the rest
+  all-is : {x : Translation} {m q r s l w k : List ℕ} → x ≡ translationOf p entry → Hold (tablesAfter p entry) m q r s l w k → Translates p entry x (tables m q r s l w k)
+  all-is e h = record { answer-is = e; number-is = ap numberOf e ∙ number-of p entry; counts-are = ap countsOf e ∙ counts-of p entry; tables-are = h }
 
   abbrev done : Translation
   done = Translated (length (forest p)) (length (built p)) (start p)
@@ -94,17 +120,17 @@ module _ (p : Policy) (m₀ q₀ r₀ s₀ l₀ t₀ k₀ : List ℕ) where
   same = record { masks-are = refl; parents-are = refl; node-priorities-are = refl; sources-are = refl; leaves-are = refl; targets-are = refl; priorities-are = refl }
 
   -- 7 and 8 leave the tables as they were
-  pub refused-seven : legal p ≡ false → Ends (Refused 7) m₀ q₀ r₀ s₀ l₀ t₀ k₀
+  pub refused-seven : legal p ≡ false → Translates p entry (Refused 7) entry
   unfolding translationOf tablesAfter
   refused-seven e =
       let n = no-first (legal p) (lengthsFit p entry) (nodesFit p entry) (statesFit p entry) done (filled p entry) (cleared p entry) entry e in
-      (n .0, subst (λ (x : Tables). Hold x m₀ q₀ r₀ s₀ l₀ t₀ k₀) (n .1) same)
+      all-is (n .0) (subst (λ (x : Tables). Hold x m₀ q₀ r₀ s₀ l₀ t₀ k₀) (n .1) same)
 
-  pub refused-eight : legal p ≡ true → lengthsFit p entry ≡ false → Ends (Refused 8) m₀ q₀ r₀ s₀ l₀ t₀ k₀
+  pub refused-eight : legal p ≡ true → lengthsFit p entry ≡ false → Translates p entry (Refused 8) entry
   unfolding translationOf tablesAfter
   refused-eight t e =
       let n = no-second (legal p) (lengthsFit p entry) (nodesFit p entry) (statesFit p entry) done (filled p entry) (cleared p entry) entry t e in
-      (n .0, subst (λ (x : Tables). Hold x m₀ q₀ r₀ s₀ l₀ t₀ k₀) (n .1) same)
+      all-is (n .0) (subst (λ (x : Tables). Hold x m₀ q₀ r₀ s₀ l₀ t₀ k₀) (n .1) same)
 
   module _ (t : legal p ≡ true) (h : lengthsFit p entry ≡ true) (m q r s l w k : List ℕ) where
     held-filled : (m ≡ padded (length m₀) (nodeMasks p)) × (q ≡ padded (length q₀) (nodeParents p)) × (r ≡ padded (length r₀) (nodePriorities p)) → builtFit p s₀ ≡ true → BuiltTables p s₀ l₀ t₀ k₀ s l w k
@@ -129,23 +155,23 @@ module _ (p : Policy) (m₀ q₀ r₀ s₀ l₀ t₀ k₀ : List ℕ) where
 
     -- 9 and 10 clear them
     pub refused-nine : node-tables.nodesFit p (nodeTables m₀ q₀ r₀) ≡ false → nodeTables m q r ≡ filledOf p (nodeTables m₀ q₀ r₀) → (s ≡ zeros s₀) × (l ≡ zeros l₀) × (w ≡ zeros t₀) × (k ≡ zeros k₀)
-        → Ends (Refused 9) m q r s l w k
+        → Translates p entry (Refused 9) (tables m q r s l w k)
     unfolding translationOf tablesAfter nodesFit
     refused-nine f e b =
         let n = no-third (legal p) (lengthsFit p entry) (nodesFit p entry) (statesFit p entry) done (filled p entry) (cleared p entry) entry t h f in
-        (n .0, subst (λ (x : Tables). Hold x m q r s l w k) (n .1) (held-cleared (nodes-cleared p m₀ q₀ r₀ m q r e f) b))
+        all-is (n .0) (subst (λ (x : Tables). Hold x m q r s l w k) (n .1) (held-cleared (nodes-cleared p m₀ q₀ r₀ m q r e f) b))
 
     pub refused-ten : node-tables.nodesFit p (nodeTables m₀ q₀ r₀) ≡ true → builtFit p s₀ ≡ false → (m ≡ zeros m₀) × (q ≡ zeros q₀) × (r ≡ zeros r₀) → BuiltTables p s₀ l₀ t₀ k₀ s l w k
-        → Ends (Refused 10) m q r s l w k
+        → Translates p entry (Refused 10) (tables m q r s l w k)
     unfolding translationOf tablesAfter nodesFit statesFit builtFit
     refused-ten f g z b =
         let n = no-fourth (legal p) (lengthsFit p entry) (nodesFit p entry) (statesFit p entry) done (filled p entry) (cleared p entry) entry t h f g in
-        (n .0, subst (λ (x : Tables). Hold x m q r s l w k) (n .1) (held-cleared z (built-zero g b)))
+        all-is (n .0) (subst (λ (x : Tables). Hold x m q r s l w k) (n .1) (held-cleared z (built-zero g b)))
 
     -- both counts and the start
     pub translated : {n c a : ℕ} → node-tables.nodesFit p (nodeTables m₀ q₀ r₀) ≡ true → n ≡ length (forest p) → builtFit p s₀ ≡ true → c ≡ length (built p) → a ≡ start p
-        → nodeTables m q r ≡ filledOf p (nodeTables m₀ q₀ r₀) → BuiltTables p s₀ l₀ t₀ k₀ s l w k → Ends (Translated n c a) m q r s l w k
+        → nodeTables m q r ≡ filledOf p (nodeTables m₀ q₀ r₀) → BuiltTables p s₀ l₀ t₀ k₀ s l w k → Translates p entry (Translated n c a) (tables m q r s l w k)
     unfolding translationOf tablesAfter nodesFit statesFit builtFit
     translated {n} {c} {a} f en g ec ea e b =
         let y = all-four (legal p) (lengthsFit p entry) (nodesFit p entry) (statesFit p entry) done (filled p entry) (cleared p entry) entry t h f g in
-        (three n c a (length (forest p)) (length (built p)) (start p) en ec ea ∙ y .0, subst (λ (x : Tables). Hold x m q r s l w k) (y .1) (held-filled (nodes-filled p m₀ q₀ r₀ m q r e f) g b))
+        all-is (three n c a (length (forest p)) (length (built p)) (start p) en ec ea ∙ y .0) (subst (λ (x : Tables). Hold x m q r s l w k) (y .1) (held-filled (nodes-filled p m₀ q₀ r₀ m q r e f) g b))

@@ -7,8 +7,8 @@ use lib.Dec.{leb}
 use lib.ListN.{length}
 use Rattle.tables.specs.Tables.{padded, zeros}
 use Rattle.policy.specs.declared.Policy.{Policy}
-use Rattle.builder.specs.declared.translating.Building.{Building}
-use Rattle.builder.specs.declared.translating.Building.the-variants.{Whole, TooMany}
+use Rattle.builder.specs.declared.Building.{Building}
+use Rattle.builder.specs.declared.Building.the-variants.{Whole, TooMany}
 use Rattle.automaton.specs.Automaton.{built, start, rowTargets, rowPriorities}
 use Rattle.automaton.specs.Automaton.{places, stateSources, stateLeaves}
 

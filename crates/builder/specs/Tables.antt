@@ -1,11 +1,12 @@
 -- What translating answers, and what each place of the seven tables holds at exit, in every case (document 01, "The built automaton" and the questions of
 -- translating).
-use Prim.Native.Nat.{ℕ, _*_, min}
+use Prim.Native.Nat.{ℕ, _*_}
 use mathlib.Core.Path.{_≡_}
 use mathlib.Core.Bool.{Bool, _&&_, cond}
-use mathlib.Core.List.{List, [], _∷_, map}
+use mathlib.Core.List.{List, [], _∷_}
 use lib.Dec.{eqb, leb}
 use lib.ListN.{length}
+use Rattle.lists.specs.Questions.{ask}
 use Rattle.tables.specs.Tables.{padded, zeros}
 use Rattle.policy.specs.declared.Policy.{Policy}
 use Rattle.policy.specs.Policies.{legal}
@@ -13,7 +14,7 @@ use Rattle.forest.specs.Forest.{forest}
 use Rattle.decomposition.specs.NodeTables.{nodeTables}
 use Rattle.forest.specs.Forest.{nodeMasks, nodeParents, nodePriorities}
 use Rattle.decomposition.specs.NodeTables as node-tables
-use Rattle.automaton.specs.Automaton.{places, stateSources, stateLeaves, Built, built, start, rowTargets, rowPriorities}
+use Rattle.automaton.specs.Automaton.{places, stateSources, stateLeaves, built, start, rowTargets, rowPriorities}
 use Rattle.builder.specs.declared.Translation.{Translation}
 use Rattle.builder.specs.declared.Translation.the-variants.{Translated, Refused}
 
@@ -85,6 +86,14 @@ module _ (p : Policy) where
         let sized = cond nodesFit (cond statesFit done (Refused 10)) (Refused 9) in
         cond (legal p) (cond lengthsFit sized (Refused 8)) (Refused 7)
 
+    -- the number of the first question that is answered no; 0 where there is none
+    unfoldable pub refusalOf : ℕ
+    refusalOf = ask (legal p) 7 (ask lengthsFit 8 (ask nodesFit 9 (ask statesFit 10 0)))
+
+    -- how many nodes, how many built states, and the start; 0 each after a refusal
+    unfoldable pub countsAfter : List ℕ
+    countsAfter = cond (eqb refusalOf 0) (length (forest p) ∷ length (built p) ∷ start p ∷ []) (0 ∷ 0 ∷ 0 ∷ [])
+
     -- the result and 0 past it; unchanged after 7 and 8; all 0 after 9 and 10
     unfoldable pub tablesAfter : Tables
     tablesAfter = let sized = cond (nodesFit && statesFit) filled cleared in cond (legal p && lengthsFit) sized t
@@ -109,3 +118,10 @@ tables masks parents node-priorities sources leaves targets priorities = record 
   targets = targets;
   priorities = priorities;
 }
+
+-- ---- what translating promises: the tables at entry, the answer, the tables at exit
+pub record Translates (p : Policy) (entry : Tables) (answer : Translation) (exit : Tables) : Type 0 where
+  pub answer-is : answer ≡ translationOf p entry
+  pub number-is : numberOf answer ≡ refusalOf p entry
+  pub counts-are : countsOf answer ≡ countsAfter p entry
+  pub tables-are : Hold (tablesAfter p entry) (exit .masks) (exit .parents) (exit .node-priorities) (exit .sources) (exit .leaves) (exit .targets) (exit .priorities)

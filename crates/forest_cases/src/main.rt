@@ -25,7 +25,12 @@ fn show_node(n: u64, mask: u64, parent: u16, rank: u8) {
 }
 
 // The first nodes of the tables, and whether a place past them is not 0.
-fn show_tables(count: usize, masks: &[u64; 256], parents: &[u16; 256], node_priorities: &[u8; 256]) {
+fn show_tables(
+    count: usize,
+    masks: &[u64; 256],
+    parents: &[u16; 256],
+    node_priorities: &[u8; 256],
+) {
     let mut n = 0;
     while n < 256 {
         if n < count {

@@ -49,7 +49,12 @@ fn show_row(s: u64, letter: u64, target: u16, priority: u8) {
 }
 
 // The first nodes of the tables.
-fn show_nodes(count: u16, masks: &[u64; 1024], parents: &[u16; 1024], node_priorities: &[u8; 1024]) {
+fn show_nodes(
+    count: u16,
+    masks: &[u64; 1024],
+    parents: &[u16; 1024],
+    node_priorities: &[u8; 1024],
+) {
     let mut n: usize = 0;
     while n < 1024 && n < count as usize {
         show_node(n as u64, masks[n], parents[n], node_priorities[n]);
@@ -111,7 +116,7 @@ fn translate_rows(
 ) -> Translation
     requires { ⌜ (rows ≤ length (now targets)) × (rows ≤ length (now priorities)) ⌝ }
 {
-    builder::translating::translate(
+    builder::translate(
         p,
         masks,
         parents,

@@ -161,7 +161,14 @@ pub struct Meeting {
 }
 
 // From the leaf up to the deepest node that has e.
-fn climb(p: Policy, masks: &[u64], parents: &[u16], node_priorities: &[u8], e: usize, leaf: usize) -> Meeting
+fn climb(
+    p: Policy,
+    masks: &[u64],
+    parents: &[u16],
+    node_priorities: &[u8],
+    e: usize,
+    leaf: usize,
+) -> Meeting
     requires { ⌜ (legal p ≡ true) × Nodes p (now masks) (now parents) (now «node_priorities») × (e < edges p) × List·Memᴰ leaf (orElse 65535 (leaves (forest p) p (source p e))) ⌝ }
     ensures { λ r. ⌜ Met p e leaf (r .met) (r .node) (r .child) (r .priority) ⌝ }
 {

@@ -68,7 +68,7 @@ fn translate_parts(
     requires nodes { ⌜ (nodes ≤ length (now masks)) × (nodes ≤ length (now parents)) × (nodes ≤ length (now «node_priorities»)) ⌝ }
     requires states { ⌜ (states ≤ length (now sources)) × (states ≤ length (now leaves)) × (rows ≤ length (now targets)) × (rows ≤ length (now priorities)) ⌝ }
 {
-    builder::translating::translate(
+    builder::translate(
         p,
         &mut masks[..nodes],
         &mut parents[..nodes],

@@ -54,7 +54,7 @@ pub extern "C" fn wulfrenda_translate(
     ensures tables { λ _. ⌜ Hold (tablesAfter (policyOf (now (packed .entry))) (tables (now (masks .entry)) (now (parents .entry)) (now («node_priorities» .entry)) (now (sources .entry)) (now (leaves .entry)) (now (targets .entry)) (now (priorities .entry)))) (now (masks .exit)) (now (parents .exit)) (now («node_priorities» .exit)) (now (sources .exit)) (now (leaves .exit)) (now (targets .exit)) (now (priorities .exit)) ⌝ }
 {
     let p = records::policy_of(packed);
-    let t = builder::translating::translate(
+    let t = builder::translate(
         p,
         masks,
         parents,
@@ -97,7 +97,7 @@ pub extern "C" fn wulfrenda_translate_bytes(
         *counts = [0, 0, 0];
         return number;
     }
-    let t = builder::translating::translate_legal(
+    let t = builder::translate_legal(
         p,
         masks,
         parents,

@@ -45,8 +45,8 @@ returns c =
     let t = c .before .before .before .before .before .before .before .before .before .before .before .before .before .before .before .before .translate in
     let a = c .before .before .before .before .before .before .before .before .before .before .before .before .before .before .before .before .before .before .before .before .before .before .before .before .before .before .before .before .before .before .before .before .args in
     let before = tables (a .masks .now) (a .parents .now) (a .node-priorities .now) (a .sources .now) (a .leaves .now) (a .targets .now) (a .priorities .now) in
-    let is = t .ensures .0 ∙ ap (λ (p : Policy). translationOf p before) of in
-    (c .translate-number .ensures ∙ ap numberOf is, (c .before .translate-counts .ensures ∙ ap countsOf is, rw of at (t .ensures .1)))
+    let is = t .ensures .answer-is ∙ ap (λ (p : Policy). translationOf p before) of in
+    (c .translate-number .ensures ∙ ap numberOf is, (c .before .translate-counts .ensures ∙ ap countsOf is, rw of at (t .ensures .tables-are)))
 
 pub wulfrenda-translate-spec : {M : Type 1} → statement M
 wulfrenda-translate-spec =

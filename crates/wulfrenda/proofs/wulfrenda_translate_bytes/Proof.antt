@@ -75,11 +75,11 @@ returns-2 c =
     let n = c .before .before .before .before .before .before .before .before .before .before .before .before .before .before .before .before .before .before .before .before .before .before .before .before .before .read-number .ensures ∙ ap (λ (x : Answer). readNumberOf (x .outcome)) is in
     let t = c .before .before .before .before .before .before .before .before .before .before .before .before .before .before .before .before .translate-legal in
     let before = tables (a .masks .now) (a .parents .now) (a .node-priorities .now) (a .sources .now) (a .leaves .now) (a .targets .now) (a .priorities .now) in
-    let translated = t .ensures .0 ∙ ap (λ (x : Answer). translationOf (x .policy) before) is in (
+    let translated = t .ensures .answer-is ∙ ap (λ (x : Answer). translationOf (x .policy) before) is in (
       first-passed _ _ _ (sym n ∙ c .before .before .before .before .before .before .before .before .before .before .before .before .before .before .before .before .before .before .before .before .before .before .before .before .if1 .left) (c .translate-number .ensures ∙ ap numberOf translated),
       (
         c .before .translate-counts .ensures ∙ ap countsOf translated,
-        (rw is at (t .ensures .1), c .before .before .before .before .before .before .before .before .before .before .before .before .before .before .before .before .before .before .before .before .before .before .before .before .before .before .read-offset .ensures ∙ ap (λ (x : Answer). offsetOf (x .outcome)) is),
+        (rw is at (t .ensures .tables-are), c .before .before .before .before .before .before .before .before .before .before .before .before .before .before .before .before .before .before .before .before .before .before .before .before .before .before .read-offset .ensures ∙ ap (λ (x : Answer). offsetOf (x .outcome)) is),
       ),
     )
 

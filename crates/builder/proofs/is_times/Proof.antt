@@ -1,9 +1,9 @@
--- `translating::is_times` meets its contract. Assumes nothing.
+-- `is_times` meets its contract. Assumes nothing.
 use native.Mathlib.Omega.{arith}
 use borrow.Author.Needs.{needs}
 use Rattle.builder.proofs.FillingLaws.{times-fits, times-is}
-use Rattle.builder.proofs.translating.is_times.Statement.{statement}
-use Rattle.builder.proofs.translating.is_times.Tie as tie
+use Rattle.builder.proofs.is_times.Statement.{statement}
+use Rattle.builder.proofs.is_times.Tie as tie
 
 mul-result : tie.Need-mul-result
 mul-result c = omega (arith, times-fits (c .before .args .k) (c .before .args .m) (c .before .fits .k .fits) (c .if1 .taken))

@@ -1,9 +1,9 @@
--- `translating::build_with` meets its contract. Assumes nothing.
+-- `build_with` meets its contract. Assumes nothing.
 use mathlib.Core.Path.{_∙_}
 use Rattle.builder.proofs.FillingLaws.{sized-clear, building-same, built-same}
 use borrow.Author.Needs.{needs}
-use Rattle.builder.proofs.translating.build_with.Statement.{statement}
-use Rattle.builder.proofs.translating.build_with.Tie as tie
+use Rattle.builder.proofs.build_with.Statement.{statement}
+use Rattle.builder.proofs.build_with.Tie as tie
 
 fill-ends-requires : tie.Need-fill-ends-requires
 fill-ends-requires c κs = search needs

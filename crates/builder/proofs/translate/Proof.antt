@@ -1,11 +1,11 @@
--- `translating::translate` meets its contract. Assumes nothing.
+-- `translate` meets its contract. Assumes nothing.
 use mathlib.Core.Path.{sym, _∙_}
 use Rattle.lists.proofs.Bools.{not-true}
 use Rattle.builder.proofs.FillingLaws.{unnot}
 use Rattle.builder.proofs.TranslateLaws.{refused-seven}
 use borrow.Author.Needs.{needs}
-use Rattle.builder.proofs.translating.translate.Statement.{statement}
-use Rattle.builder.proofs.translating.translate.Tie as tie
+use Rattle.builder.proofs.translate.Statement.{statement}
+use Rattle.builder.proofs.translate.Tie as tie
 
 is-legal-requires : tie.Need-is-legal-requires
 is-legal-requires c κs = search needs

@@ -1,4 +1,4 @@
--- `translating::fill_rows` meets its contract. The invariants: the rows of the edges of the states below v are written; and those of the letters below `letter`, from
+-- `fill_rows` meets its contract. The invariants: the rows of the edges of the states below v are written; and those of the letters below `letter`, from
 -- v. Assumes nothing.
 use native.Mathlib.Omega.{arith}
 use Prim.Native.Nat.{_-_, _≤_}
@@ -8,8 +8,8 @@ use Rattle.rows.specs.Rows.{Rowed}
 use Rattle.rows.proofs.RowLaws.{states-leaves}
 use Rattle.rows.proofs.RowTables.{rowed-none, rowed-first, rowed-letter, rowed-state, all-edges, rowed-all}
 use borrow.Author.Needs.{needs}
-use Rattle.builder.proofs.translating.fill_rows.Statement.{statement}
-use Rattle.builder.proofs.translating.fill_rows.Tie as tie
+use Rattle.builder.proofs.fill_rows.Statement.{statement}
+use Rattle.builder.proofs.fill_rows.Tie as tie
 
 abbrev Inv-loop2 : tie.InvT-loop2
 Inv-loop2 p heads masks parents node-priorities ends sources leaves starts count targets₀ priorities₀ states letters v letter₀ targets priorities letter =

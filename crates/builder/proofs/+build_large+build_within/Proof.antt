@@ -1,4 +1,4 @@
--- `translating::build_large` and `translating::build_within` meet their contracts. The measure falls as the lent table grows; a table of 65,535 places serves, since
+-- `build_large` and `build_within` meet their contracts. The measure falls as the lent table grows; a table of 65,535 places serves, since
 -- there are at most so many nodes. Assumes nothing.
 use Prim.Native.Nat.{ℕ, _-_, _*_, _<_}
 use native.Mathlib.Omega.{arith}
@@ -6,15 +6,15 @@ use lib.ListN.{length}
 use borrow.Author.Needs.{needs}
 use borrow.Fn.Kinds.{In}
 use borrow.Fn.PlainCycle.{Measures, is, falls, and}
-use Rattle.builder.proofs.translating.build_large.Reads as build-large
-use Rattle.builder.proofs.translating.build_large.Kinds as build-large-kinds
-use Rattle.builder.proofs.translating.+build_large+build_within.Lts-build_large as build-large-lts
-use Rattle.builder.proofs.translating.build_within.Reads as build-within
-use Rattle.builder.proofs.translating.build_within.Kinds as build-within-kinds
-use Rattle.builder.proofs.translating.+build_large+build_within.Lts-build_within as build-within-lts
-use Rattle.builder.proofs.translating.build_with.Reads as build-with-reads
-use Rattle.builder.proofs.translating.+build_large+build_within.{statement}
-use Rattle.builder.proofs.translating.+build_large+build_within.Tie.{close}
+use Rattle.builder.proofs.build_large.Reads as build-large
+use Rattle.builder.proofs.build_large.Kinds as build-large-kinds
+use Rattle.builder.proofs.+build_large+build_within.Lts-build_large as build-large-lts
+use Rattle.builder.proofs.build_within.Reads as build-within
+use Rattle.builder.proofs.build_within.Kinds as build-within-kinds
+use Rattle.builder.proofs.+build_large+build_within.Lts-build_within as build-within-lts
+use Rattle.builder.proofs.build_with.Reads as build-with-reads
+use Rattle.builder.proofs.+build_large+build_within.{statement}
+use Rattle.builder.proofs.+build_large+build_within.Tie.{close}
 
 abbrev μ-build-large : Measures 8 build-large-kinds.ps ℕ
 μ-build-large κs a = 1

@@ -1,12 +1,12 @@
--- `translating::fill` meets its contract: the answer and the tables where the nodes do not fit, where the states do not, and where both do. Assumes nothing.
+-- `fill` meets its contract: the answer and the tables where the nodes do not fit, where the states do not, and where both do. Assumes nothing.
 use native.Mathlib.Omega.{arith}
 use mathlib.Core.Path.{_∙_}
 use Rattle.tables.proofs.Tables.{zeros-same}
 use Rattle.builder.proofs.FillingLaws.{fits-few, nodes-few, whole-fits, none-fits, nodes-fits, nodes-none, nodes-are}
 use Rattle.builder.proofs.TranslateLaws.{fit-lengths, refused-nine, refused-ten, translated}
 use borrow.Author.Needs.{needs}
-use Rattle.builder.proofs.translating.fill.Statement.{statement}
-use Rattle.builder.proofs.translating.fill.Tie as tie
+use Rattle.builder.proofs.fill.Statement.{statement}
+use Rattle.builder.proofs.fill.Tie as tie
 
 fill-nodes-requires : tie.Need-fill-nodes-requires
 fill-nodes-requires c κs =

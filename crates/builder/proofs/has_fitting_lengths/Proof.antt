@@ -1,9 +1,9 @@
--- `translating::has_fitting_lengths` meets its contract. Assumes nothing.
+-- `has_fitting_lengths` meets its contract. Assumes nothing.
 use mathlib.Core.Path.{refl}
 use Rattle.policy.proofs.Laws.{legal-counts}
 use Rattle.builder.specs.Tables.{lengthsFit}
-use Rattle.builder.proofs.translating.has_fitting_lengths.Statement.{statement}
-use Rattle.builder.proofs.translating.has_fitting_lengths.Tie as tie
+use Rattle.builder.proofs.has_fitting_lengths.Statement.{statement}
+use Rattle.builder.proofs.has_fitting_lengths.Tie as tie
 
 is-times-requires : tie.Need-is-times-requires
 is-times-requires c κs = let s = c .before .before .before .before .before .before .before in legal-counts (s .args .p) (s .pre) .letters-some

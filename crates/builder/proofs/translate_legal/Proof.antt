@@ -1,11 +1,11 @@
--- `translating::translate_legal` meets its contract. Assumes nothing.
+-- `translate_legal` meets its contract. Assumes nothing.
 use mathlib.Core.Path.{refl, sym, _∙_}
 use Rattle.lists.proofs.Bools.{not-true}
 use Rattle.builder.proofs.FillingLaws.{unnot}
 use Rattle.builder.proofs.TranslateLaws.{refused-eight}
 use borrow.Author.Needs.{needs}
-use Rattle.builder.proofs.translating.translate_legal.Statement.{statement}
-use Rattle.builder.proofs.translating.translate_legal.Tie as tie
+use Rattle.builder.proofs.translate_legal.Statement.{statement}
+use Rattle.builder.proofs.translate_legal.Tie as tie
 
 has-fitting-lengths-requires : tie.Need-has-fitting-lengths-requires
 has-fitting-lengths-requires c κs = c .before .before .before .before .before .before .before .before .before .before .before .before .before .before .pre
