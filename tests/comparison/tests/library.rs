@@ -1,23 +1,16 @@
 //! The proved library answers what the independent translator does, on policies of every shape, valid and damaged, and in tables too short, just right and longer.
 //! SEED and POLICIES change the fixed seed and the number of policies, for a longer run by hand.
 
-use comparison::{hex, Lent};
+use comparison::{counts, damaged, hex, policies, random, Lent};
 use independent::fast::{self, Translator};
 use independent::policy::{from_record, Policy};
-use independent::random::Random;
-use independent::{judge, policy, Automaton};
-use wulfrenda::{Counts, ReadError, Refusal, Rows, Run};
+use independent::random::{Random, Shape};
+use independent::{alike, judge, policy};
+use wulfrenda::{ReadError, Refusal, Rows, Run};
 
-fn number(name: &str, usual: u64) -> u64 {
-    std::env::var(name).map_or(usual, |x| x.parse().expect("a number"))
-}
-
-fn random(seed: u64) -> Random {
-    Random::new(seed + 1000 * number("SEED", 0))
-}
-
-fn policies(usual: u64) -> u64 {
-    number("POLICIES", usual)
+/// Policies of every shape: those at place i of a test have at most so many edges.
+fn shape(i: u64) -> Shape {
+    Shape::any([4, 8, 16, 32, 64][i as usize % 5])
 }
 
 /// The same policy on the proved side.
@@ -29,44 +22,19 @@ fn refusal<T>(r: Result<T, Refusal>) -> Result<T, u8> {
     r.map_err(Refusal::number)
 }
 
-fn counts(a: &Automaton) -> Counts {
-    Counts {
-        nodes: a.nodes.len() as u16,
-        states: a.states.len() as u16,
-        start: a.start,
-    }
-}
-
-/// Bytes with some of them changed, cut off, put in or taken out.
-fn damaged(random: &mut Random, mut bytes: Vec<u8>) -> Vec<u8> {
-    for _ in 0..=random.below(3) {
-        if bytes.is_empty() {
-            break;
-        }
-        let at = random.below(bytes.len());
-        match random.below(4) {
-            0 => bytes[at] = random.below(256) as u8,
-            1 => bytes.truncate(at),
-            2 => bytes.insert(at, random.below(8) as u8),
-            _ => drop(bytes.remove(at)),
-        }
-    }
-    bytes
-}
-
 fn read_alike(bytes: &[u8]) {
     let ours = wulfrenda::Policy::read(bytes)
         .map(|(p, rest)| (*p.record(), bytes.len() - rest.len()))
         .map_err(|e| (e.number(), e.offset));
     let theirs = policy::read(bytes).map(|(p, end)| (p.record(), end));
-    assert_eq!(ours, theirs, "bytes {}", hex(bytes));
+    alike(ours, theirs, format!("bytes {}", hex(bytes)));
 }
 
 #[test]
 fn reading() {
     let mut random = random(11);
     for i in 0..policies(10_000) {
-        let mut bytes = random.policy([4, 8, 16, 32, 64][i as usize % 5]).bytes();
+        let mut bytes = random.policy(&shape(i)).bytes();
         bytes.extend((0..random.below(6)).map(|b| b as u8));
         read_alike(&bytes);
         read_alike(&damaged(&mut random, bytes));
@@ -84,16 +52,15 @@ fn translated_alike(
     let (mut by_record, mut by_bytes) = (expected.clone(), expected.clone());
     let theirs = expected.fill(translator, p).map(counts);
     let text = format!("policy {} in {nodes} and {states}", p.hex());
-    assert_eq!(
-        refusal(by_record.translate(&proved(p))),
-        theirs,
-        "record of {text}"
-    );
+    let ours = refusal(by_record.translate(&proved(p)));
+    alike(ours, theirs, format!("the record of {text}"));
     let bytes = p.bytes();
     let ours = by_bytes.translate_bytes(&bytes).map(|(counts, _)| counts);
-    assert_eq!(ours.map_err(ReadError::number), theirs, "bytes of {text}");
-    assert!(by_record == expected, "tables of {text}");
-    assert!(by_bytes == expected, "tables of the bytes of {text}");
+    let ours = ours.map_err(ReadError::number);
+    alike(ours, theirs, format!("the bytes of {text}"));
+    for tables in [by_record, by_bytes] {
+        alike(tables.difference(&expected), None, &text);
+    }
     theirs.map(|_| ())
 }
 
@@ -103,7 +70,7 @@ fn translating() {
     let mut translator = Translator::default();
     let mut fitting = 0;
     for i in 0..policies(6_000) {
-        let p = random.policy([4, 8, 16, 32, 64][i as usize % 5]);
+        let p = random.policy(&shape(i));
         let most = 65_535;
         let (nodes, states) = match translator.translate(&p, most, most) {
             Ok(a) => (a.nodes.len(), a.states.len()),
@@ -142,8 +109,9 @@ fn bytes_alike(translator: &mut Translator, bytes: &[u8], mut tables: Lent) -> u
     let ours = ours
         .map(|(counts, rest)| (counts, bytes.len() - rest.len()))
         .map_err(|e| (e.number(), e.offset));
-    assert_eq!(ours, theirs, "bytes {}", hex(bytes));
-    assert!(tables == expected, "tables of bytes {}", hex(bytes));
+    let text = format!("bytes {}", hex(bytes));
+    alike(ours, theirs, &text);
+    alike(tables.difference(&expected), None, &text);
     ours.map_or_else(|e| e.0, |_| 0)
 }
 
@@ -153,7 +121,7 @@ fn from_command_bytes_to_tables() {
     let mut translator = Translator::default();
     let mut answers = [0; 11];
     for i in 0..policies(6_000) {
-        let p = random.policy([4, 8, 16, 32, 64][i as usize % 5]);
+        let p = random.policy(&shape(i));
         let mut bytes = p.bytes();
         bytes.extend((0..random.below(6)).map(|b| b as u8));
         let (nodes, states) = (random.below(40), random.below(80));
@@ -175,7 +143,7 @@ fn lengths_that_do_not_belong_together() {
     let mut random = random(13);
     let mut translator = Translator::default();
     for _ in 0..policies(1_000) {
-        let p = random.policy(16);
+        let p = random.policy(&Shape::any(16));
         let mut tables = Lent::new(40, 40, 40 * p.letters, 0xa5);
         match random.below(7) {
             0 => drop(tables.node_masks.pop()),
@@ -189,11 +157,11 @@ fn lengths_that_do_not_belong_together() {
         let before = tables.clone();
         let (bytes, text) = (p.bytes(), p.hex());
         let theirs = before.clone().fill(&mut translator, &p).map(counts);
-        assert_eq!(theirs, Err(8), "{text}");
-        assert_eq!(refusal(tables.translate(&proved(&p))), Err(8), "{text}");
+        alike(theirs, Err(8), &text);
+        alike(refusal(tables.translate(&proved(&p))), Err(8), &text);
         let ours = tables.translate_bytes(&bytes).map_err(ReadError::number);
-        assert_eq!(ours, Err(8), "{text}");
-        assert_eq!(tables, before, "{text}");
+        alike(ours, Err(8), &text);
+        alike(tables.difference(&before), None, &text);
     }
 }
 
@@ -202,27 +170,27 @@ fn records_that_are_not_legal() {
     let mut random = random(14);
     let mut illegal = 0;
     for _ in 0..policies(6_000) {
-        let p = random.policy(32);
+        let p = random.policy(&Shape::any(32));
         let mut record = p.record();
         for _ in 0..=random.below(2) {
             let at = [random.below(4), random.below(132), random.below(388)][random.below(3)];
             record[at] = [random.below(256), random.below(20)][random.below(2)] as u8;
         }
         let ours = wulfrenda::Policy::from_record(record);
-        let text = hex(&record);
+        let text = format!("record {}", hex(&record));
         if from_record(&record).is_some() {
             continue;
         }
         illegal += 1;
         let mut tables = Lent::new(30, 30, 30 * p.letters, 0xa5);
         let before = tables.clone();
-        assert_eq!(refusal(tables.translate(&ours)), Err(7), "record {text}");
-        assert_eq!(tables, before, "record {text}");
+        alike(refusal(tables.translate(&ours)), Err(7), &text);
+        alike(tables.difference(&before), None, &text);
         let judged = wulfrenda::judge_policy(&ours, 0, &[], &[0]);
-        assert_eq!(refusal(judged), Err(7), "record {text}");
+        alike(refusal(judged), Err(7), &text);
         let other = proved(&p);
         for (a, b) in [(&ours, &other), (&other, &ours)] {
-            assert_eq!(refusal(wulfrenda::compare(a, b)), Err(7), "record {text}");
+            alike(refusal(wulfrenda::compare(a, b)), Err(7), &text);
         }
     }
     assert!(illegal > policies(6_000) / 4);
@@ -232,11 +200,11 @@ fn records_that_are_not_legal() {
 fn words(random: &mut Random, letters: usize) -> (Vec<u8>, Vec<u8>) {
     let wild = random.chance(10);
     let most = if wild { letters + 1 } else { letters };
-    let (stem, mut cycle) = (random.letters(most, 9), random.letters(most, 12));
+    let (stem, mut period) = (random.letters(most, 9), random.letters(most, 12));
     if !random.chance(5) {
-        cycle.push(random.below(most) as u8);
+        period.push(random.below(most) as u8);
     }
-    (stem, cycle)
+    (stem, period)
 }
 
 #[test]
@@ -244,7 +212,7 @@ fn running_and_judging() {
     let mut random = random(15);
     let mut translator = Translator::default();
     for i in 0..policies(4_000) {
-        let p = random.policy([4, 8, 16, 32][i as usize % 4]);
+        let p = random.policy(&shape(i % 4));
         let Ok(a) = translator.translate(&p, 4096, 4096) else {
             continue;
         };
@@ -254,43 +222,40 @@ fn running_and_judging() {
         let mut tables = Lent::new(4096, states, a.rows.len(), 0);
         tables.fill(&mut translator, &p).unwrap();
         for _ in 0..8 {
-            let (stem, cycle) = words(&mut random, letters);
-            let text = format!("policy {} stem {stem:?} loop {cycle:?}", p.hex());
+            let (stem, period) = words(&mut random, letters);
+            let text = format!("policy {} stem {stem:?} loop {period:?}", p.hex());
             let v = random.below(p.states + 1);
-            let verdict = wulfrenda::judge_policy(&ours, v as u8, &stem, &cycle);
+            let verdict = wulfrenda::judge_policy(&ours, v as u8, &stem, &period);
             let verdict = verdict.map(|x| (usize::from(x.colours), x.accepted));
-            assert_eq!(
-                refusal(verdict),
-                judge::policy(&p, v, &stem, &cycle),
-                "{text}"
-            );
+            let theirs = judge::policy(&p, v, &stem, &period);
+            alike(refusal(verdict), theirs, &text);
             let s = random.below(states + 1);
             let rows = tables.rows(letters as u8);
-            judged_alike(&rows, s, &stem, &cycle, &text);
+            judged_alike(&rows, s, &stem, &period, &text);
             ran_alike(&rows, s, &stem, &text);
         }
         // rows that lead nowhere, other numbers of letters, tables of two lengths
         let at = random.below(tables.row_targets.len());
         tables.row_targets[at] = [states, 65_535][random.below(2)] as u16;
-        let (stem, cycle) = words(&mut random, letters);
-        let text = format!("policy {} row {at} stem {stem:?} loop {cycle:?}", p.hex());
+        let (stem, period) = words(&mut random, letters);
+        let text = format!("policy {} row {at} stem {stem:?} loop {period:?}", p.hex());
         let s = random.below(states);
-        judged_alike(&tables.rows(letters as u8), s, &stem, &cycle, &text);
+        judged_alike(&tables.rows(letters as u8), s, &stem, &period, &text);
         ran_alike(&tables.rows(letters as u8), s, &stem, &text);
         let other = tables.rows(random.below(11) as u8);
-        judged_alike(&other, s, &stem, &cycle, &text);
+        judged_alike(&other, s, &stem, &period, &text);
         ran_alike(&other, s, &stem, &text);
         tables.row_priorities.pop();
-        judged_alike(&tables.rows(letters as u8), s, &stem, &cycle, &text);
+        judged_alike(&tables.rows(letters as u8), s, &stem, &period, &text);
         ran_alike(&tables.rows(letters as u8), s, &stem, &text);
     }
 }
 
-fn judged_alike(rows: &Rows, s: usize, stem: &[u8], cycle: &[u8], text: &str) {
+fn judged_alike(rows: &Rows, s: usize, stem: &[u8], period: &[u8], text: &str) {
     let letters = usize::from(rows.letters);
-    let theirs = judge::rows(letters, rows.targets, rows.priorities, s, stem, cycle);
-    let ours = wulfrenda::judge_rows(rows, s as u16, stem, cycle);
-    assert_eq!(refusal(ours), theirs, "{text} state {s}");
+    let theirs = judge::rows(letters, rows.targets, rows.priorities, s, stem, period);
+    let ours = wulfrenda::judge_rows(rows, s as u16, stem, period);
+    alike(refusal(ours), theirs, format!("{text} state {s}"));
 }
 
 /// Reads the letters one at a time on both sides; a refused one leaves the run where it is.
@@ -300,7 +265,7 @@ fn ran_alike(rows: &Rows, s: usize, word: &[u8], text: &str) {
         let ours = run.read(letter, rows).map(|(run, met)| (run.state, met));
         let letters = usize::from(rows.letters);
         let theirs = judge::step(letters, rows.targets, rows.priorities, run.state, letter);
-        assert_eq!(refusal(ours), theirs, "{text} state {}", run.state);
+        alike(refusal(ours), theirs, format!("{text} state {}", run.state));
         if let Ok((state, _)) = ours {
             run = Run { state };
         }
@@ -329,7 +294,7 @@ fn comparing() {
     let mut random = random(16);
     let mut answers = [0; 3];
     for i in 0..policies(3_000) {
-        let p = random.policy([4, 8, 16, 32, 64][i as usize % 5]);
+        let p = random.policy(&shape(i));
         let mut q = renamed(&mut random, &p);
         match random.below(6) {
             0 => q.initial = random.below(q.states),
@@ -345,10 +310,11 @@ fn comparing() {
                 let e = random.below(q.edges.len());
                 q.edges[e].0 = random.below(q.states);
             }
-            _ => q = random.policy(8),
+            _ => q = random.policy(&Shape::any(8)),
         }
         let ours = refusal(wulfrenda::compare(&proved(&p), &proved(&q)));
-        assert_eq!(ours, fast::compare(&p, &q), "{} {}", p.hex(), q.hex());
+        let text = format!("policies {} {}", p.hex(), q.hex());
+        alike(ours, fast::compare(&p, &q), text);
         answers[ours.map_or(2, usize::from)] += 1;
     }
     // each of the three answers came up

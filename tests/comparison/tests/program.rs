@@ -1,65 +1,51 @@
 //! The proved program prints what the independent translator finds, on policies of every shape, valid and damaged. TRANSLATE names the program.
 
-use independent::random::Random;
-use independent::{fast, policy};
-use std::io::Write;
-use std::process::{Command, Stdio};
+use comparison::{damaged, hex, policies, program, random, root, unhex};
+use independent::random::Shape;
+use independent::{alike, fast, policy};
+use std::fs;
 
-fn program(bytes: &[u8]) -> String {
-    let path = std::env::var("TRANSLATE").expect("TRANSLATE names the program");
-    let mut child = Command::new(path)
-        .stdin(Stdio::piped())
-        .stdout(Stdio::piped())
-        .spawn()
-        .unwrap();
-    child.stdin.take().unwrap().write_all(bytes).unwrap();
-    String::from_utf8(child.wait_with_output().unwrap().stdout).unwrap()
-}
-
-fn expected(bytes: &[u8]) -> String {
-    match policy::read(bytes) {
+fn listed_alike(bytes: &[u8]) {
+    let expected = match policy::read(bytes) {
         Err((number, at)) => format!("refused {number} {at}\n"),
         Ok((p, _)) => match fast::translate(&p, 1024, 1024) {
             Err(number) => format!("refused {number}\n"),
             Ok(a) => a.listing(p.letters),
         },
-    }
-}
-
-fn compare(bytes: &[u8]) {
-    let hex: String = bytes.iter().map(|b| format!("{b:02x}")).collect();
-    assert_eq!(program(bytes), expected(bytes), "policy {hex}");
+    };
+    alike(program(bytes), expected, format!("bytes {}", hex(bytes)));
 }
 
 #[test]
 fn policies_of_every_shape() {
-    let mut random = Random::new(2);
-    for i in 0..2_000 {
-        let p = random.policy([4, 8, 16, 32, 64][i % 5]);
-        compare(&p.bytes());
+    let mut random = random(2);
+    for i in 0..policies(2_000) {
+        let p = random.policy(&Shape::any([4, 8, 16, 32, 64][i as usize % 5]));
+        listed_alike(&p.bytes());
     }
 }
 
 #[test]
 fn damaged_bytes() {
-    let mut random = Random::new(3);
-    for _ in 0..2_000 {
-        let mut bytes = random.policy(16).bytes();
-        for _ in 0..=random.below(3) {
-            let at = random.below(bytes.len());
-            match random.below(4) {
-                0 => bytes[at] = random.below(256) as u8,
-                1 => bytes.truncate(at),
-                2 => bytes.insert(at, random.below(8) as u8),
-                _ => {
-                    bytes.remove(at);
-                }
-            }
-            if bytes.is_empty() {
-                break;
+    let mut random = random(3);
+    for _ in 0..policies(2_000) {
+        let bytes = random.policy(&Shape::any(16)).bytes();
+        listed_alike(&damaged(&mut random, bytes));
+    }
+    listed_alike(&[]);
+}
+
+#[test]
+fn every_file_of_hexadecimal_text() {
+    let mut files = 0;
+    for folder in ["examples", "tests/comparison/policies"] {
+        for entry in fs::read_dir(root().join(folder)).unwrap() {
+            let path = entry.unwrap().path();
+            if path.extension().is_some_and(|x| x == "hex") {
+                listed_alike(&unhex(&fs::read_to_string(&path).unwrap()));
+                files += 1;
             }
         }
-        compare(&bytes);
     }
-    compare(&[]);
+    assert!(files > 0);
 }

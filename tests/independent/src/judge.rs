@@ -11,7 +11,7 @@ pub fn policy(
     p: &Policy,
     state: usize,
     stem: &[u8],
-    cycle: &[u8],
+    period: &[u8],
 ) -> Result<(usize, bool), Refusal> {
     if !p.is_legal() {
         return Err(7);
@@ -19,10 +19,10 @@ pub fn policy(
     if state >= p.states {
         return Err(11);
     }
-    if cycle.is_empty() {
+    if period.is_empty() {
         return Err(14);
     }
-    if stem.iter().chain(cycle).any(|&a| a as usize >= p.letters) {
+    if stem.iter().chain(period).any(|&a| a as usize >= p.letters) {
         return Err(12);
     }
     let mut v = state;
@@ -39,7 +39,7 @@ pub fn policy(
         }
         began[v] = met.len();
         let mut set = 0;
-        for &a in cycle {
+        for &a in period {
             let edge = p.edges[v * p.letters + a as usize];
             set |= 1 << edge.1;
             v = edge.0;
@@ -90,16 +90,16 @@ pub fn rows(
     priorities: &[u8],
     state: usize,
     stem: &[u8],
-    cycle: &[u8],
+    period: &[u8],
 ) -> Result<u8, Refusal> {
     let states = states(letters, targets, priorities)?;
     if state >= states {
         return Err(11);
     }
-    if cycle.is_empty() {
+    if period.is_empty() {
         return Err(14);
     }
-    if stem.iter().chain(cycle).any(|&a| a as usize >= letters) {
+    if stem.iter().chain(period).any(|&a| a as usize >= letters) {
         return Err(12);
     }
     let move_on = |s: usize, a: u8| {
@@ -123,7 +123,7 @@ pub fn rows(
         }
         began.insert(s as u64, met.len());
         let mut least = 255;
-        for &a in cycle {
+        for &a in period {
             let (t, k) = move_on(s, a)?;
             least = least.min(k);
             s = t;

@@ -106,3 +106,12 @@ impl Tables<'_> {
 
 /// Why a translation was refused: document 01's number.
 pub type Refusal = u8;
+
+/// Panics where two answers differ: with both, and with what they are answers to.
+#[track_caller]
+pub fn alike<T: PartialEq + std::fmt::Debug>(first: T, second: T, to: impl std::fmt::Display) {
+    assert!(
+        first == second,
+        "different answers to {to}\n  first:  {first:?}\n  second: {second:?}"
+    );
+}

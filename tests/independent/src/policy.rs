@@ -1,6 +1,8 @@
 //! A policy and its command bytes.
 
-#[derive(Clone, Debug, PartialEq, Eq)]
+use crate::Refusal;
+
+#[derive(Clone, Debug, Default, PartialEq, Eq)]
 pub struct Policy {
     pub states: usize,
     pub letters: usize,
@@ -130,74 +132,93 @@ pub fn from_record(r: &[u8; 388]) -> Option<Policy> {
 }
 
 /// Reads command bytes: the policy and where the rest begins, or the number and the offset.
-pub fn read(bytes: &[u8]) -> Result<(Policy, usize), (u8, usize)> {
-    let mut at = 0;
-    let mut policy: Option<Policy> = None;
-    let mut given = 0u64;
-    loop {
-        let refuse = |number| Err((number, at));
-        let Some(&code) = bytes.get(at) else {
-            return refuse(1);
-        };
-        let operands = match code {
-            0 => 0,
-            1 | 2 => 4,
-            3 => 1,
-            _ => return refuse(2),
-        };
-        if bytes.len() - at - 1 < operands {
-            return refuse(1);
+pub fn read(bytes: &[u8]) -> Result<(Policy, usize), (Refusal, usize)> {
+    let mut policy = Policy::default();
+    policy.read(bytes).map(|end| (policy, end))
+}
+
+impl Policy {
+    /// Reads command bytes into a policy that is kept from call to call: where the rest begins, or the number and the offset. Once the policy has held the largest
+    /// counts, nothing is allocated. After a refusal it holds what was read so far.
+    pub fn read(&mut self, bytes: &[u8]) -> Result<usize, (Refusal, usize)> {
+        let mut at = 0;
+        let mut shaped = false;
+        let mut given = 0u64;
+        loop {
+            let refuse = |number| Err((number, at));
+            let Some(&code) = bytes.get(at) else {
+                return refuse(1);
+            };
+            let operands = match code {
+                0 => 0,
+                1 | 2 => 4,
+                3 => 1,
+                _ => return refuse(2),
+            };
+            if bytes.len() - at - 1 < operands {
+                return refuse(1);
+            }
+            let mut o = [0; 4];
+            for (i, &b) in bytes[at + 1..at + 1 + operands].iter().enumerate() {
+                o[i] = b as usize;
+            }
+            if shaped == (code == 1) {
+                return refuse(3);
+            }
+            match code {
+                1 => {
+                    let within = (1..=16).contains(&o[0])
+                        && (1..=8).contains(&o[1])
+                        && (1..=8).contains(&o[2])
+                        && o[0] * o[1] <= 64
+                        && o[3] < o[0];
+                    if !within {
+                        return refuse(4);
+                    }
+                    shaped = true;
+                    self.clear(o);
+                }
+                2 => {
+                    if o[0] >= self.states
+                        || o[1] >= self.letters
+                        || o[2] >= self.states
+                        || o[3] >= self.colours
+                    {
+                        return refuse(4);
+                    }
+                    let e = o[0] * self.letters + o[1];
+                    if given >> e & 1 == 1 {
+                        return refuse(5);
+                    }
+                    given |= 1 << e;
+                    self.edges[e] = (o[2], o[3]);
+                }
+                3 => {
+                    if o[0] == 0 || o[0] >= self.family.len() {
+                        return refuse(4);
+                    }
+                    if std::mem::replace(&mut self.family[o[0]], true) {
+                        return refuse(5);
+                    }
+                }
+                _ => {
+                    if (given.count_ones() as usize) < self.edges.len() {
+                        return refuse(6);
+                    }
+                    return Ok(at + 1);
+                }
+            }
+            at += 1 + operands;
         }
-        let mut o = [0; 4];
-        for (i, &b) in bytes[at + 1..at + 1 + operands].iter().enumerate() {
-            o[i] = b as usize;
-        }
-        match (&mut policy, code) {
-            (None, 1) => {
-                let within = (1..=16).contains(&o[0])
-                    && (1..=8).contains(&o[1])
-                    && (1..=8).contains(&o[2])
-                    && o[0] * o[1] <= 64
-                    && o[3] < o[0];
-                if !within {
-                    return refuse(4);
-                }
-                policy = Some(Policy {
-                    states: o[0],
-                    letters: o[1],
-                    colours: o[2],
-                    initial: o[3],
-                    edges: vec![(0, 0); o[0] * o[1]],
-                    family: vec![false; 1 << o[2]],
-                });
-            }
-            (None, _) | (Some(_), 1) => return refuse(3),
-            (Some(p), 2) => {
-                if o[0] >= p.states || o[1] >= p.letters || o[2] >= p.states || o[3] >= p.colours {
-                    return refuse(4);
-                }
-                let e = o[0] * p.letters + o[1];
-                if given >> e & 1 == 1 {
-                    return refuse(5);
-                }
-                given |= 1 << e;
-                p.edges[e] = (o[2], o[3]);
-            }
-            (Some(p), 3) => {
-                if o[0] == 0 || o[0] >= p.family.len() {
-                    return refuse(4);
-                }
-                if std::mem::replace(&mut p.family[o[0]], true) {
-                    return refuse(5);
-                }
-            }
-            (Some(p), _) => {
-                if (given.count_ones() as usize) < p.edges.len() {
-                    return refuse(6);
-                }
-                return Ok((policy.unwrap(), at + 1));
-            }
-        }
-        at += 1 + operands;
+    }
+
+    /// The counts, every edge to state 0 with colour 0, an empty family.
+    fn clear(&mut self, [states, letters, colours, initial]: [usize; 4]) {
+        (self.states, self.letters, self.colours, self.initial) =
+            (states, letters, colours, initial);
+        self.edges.clear();
+        self.edges.resize(states * letters, (0, 0));
+        self.family.clear();
+        self.family.resize(1 << colours, false);
     }
 }

@@ -1,8 +1,62 @@
-//! Policies of every shape from a fixed seed.
+//! Random policies from a fixed seed: one generator, with switches.
 
 use crate::policy::Policy;
+use std::ops::RangeInclusive;
 
 pub struct Random(u64);
+
+/// What a random policy may be.
+#[derive(Clone, Debug)]
+pub struct Shape {
+    pub states: RangeInclusive<usize>,
+    pub letters: RangeInclusive<usize>,
+    pub colours: RangeInclusive<usize>,
+    /// At most so many edges.
+    pub edges: usize,
+    pub targets: Targets,
+    pub family: Family,
+    /// Any initial state, and not always 0.
+    pub initial: bool,
+}
+
+#[derive(Clone, Copy, Debug)]
+pub enum Targets {
+    /// Any state.
+    Any,
+    /// The state itself or one of the two after it.
+    Near,
+    /// Most often the next state, the last one's itself; else any.
+    Onward,
+    /// The states in up to four parts: most often a state of the same part, else one of the same or a later part. So there are several roots, with edges between them.
+    Parts,
+    /// One of these.
+    Mixed,
+}
+
+#[derive(Clone, Copy, Debug)]
+pub enum Family {
+    /// Each set with this chance in a hundred.
+    Chance(usize),
+    /// The sets with an even number of members.
+    Even,
+    /// One of these, from empty to full.
+    Mixed,
+}
+
+impl Shape {
+    /// Policies of every shape, of at most so many edges.
+    pub fn any(edges: usize) -> Self {
+        Shape {
+            states: 1..=16,
+            letters: 1..=8,
+            colours: 1..=8,
+            edges,
+            targets: Targets::Mixed,
+            family: Family::Mixed,
+            initial: true,
+        }
+    }
+}
 
 impl Random {
     pub fn new(seed: u64) -> Self {
@@ -20,6 +74,10 @@ impl Random {
         (self.next() % n as u64) as usize
     }
 
+    pub fn within(&mut self, range: &RangeInclusive<usize>) -> usize {
+        range.start() + self.below(range.end() - range.start() + 1)
+    }
+
     pub fn chance(&mut self, percent: usize) -> bool {
         self.below(100) < percent
     }
@@ -29,50 +87,76 @@ impl Random {
         (0..n).map(|_| self.below(letters) as u8).collect()
     }
 
-    /// A policy of at most so many edges: any counts, random or local targets, sparse, dense, empty or full family.
-    pub fn policy(&mut self, most_edges: usize) -> Policy {
+    pub fn policy(&mut self, shape: &Shape) -> Policy {
         let (states, letters) = loop {
-            let s = 1 + self.below(16);
-            let l = 1 + self.below(8);
-            if s * l <= most_edges {
-                break (s, l);
+            let counts = (self.within(&shape.states), self.within(&shape.letters));
+            if counts.0 * counts.1 <= shape.edges {
+                break counts;
             }
         };
-        let colours = 1 + self.below(8);
-        let local = self.chance(30);
-        let onward = self.chance(20);
+        let colours = self.within(&shape.colours);
+        let targets = match shape.targets {
+            Targets::Mixed => [
+                Targets::Any,
+                Targets::Any,
+                Targets::Near,
+                Targets::Onward,
+                Targets::Parts,
+            ][self.below(5)],
+            one => one,
+        };
+        let parts = match targets {
+            Targets::Parts => 1 + self.below(states.min(4)),
+            _ => 1,
+        };
         let edges = (0..states * letters)
             .map(|e| {
-                let v = e / letters;
-                let target = if onward && self.chance(70) {
-                    (v + 1).min(states - 1)
-                } else if local {
-                    (v + self.below(3)) % states
-                } else {
-                    self.below(states)
-                };
+                let target = self.target(targets, states, parts, e / letters);
                 (target, self.below(colours))
             })
             .collect();
-        let density = [0, 10, 30, 50, 80, 100][self.below(6)];
-        let parity = self.chance(20);
+        let family = match shape.family {
+            Family::Mixed if self.chance(20) => Family::Even,
+            Family::Mixed => Family::Chance([0, 10, 30, 50, 80, 100][self.below(6)]),
+            one => one,
+        };
         let family = (0..1usize << colours)
-            .map(|set| {
-                set != 0
-                    && if parity {
-                        set.count_ones() % 2 == 0
-                    } else {
-                        self.chance(density)
-                    }
-            })
+            .map(|set| set != 0 && self.member(family, set))
             .collect();
+        let initial = if shape.initial { self.below(states) } else { 0 };
         Policy {
             states,
             letters,
             colours,
-            initial: self.below(states),
+            initial,
             edges,
             family,
+        }
+    }
+
+    fn target(&mut self, targets: Targets, states: usize, parts: usize, v: usize) -> usize {
+        match targets {
+            Targets::Near => (v + self.below(3)) % states,
+            Targets::Onward if self.chance(70) => (v + 1).min(states - 1),
+            Targets::Parts => {
+                // part i begins at state i times states over parts, rounded up
+                let begin = |part: usize| (part * states).div_ceil(parts);
+                let part = v * parts / states;
+                let end = if self.chance(80) {
+                    begin(part + 1)
+                } else {
+                    states
+                };
+                begin(part) + self.below(end - begin(part))
+            }
+            _ => self.below(states),
+        }
+    }
+
+    fn member(&mut self, family: Family, set: usize) -> bool {
+        match family {
+            Family::Chance(percent) => self.chance(percent),
+            _ => set.count_ones() % 2 == 0,
         }
     }
 }

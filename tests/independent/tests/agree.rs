@@ -1,39 +1,38 @@
 //! The two independent ways agree with each other, and both with document 01's listing of policy B.
 
-use independent::random::Random;
-use independent::{brute, fast, judge, policy};
+use independent::random::{Random, Shape};
+use independent::{alike, brute, fast, judge, policy};
 
 #[test]
 fn both_ways_agree() {
     let mut random = Random::new(1);
+    let mut kept = policy::Policy::default();
     for i in 0..500 {
-        let p = random.policy(if i % 50 == 0 { 12 } else { 8 });
-        assert_eq!(policy::read(&p.bytes()), Ok((p.clone(), p.bytes().len())));
+        let p = random.policy(&Shape::any(if i % 50 == 0 { 12 } else { 8 }));
+        let (bytes, text) = (p.bytes(), p.hex());
+        alike(policy::read(&bytes), Ok((p.clone(), bytes.len())), &text);
+        alike(kept.read(&bytes), Ok(bytes.len()), &text);
+        alike(&kept, &p, &text);
         let slow = brute::translate(&p);
         let quick = fast::translate(&p, 100_000, 100_000).unwrap();
-        assert_eq!(slow, quick, "{}", p.hex());
+        alike(&slow, &quick, &text);
         let mut q = p.clone();
         for edge in &mut q.edges {
             edge.1 = random.below(q.colours);
         }
         if p.edges.len() <= 8 {
-            assert_eq!(
-                brute::same(&p, &q),
-                fast::compare(&p, &q).unwrap(),
-                "{} {}",
-                p.hex(),
-                q.hex()
-            );
+            let text = format!("{text} and {}", q.hex());
+            alike(Ok(brute::same(&p, &q)), fast::compare(&p, &q), text);
         }
         let targets: Vec<u16> = quick.rows.iter().map(|r| r.0).collect();
         let priorities: Vec<u8> = quick.rows.iter().map(|r| r.1).collect();
         for _ in 0..5 {
-            let (stem, mut cycle) = (random.letters(p.letters, 5), random.letters(p.letters, 7));
-            cycle.push(random.below(p.letters) as u8);
+            let (stem, mut period) = (random.letters(p.letters, 5), random.letters(p.letters, 7));
+            period.push(random.below(p.letters) as u8);
             let s = random.below(quick.states.len());
-            let (_, yes) = judge::policy(&p, quick.states[s].0 as usize, &stem, &cycle).unwrap();
-            let least = judge::rows(p.letters, &targets, &priorities, s, &stem, &cycle).unwrap();
-            assert_eq!(least % 2 == 0, yes, "{} {stem:?} {cycle:?}", p.hex());
+            let (_, yes) = judge::policy(&p, quick.states[s].0 as usize, &stem, &period).unwrap();
+            let least = judge::rows(p.letters, &targets, &priorities, s, &stem, &period).unwrap();
+            alike(yes, least % 2 == 0, format!("{text} {stem:?} {period:?}"));
         }
     }
 }

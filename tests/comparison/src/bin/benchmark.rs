@@ -2,7 +2,7 @@
 
 use comparison::{unhex, Lent};
 use independent::policy::{self, Policy};
-use independent::random::Random;
+use independent::random::{Family, Random, Shape, Targets};
 use independent::{fast, judge};
 use std::hint::black_box;
 use std::time::{Duration, Instant};
@@ -38,6 +38,7 @@ fn time(ns: f64) -> String {
 /// From command bytes to the seven tables, for a list of policies, with the same questions on both sides.
 fn translating(name: &str, policies: &[Policy]) {
     let mut translator = fast::Translator::default();
+    let mut kept = Policy::default();
     let bytes: Vec<Vec<u8>> = policies.iter().map(Policy::bytes).collect();
     let (mut nodes, mut rows) = (0, 0);
     let mut ours: Vec<Lent> = Vec::new();
@@ -63,8 +64,8 @@ fn translating(name: &str, policies: &[Policy]) {
         || {
             for _ in 0..rounds {
                 for (b, t) in bytes.iter().zip(&mut theirs) {
-                    let (p, _) = policy::read(black_box(b)).unwrap();
-                    black_box(t.fill(&mut translator, &p)).ok();
+                    kept.read(black_box(b)).unwrap();
+                    black_box(t.fill(&mut translator, &kept)).ok();
                 }
             }
         },
@@ -91,35 +92,6 @@ fn line(name: &str, steps: usize, (ours, theirs): (f64, f64)) {
         ours / steps as f64,
         ours / theirs
     );
-}
-
-/// A policy with random targets and colours, and a family of random sets or of all sets with an even number of members.
-fn random_policy(
-    random: &mut Random,
-    states: usize,
-    letters: usize,
-    colours: usize,
-    even: bool,
-) -> Policy {
-    Policy {
-        states,
-        letters,
-        colours,
-        initial: 0,
-        edges: (0..states * letters)
-            .map(|_| (random.below(states), random.below(colours)))
-            .collect(),
-        family: (0..1usize << colours)
-            .map(|s| {
-                s != 0
-                    && if even {
-                        s.count_ones() % 2 == 0
-                    } else {
-                        random.chance(50)
-                    }
-            })
-            .collect(),
-    }
 }
 
 /// How much stack a call uses, in bytes: what lies below is filled with a pattern before it, and read afterwards.
@@ -153,24 +125,23 @@ fn file(text: &str) -> Policy {
 
 fn main() {
     let mut random = Random::new(1);
-    let mut some = |n: usize,
-                    states: [usize; 2],
-                    letters: [usize; 2],
-                    colours: [usize; 2],
-                    even|
-     -> Vec<Policy> {
-        (0..n)
-            .map(|_| {
-                let mut pick = |[from, to]: [usize; 2]| from + random.below(to - from + 1);
-                let (s, l, c) = (pick(states), pick(letters), pick(colours));
-                random_policy(&mut random, s, l, c, even)
-            })
-            .collect()
+    let mut some = |n: usize, states, letters, colours, family| -> Vec<Policy> {
+        let shape = Shape {
+            states,
+            letters,
+            colours,
+            edges: 64,
+            targets: Targets::Any,
+            family,
+            initial: false,
+        };
+        (0..n).map(|_| random.policy(&shape)).collect()
     };
-    let small = some(100, [1, 3], [1, 3], [1, 3], false);
-    let sites = some(100, [4, 8], [2, 4], [3, 5], false);
-    let large = some(10, [16, 16], [4, 4], [8, 8], false);
-    let alternating = some(3, [16, 16], [4, 4], [8, 8], true);
+    let half = Family::Chance(50);
+    let small = some(100, 1..=3, 1..=3, 1..=3, half);
+    let sites = some(100, 4..=8, 2..=4, 3..=5, half);
+    let large = some(10, 16..=16, 4..=4, 8..=8, half);
+    let alternating = some(3, 16..=16, 4..=4, 8..=8, Family::Even);
     let known = [
         include_str!("../../../../examples/a.hex"),
         include_str!("../../../../examples/b.hex"),
@@ -207,7 +178,7 @@ fn main() {
     t.fill(&mut fast::Translator::default(), p).unwrap();
     let rows = t.rows(p.letters as u8);
     for length in [10, 1_000] {
-        let cycle: Vec<u8> = (0..length).map(|_| random.below(p.letters) as u8).collect();
+        let period: Vec<u8> = (0..length).map(|_| random.below(p.letters) as u8).collect();
         let state = usize::from(a.start);
         // how many letters are read until the runs repeat is the same on both sides only in order of size; count the loop once
         line(
@@ -219,10 +190,10 @@ fn main() {
                         &ours,
                         0,
                         &[],
-                        black_box(&cycle),
+                        black_box(&period),
                     )))
                 },
-                || black_box(ignore(judge::policy(p, 0, &[], black_box(&cycle)))),
+                || black_box(ignore(judge::policy(p, 0, &[], black_box(&period)))),
             ),
         );
         line(
@@ -234,7 +205,7 @@ fn main() {
                         &rows,
                         state as u16,
                         &[],
-                        black_box(&cycle),
+                        black_box(&period),
                     )))
                 },
                 || {
@@ -244,7 +215,7 @@ fn main() {
                         &t.row_priorities,
                         state,
                         &[],
-                        black_box(&cycle),
+                        black_box(&period),
                     )))
                 },
             ),

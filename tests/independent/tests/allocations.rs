@@ -1,0 +1,63 @@
+//! Once its buffers have grown, the quick translator goes from command bytes to tables and allocates nothing.
+
+use independent::fast::Translator;
+use independent::policy::Policy;
+use independent::random::{Random, Shape};
+use independent::Tables;
+use std::alloc::{GlobalAlloc, Layout, System};
+use std::cell::Cell;
+
+struct Counting;
+
+thread_local! {
+    static CALLS: Cell<usize> = const { Cell::new(0) };
+}
+
+// SAFETY: the system's allocator, with a count for each thread beside it
+unsafe impl GlobalAlloc for Counting {
+    unsafe fn alloc(&self, layout: Layout) -> *mut u8 {
+        CALLS.set(CALLS.get() + 1);
+        System.alloc(layout)
+    }
+    unsafe fn dealloc(&self, place: *mut u8, layout: Layout) {
+        System.dealloc(place, layout)
+    }
+}
+
+#[global_allocator]
+static COUNTING: Counting = Counting;
+
+#[test]
+fn nothing_is_allocated_again() {
+    const PLACES: usize = 1024;
+    let mut random = Random::new(4);
+    let policies: Vec<Vec<u8>> = (0..200)
+        .map(|_| random.policy(&Shape::any(64)).bytes())
+        .collect();
+    let mut translator = Translator::default();
+    let mut kept = Policy::default();
+    let (mut node_masks, mut node_parents) = ([0; PLACES], [0; PLACES]);
+    let (mut node_priorities, mut state_sources) = ([0; PLACES], [0; PLACES]);
+    let mut state_leaves = [0; PLACES];
+    let (mut row_targets, mut row_priorities) = ([0; 8 * PLACES], [0; 8 * PLACES]);
+    let mut each = || {
+        for bytes in &policies {
+            kept.read(bytes).unwrap();
+            let rows = PLACES * kept.letters;
+            let tables = Tables {
+                node_masks: &mut node_masks,
+                node_parents: &mut node_parents,
+                node_priorities: &mut node_priorities,
+                state_sources: &mut state_sources,
+                state_leaves: &mut state_leaves,
+                row_targets: &mut row_targets[..rows],
+                row_priorities: &mut row_priorities[..rows],
+            };
+            translator.fill(&kept, tables).ok();
+        }
+    };
+    each();
+    let before = CALLS.get();
+    each();
+    assert_eq!(CALLS.get(), before);
+}
