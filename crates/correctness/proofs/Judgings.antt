@@ -31,11 +31,11 @@ use Rattle.automaton.proofs.EdgeRuns.{metRun}
 use Rattle.running.specs.declared.Run.{Run}
 use Rattle.running.specs.declared.Reading.{Reading}
 use Rattle.running.specs.declared.Reading.the-variants.{Moved, Refused as NotRead}
-use Rattle.running.specs.Running.{rowStates, shaped, readingOf, prioritiesOf, rowStep, rowMeets}
+use Rattle.running.specs.Running.{rowStates, readingOf, prioritiesOf, rowStep, rowMeets}
 use Rattle.running.proofs.Steps.{row-within}
 use Rattle.judging.specs.Judging.{nonEmpty, inRange, leastOf, recurringColours, policyVerdict, noState, everDangling, leastRecurring, rowsVerdict}
 use Rattle.judging.proofs.Laws.{least-le, least-mem}
-use Rattle.judging.proofs.Meaning.{recurring-colours, dangling}
+use Rattle.judging.proofs.Meaning.{recurring-colours, outside-answer, dangling}
 use Rattle.correctness.specs.Demand3.{Rows, StandsOver, RecurringPriority, Demand3}
 use Rattle.correctness.specs.Contracts.{Succeeded, Beginning, JudgedAlike}
 use Rattle.correctness.proofs.Joint.{Read, in-good, read, stands-after}
@@ -52,15 +52,6 @@ some-letter letters (a ∷ w) some range = or-left (ltb a letters) (any (λ a. l
 met-no-dangling : (q : Reading) (k : ℕ) (ks : List ℕ) → prioritiesOf q ++ [] ≡ k ∷ ks → noState q ≡ false
 met-no-dangling (Moved r k′) k ks e = refl
 met-no-dangling (NotRead n r) k ks e = absurd (nil≢cons e)
-
-refused-no-dangling : (letters : ℕ) (targets priorities : List ℕ) (r : Run) (a : ℕ) → ltb a letters ≡ false → noState (readingOf letters targets priorities r a) ≡ false
-unfolding readingOf
-refused-no-dangling letters targets priorities r a f = rw f (go (shaped letters targets priorities) (ltb (r .state) (rowStates letters targets priorities)))
-  where
-    go : (x y : Bool) → noState (cond x (cond y (NotRead 12 r) (NotRead 11 r)) (NotRead 8 r)) ≡ false
-    go true true = refl
-    go true false = refl
-    go false y = refl
 
 module _ (p : Policy) (ok : legal p ≡ true) where
   -- ---- a priority of the built automaton is at most 8
@@ -124,7 +115,7 @@ module _ (p : Policy) (ok : legal p ≡ true) where
         go (inl t) =
             let i = reading (a ∷ []) r h in
             taken (i .taken) (stateAt p (r .state) .leaf) (i .some (or-left (ltb a (p .letters)) false t)) (i .priorities-are)
-        go (inr f) = refused-no-dangling (p .letters) targets priorities r a f
+        go (inr f) = outside-answer (p .letters) targets priorities r a f
 
     never-dangling : (stem loop : List ℕ) (r : Run) → IsBuilt r → everDangling (p .letters) targets priorities r stem loop ≡ false
     never-dangling stem loop r h = go (test (everDangling (p .letters) targets priorities r stem loop))

@@ -8,10 +8,10 @@ use Rattle.policy.specs.Policies.{edges, edgeOf, source, targetOf, colourOf, co
 use Rattle.graph.specs.Cycles.{spread, closure, reach, isCycle, contains}
 use Rattle.forest.specs.Forest.{before, place, inOrder, largest, full, cyclesIn, roots, opposed, children, trees, tree, forest, priority, transientPriority, node, upFrom, chain, childOf, inRoot}
 use Rattle.automaton.specs.Automaton.{next, holds, kids, isLeaf, leaves, firstLeaf, statesOver, builtStates, deepest, lead, entered, firstLeafBelow, leafAfter, priorityAfter, built, stateAt, number, start, rowTarget, rowPriority, rowTargets, rowPriorities}
-use Rattle.running.specs.Running.{rowStates, shaped, readingOf, rowStep, rowMeets}
+use Rattle.running.specs.Running.{rowStates, shaped, refusalOf, readingOf, rowStep, rowMeets}
 use Rattle.judging.specs.Judging.{leastOf, leastRecurring}
 use Rattle.correctness.specs.Known.{Entry, table, answer}
 
 pub known : map (λ (e : Entry). answer (e .policy) (e .question)) table ≡ map (λ (e : Entry). e .answered) table
-unfolding iter rounds after met window has insert inside properly members submasks edges edgeOf source targetOf colourOf coloursBelow coloursOf inFamily accepting spread closure reach isCycle contains before place inOrder largest full cyclesIn roots opposed children trees tree forest priority transientPriority next node upFrom chain childOf inRoot holds kids isLeaf leaves firstLeaf statesOver builtStates deepest lead entered firstLeafBelow leafAfter priorityAfter built stateAt number start rowTarget rowPriority rowTargets rowPriorities rowStates shaped readingOf rowStep rowMeets leastOf leastRecurring
+unfolding iter rounds after met window has insert inside properly members submasks edges edgeOf source targetOf colourOf coloursBelow coloursOf inFamily accepting spread closure reach isCycle contains before place inOrder largest full cyclesIn roots opposed children trees tree forest priority transientPriority next node upFrom chain childOf inRoot holds kids isLeaf leaves firstLeaf statesOver builtStates deepest lead entered firstLeafBelow leafAfter priorityAfter built stateAt number start rowTarget rowPriority rowTargets rowPriorities rowStates shaped refusalOf readingOf rowStep rowMeets leastOf leastRecurring
 known = refl

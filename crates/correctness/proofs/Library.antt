@@ -5,8 +5,8 @@ use native.Mathlib.Omega.{arith}
 use mathlib.Core.Path.{_≡_, refl, sym, ap, _∙_, subst, fun-ext}
 use mathlib.Core.Logic.{_⊎_, inl, inr}
 use mathlib.Core.Bool.{Bool, true, false, cond}
-use mathlib.Core.List.{List, [], _∷_}
-use lib.Dec.{eqb, ltb}
+use mathlib.Core.List.{List}
+use lib.Dec.{eqb}
 use lib.ListN.{length, getD}
 use borrow.Author.Tests.{eqb-false}
 use Rattle.lists.proofs.Bools.{test}
@@ -20,8 +20,8 @@ use Rattle.builder.specs.declared.Translation.{Translation}
 use Rattle.builder.specs.declared.Translation.the-variants.{Translated, Refused}
 use Rattle.running.specs.declared.Run.{Run}
 use Rattle.running.specs.declared.Reading.{Reading}
-use Rattle.running.specs.declared.Reading.the-variants.{Moved, Refused as NotRead}
-use Rattle.running.specs.Running.{rowOf, rowStates, shaped, readingOf, priorityOf, prioritiesOf, numberOf as runNumberOf}
+use Rattle.running.specs.Running.{readingOf}
+use Rattle.running.proofs.Steps.{reads-letter, reading-meets}
 use Rattle.wulfrenda.specs.Records.{policyOf, firstOf}
 use Rattle.correctness.specs.Contracts.{letterAt, prioritiesMet, Agreement}
 use Rattle.correctness.specs.Library.{statesIn, callsMeet, CallsAgree, Demand3Library, Demand3Bytes}
@@ -46,27 +46,6 @@ translated p t = go (legal p) (lengthsFit p t) (nodesFit p t) (statesFit p t)
     go true false c d e = absurd (omega (arith, e))
     go false b c d e = absurd (omega (arith, e))
 
--- ---- 0 is returned exactly where the letter was read, so what the call meets is what the reading meets
-meets : (letters : ℕ) (targets priorities : List ℕ) (r : Run) (a : ℕ)
-    → cond (eqb (runNumberOf (readingOf letters targets priorities r a)) 0) (priorityOf (readingOf letters targets priorities r a) ∷ []) [] ≡ prioritiesOf (readingOf letters targets priorities r a)
-unfolding readingOf
-meets letters targets priorities r a =
-    go (shaped letters targets priorities) (ltb (r .state) (rowStates letters targets priorities)) (ltb a letters) (ltb t (rowStates letters targets priorities))
-  where
-    t : ℕ
-    t = getD targets (rowOf letters (r .state) a) 0
-
-    answer : Bool → Bool → Bool → Bool → Reading
-    answer x y z w =
-        cond x (cond y (cond z (cond w (Moved (record { state = t }) (getD priorities (rowOf letters (r .state) a) 0)) (NotRead 13 r)) (NotRead 12 r)) (NotRead 11 r)) (NotRead 8 r)
-
-    go : (x y z w : Bool) → cond (eqb (runNumberOf (answer x y z w)) 0) (priorityOf (answer x y z w) ∷ []) [] ≡ prioritiesOf (answer x y z w)
-    go true true true true = refl
-    go true true true false = refl
-    go true true false w = refl
-    go true false z w = refl
-    go false y z w = refl
-
 -- ---- the claim, of any policy that the tables are those of
 agree : (p : Policy) (entry exit : Tables) (counts : List ℕ) → 0 ≡ translateNumberOf (translationOf p entry) → counts ≡ countsOf (translationOf p entry)
     → Hold (tablesAfter p entry) (exit .masks) (exit .parents) (exit .node-priorities) (exit .sources) (exit .leaves) (exit .targets) (exit .priorities) → CallsAgree p exit counts
@@ -90,7 +69,7 @@ agree p entry exit counts returned counts-are tables-are targets priorities b st
     done = translated p entry returned ∙ ap counted (sym counts-are)
 
     met-is : callsMeet numbers given ≡ prioritiesMet answers
-    met-is = fun-ext (λ i. rw (calls i .number-is, calls i .priority-is) (meets (p .letters) targets priorities (runs i) (letterAt stem loop i)))
+    met-is = fun-ext (λ i. rw (calls i .number-is, calls i .priority-is) (sym (reading-meets (p .letters) targets priorities (runs i) (letterAt stem loop i) (answers i) (reads-letter (p .letters) targets priorities (runs i) (letterAt stem loop i) (answers i) refl))))
 
 pub demand3-library : Demand3Library
 demand3-library packed entry exit number counts call returned = agree (policyOf packed) entry exit counts (sym returned ∙ call .number-is) (call .counts-are) (call .tables-are)

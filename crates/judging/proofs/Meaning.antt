@@ -6,11 +6,10 @@ use mathlib.Core.Path.{_≡_, refl, sym, ap, _∙_, subst}
 use mathlib.Core.Logic.{_⊎_, inl, inr, _↔_}
 use mathlib.Core.Bool.{Bool, true, false, cond, true≢false, false≢true}
 use mathlib.Core.List.{List, [], _∷_, _++_, List·Memᴰ, List·Memᴰ·head, Memᴰ·append-left, Memᴰ·append-right, List·Memᴰ·append-cases}
-use lib.Dec.{ltb}
+use lib.Dec.{eqb, ltb}
 use lib.ListN.{getD}
-use borrow.Author.Tests.{lt-ltb, le-ltb}
 use Rattle.lists.specs.Lists.{all}
-use Rattle.lists.proofs.Bools.{test, and-l, or-cases, lt-true, lt-false}
+use Rattle.lists.proofs.Bools.{test, and-l, or-cases, eqb≡, lt-true, lt-false}
 use Rattle.masks.specs.Masks.{has}
 use Rattle.recurrence.specs.Recurs.{iter, rounds}
 use Rattle.recurrence.specs.Runs.{times, after, met, Recurring, window}
@@ -21,8 +20,8 @@ use Rattle.policy.specs.declared.Policy.{Policy}
 use Rattle.policy.specs.Policies.{legal}
 use Rattle.running.specs.declared.Run.{Run}
 use Rattle.running.specs.declared.Reading.the-variants.{Moved, Refused as NotRead}
-use Rattle.running.specs.Running.{policyStep, policyMeets, rowOf, rowStates, shaped, readingOf, rowStep, rowMeets}
-use Rattle.running.proofs.Steps.{policy-within, row-moves, row-within}
+use Rattle.running.specs.Running.{policyStep, policyMeets, rowOf, rowStates, shaped, targetAt, priorityAt, refusalOf, readingOf, rowStep, rowMeets}
+use Rattle.running.proofs.Steps.{policy-within, refusal-13, refusal-none, refusal-outside, reading-moved, reading-refused, row-moves, row-within}
 use Rattle.judging.specs.Judging.{nonEmpty, inRange, leastOf, recurringColours, noState, danglingMeets, everDangling, leastRecurring}
 use Rattle.judging.specs.ReadsDangling.{ReadsDangling}
 use Rattle.judging.proofs.Collect.{after-any, iter-any}
@@ -48,23 +47,20 @@ module _ (letters : ℕ) (targets priorities : List ℕ) where
   states = rowStates letters targets priorities
 
   -- ---- one letter
-  -- question 13 is the only one whose number is 13
-  asked-13 : (x y z w : Bool) (r r′ : Run) (k : ℕ) → let q = cond x (cond y (cond z (cond w (Moved r′ k) (NotRead 13 r)) (NotRead 12 r)) (NotRead 11 r)) (NotRead 8 r) in
-      noState q ≡ true → q ≡ NotRead 13 r
-  asked-13 true true true true r r′ k e = absurd (false≢true e)
-  asked-13 true true true false r r′ k e = refl
-  asked-13 true true false w r r′ k e = absurd (false≢true e)
-  asked-13 true false z w r r′ k e = absurd (false≢true e)
-  asked-13 false y z w r r′ k e = absurd (false≢true e)
-
   dangling-answer : (r : Run) (a : ℕ) → nonEmpty (dangles r a) ≡ true → readingOf letters targets priorities r a ≡ NotRead 13 r
   unfolding danglingMeets readingOf
-  dangling-answer r a t = asked-13 (shaped letters targets priorities) (ltb (r .state) states) (ltb a letters) (ltb (getD targets (rowOf letters (r .state) a) 0) states) r
-      (record { state = getD targets (rowOf letters (r .state) a) 0 }) (getD priorities (rowOf letters (r .state) a) 0) (go (noState (readingOf letters targets priorities r a)) t)
+  dangling-answer r a t = is (eqb n 0) (some (noState (readingOf letters targets priorities r a)) t)
     where
-      go : (b : Bool) → nonEmpty (cond b (a ∷ []) []) ≡ true → b ≡ true
-      go true t = refl
-      go false t = absurd (false≢true t)
+      n : ℕ
+      n = refusalOf letters targets priorities r a
+
+      some : (b : Bool) → nonEmpty (cond b (a ∷ []) []) ≡ true → b ≡ true
+      some true t = refl
+      some false t = absurd (false≢true t)
+
+      is : (b : Bool) → let q = cond b (Moved (record { state = targetAt letters targets priorities r a }) (priorityAt letters targets priorities r a)) (NotRead n r) in noState q ≡ true → q ≡ NotRead 13 r
+      is true e = absurd (false≢true e)
+      is false e = ap (λ (k : ℕ). NotRead k r) (eqb≡ n 13 e)
 
   answer-dangling : (r : Run) (a : ℕ) → readingOf letters targets priorities r a ≡ NotRead 13 r → List·Memᴰ a (dangles r a)
   unfolding danglingMeets
@@ -72,19 +68,23 @@ module _ (letters : ℕ) (targets priorities : List ℕ) where
 
   -- for rows of the right shape, a state and a letter of theirs: the row's target is no state
   pub dangling-target : (r : Run) (a : ℕ) → shaped letters targets priorities ≡ true → r .state < states → a < letters
-      → (readingOf letters targets priorities r a ≡ NotRead 13 r) ↔ (states ≤ getD targets (rowOf letters (r .state) a) 0)
-  unfolding readingOf
-  dangling-target r a ok s l = (to (test (ltb t states)), λ h. rw (ok, lt-ltb _ _ s, lt-ltb _ _ l, le-ltb _ _ h) refl)
+      → (readingOf letters targets priorities r a ≡ NotRead 13 r) ↔ (states ≤ targetAt letters targets priorities r a)
+  dangling-target r a ok s l = (to (test (ltb t states)), λ h. reading-refused letters targets priorities r a 13 (refusal-13 letters targets priorities r a ok s l h) refl)
     where
       t : ℕ
-      t = getD targets (rowOf letters (r .state) a) 0
+      t = targetAt letters targets priorities r a
 
       to : (ltb t states ≡ true) ⊎ (ltb t states ≡ false) → readingOf letters targets priorities r a ≡ NotRead 13 r → states ≤ t
       to (inl y) e =
-          let moved : readingOf letters targets priorities r a ≡ Moved (record { state = t }) (getD priorities (rowOf letters (r .state) a) 0) = rw (ok, lt-ltb _ _ s, lt-ltb _ _ l, y) refl in
-          let z : _≡_ {A = ℕ} 0 1 = cc in
-          absurd (omega arith)
+          let moved = reading-moved letters targets priorities r a (refusal-none letters targets priorities r a ok s l (lt-true t states y)) in
+          absurd (false≢true (ap noState (sym moved ∙ e)))
       to (inr n) e = lt-false t states n
+
+  -- a letter outside is not answered 13
+  pub outside-answer : (r : Run) (a : ℕ) → ltb a letters ≡ false → noState (readingOf letters targets priorities r a) ≡ false
+  outside-answer r a f =
+      let q = refusal-outside letters targets priorities r a f in
+      ap noState (reading-refused letters targets priorities r a (refusalOf letters targets priorities r a) refl (q .0)) ∙ q .1
 
   -- ---- a list of letters
   met-dangles : (w : List ℕ) (r : Run) → nonEmpty (met step dangles w r) ≡ true → ReadsDangling letters targets priorities r w

@@ -16,7 +16,7 @@ use Rattle.running.specs.declared.Run.{Run}
 use Rattle.running.specs.declared.Reading.{Reading}
 use Rattle.running.specs.declared.Reading.the-variants.{Moved, Refused}
 use Rattle.running.specs.Running.{rowOf, rowStates, shaped, readingOf, rowStep, rowMeets, runAfter, prioritiesOf}
-use Rattle.running.proofs.Steps.{row-within}
+use Rattle.running.proofs.Steps.{refusal-13, refusal-none, reading-moved, reading-refused, row-within}
 use Rattle.judging.specs.declared.RowsVerdict.the-variants.{Least, Refused as RefusedRows}
 use Rattle.judging.specs.declared.Seen.{Seen}
 use Rattle.judging.specs.declared.Watch.{Watch}
@@ -55,17 +55,17 @@ module _ (letters : ℕ) (targets priorities : List ℕ) where
   module _ (ok : shaped letters targets priorities ≡ true) (s : Seen) (a : ℕ) (state : s .state < rowStates letters targets priorities) (letter : a < letters) where
     pub seen-dangles : rowStates letters targets priorities ≤ getD targets (rowOf letters (s .state) a) 0
         → record { state = s .state; least = s .least; dangling = true } ≡ seenStep letters targets priorities s a
-    unfolding seenStep readingOf
+    unfolding seenStep
     seen-dangles h =
-        rw (ok, lt-ltb _ _ state, lt-ltb _ _ letter, le-ltb _ _ h)
+        rw (reading-refused letters targets priorities (runOf s) a 13 (refusal-13 letters targets priorities (runOf s) a ok state letter h) refl)
         (ap (λ (b : Bool). record { state = s .state; least = s .least; dangling = b }) (sym (or-true (s .dangling))))
 
     pub seen-moves : getD targets (rowOf letters (s .state) a) 0 < rowStates letters targets priorities → (k : ℕ)
         → k ≡ cond (ltb (getD priorities (rowOf letters (s .state) a) 0) (s .least)) (getD priorities (rowOf letters (s .state) a) 0) (s .least)
         → record { state = getD targets (rowOf letters (s .state) a) 0; least = k; dangling = s .dangling } ≡ seenStep letters targets priorities s a
-    unfolding seenStep readingOf
+    unfolding seenStep
     seen-moves h k e =
-        rw (ok, lt-ltb _ _ state, lt-ltb _ _ letter, lt-ltb _ _ h)
+        rw (reading-moved letters targets priorities (runOf s) a (refusal-none letters targets priorities (runOf s) a ok state letter h))
         (ap (λ (x : ℕ). record { state = getD targets (rowOf letters (s .state) a) 0; least = x; dangling = s .dangling }) e)
 
   pub moves : (s : Seen) (a : ℕ) → runOf (seenStep letters targets priorities s a) ≡ rowStep letters targets priorities (runOf s) a

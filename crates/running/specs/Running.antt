@@ -1,9 +1,11 @@
 -- The two runs (document 01, "The two runs"): the policy's, and the run over the rows of the built automaton with running's questions.
 use Prim.Native.Nat.{ℕ, _+_, _*_, _/_, _%_}
+use mathlib.Core.Path.{_≡_}
 use mathlib.Core.Bool.{Bool, true, false, _&&_, cond}
 use mathlib.Core.List.{List, [], _∷_}
 use lib.Dec.{eqb, ltb, leb}
 use lib.ListN.{length, getD}
+use Rattle.lists.specs.Questions.{ask}
 use Rattle.policy.specs.declared.Policy.{Policy}
 use Rattle.policy.specs.Policies.{edgeOf, targetOf, edgeColours}
 use Rattle.running.specs.declared.Run.{Run}
@@ -56,19 +58,36 @@ module _ (letters : ℕ) (targets priorities : List ℕ) where
   shaped =
       leb 1 letters && leb letters 8 && eqb (length targets) (length priorities) && eqb (length targets % letters) 0 && leb rowStates 65535
 
-  -- running's questions 8, 11, 12, 13 in order; then the move
+  -- how many states there are, if question 8 is answered yes; 65,536, which is too many, if no
+  unfoldable pub statesOf : ℕ
+  statesOf = cond shaped rowStates 65536
+
+  -- the row that a letter asks for: its target, which may be no state, and its priority
+  abbrev pub targetAt : Run → ℕ → ℕ
+  targetAt r a = getD targets (rowOf letters (r .state) a) 0
+
+  abbrev pub priorityAt : Run → ℕ → ℕ
+  priorityAt r a = getD priorities (rowOf letters (r .state) a) 0
+
+  -- running's questions 8, 11, 12, 13 in order; 0 if all are answered yes
+  unfoldable pub refusalOf : Run → ℕ → ℕ
+  refusalOf r a =
+      ask shaped 8
+      (ask (ltb (r .state) rowStates) 11
+      (ask (ltb a letters) 12
+      (ask (ltb (targetAt r a) rowStates) 13 0)))
+
+  -- then the move
   unfoldable pub readingOf : Run → ℕ → Reading
-  readingOf r a =
-      let s = r .state in
-      let t = getD targets (rowOf letters s a) 0 in
-      let moved = Moved (record { state = t }) (getD priorities (rowOf letters s a) 0) in
-      cond shaped
-      (cond (ltb s rowStates)
-      (cond (ltb a letters)
-      (cond (ltb t rowStates) moved (Refused 13 r))
-      (Refused 12 r))
-      (Refused 11 r))
-      (Refused 8 r)
+  readingOf r a = cond (eqb (refusalOf r a) 0) (Moved (record { state = targetAt r a }) (priorityAt r a)) (Refused (refusalOf r a) r)
+
+  -- what Run::read promises of its answer
+  pub record ReadsLetter (r : Run) (a : ℕ) (x : Reading) : Type 0 where
+    pub answer-is : x ≡ readingOf r a
+    pub number-is : numberOf x ≡ refusalOf r a
+    -- a refused letter leaves the run as it is
+    pub run-is : runAfter x ≡ cond (eqb (refusalOf r a) 0) (record { state = targetAt r a }) r
+    pub priority-is : priorityOf x ≡ cond (eqb (refusalOf r a) 0) (priorityAt r a) 0
 
   unfoldable pub rowStep : Run → ℕ → Run
   rowStep r a = runAfter (readingOf r a)

@@ -1,8 +1,6 @@
 // Running over the rows of a built automaton: one letter at a time, with questions 8, 11, 12 and 13 asked in order.
 ghost use mathlib.Core.Path.{_≡_};
-ghost use Prim.Native.Nat.{_≤_};
-ghost use Rattle.running.specs.Running.{readingOf};
-ghost use Rattle.running.specs.Shapes.{share, statesOf};
+ghost use Rattle.running.specs.Running.{statesOf, ReadsLetter};
 
 // A run of the built automaton: a value that holds its present state.
 pub struct Run {
@@ -15,25 +13,8 @@ pub enum Reading {
     Refused(u8, Run),
 }
 
-// 2^32 divided by the number of letters, rounded up.
-fn share(letters: u8) -> usize
-    requires { ⌜ (1 ≤ letters) × (letters ≤ 8) ⌝ }
-    ensures { λ r. ⌜ r ≡ share letters ⌝ }
-{
-    match letters {
-        1 => 4294967296,
-        2 => 2147483648,
-        3 => 1431655766,
-        4 => 1073741824,
-        5 => 858993460,
-        6 => 715827883,
-        7 => 613566757,
-        _ => 536870912,
-    }
-}
-
-// How many states the rows have, found without a division; 65,536, which is too many, where question 8 is answered no: letters 1 to 8, row tables of one length, that a multiple
-// of letters, at most 65,535 states.
+// How many states the rows have; 65,536, which is too many, where question 8 is answered no: letters 1 to 8, row tables of one length, that a multiple of letters, at most
+// 65,535 states.
 pub fn states_of(letters: u8, targets: &[u16], priorities: &[u8]) -> usize
     ensures { λ r. ⌜ r ≡ statesOf letters (now (targets .entry)) (now (priorities .entry)) ⌝ }
 {
@@ -48,11 +29,11 @@ pub fn states_of(letters: u8, targets: &[u16], priorities: &[u8]) -> usize
         return 65536;
     }
     let k = letters as usize;
-    if 65535 * k < rows {
+    let states = rows / k;
+    if rows % k != 0 {
         return 65536;
     }
-    let states = rows * share(letters) / 4294967296;
-    if states * k != rows {
+    if 65535 < states {
         return 65536;
     }
     states
@@ -61,7 +42,7 @@ pub fn states_of(letters: u8, targets: &[u16], priorities: &[u8]) -> usize
 impl Run {
     // The run after a letter, and the priority that the letter meets; a refused letter leaves the run as it is.
     pub fn read(self, letter: u8, letters: u8, targets: &[u16], priorities: &[u8]) -> Reading
-        ensures { λ r. ⌜ r ≡ readingOf letters (now (targets .entry)) (now (priorities .entry)) self letter ⌝ }
+        ensures { λ r. ⌜ ReadsLetter letters (now (targets .entry)) (now (priorities .entry)) self letter r ⌝ }
     {
         let states = states_of(letters, targets, priorities);
         if 65535 < states {

@@ -6,7 +6,7 @@ use Rattle.lists.proofs.Bools.{and-l, and-r}
 use borrow.Author.Tests.{not-true, not-false}
 use Rattle.running.specs.declared.Run.{Run}
 use Rattle.running.specs.Running.{rowStates, shaped}
-use Rattle.running.proofs.Shapes.{states-shaped, states-unshaped}
+use Rattle.running.proofs.Laws.{states-shaped, states-unshaped}
 use Rattle.judging.specs.declared.RowsVerdict.the-variants.{Least}
 use Rattle.judging.specs.declared.Seen.{Seen}
 use Rattle.judging.specs.Judging.{inRange}

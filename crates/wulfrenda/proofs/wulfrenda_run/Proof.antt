@@ -20,7 +20,7 @@ run-number-requires c κs = search needs
 
 returns : tie.Need-returns
 returns c =
-    let is = c .before .before .before .read .ensures in (
+    let is = c .before .before .before .read .ensures .answer-is in (
       c .run-number .ensures ∙ ap numberOf is,
       (
         c .before .before .run-state .ensures ∙ ap (λ (x : Reading). runAfter x .state) is,

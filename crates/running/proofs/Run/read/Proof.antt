@@ -2,14 +2,13 @@
 -- Assumes nothing.
 use Prim.Native.Nat.{ℕ, _+_, _*_, _≤_, _<_}
 use native.Mathlib.Omega.{arith}
-use mathlib.Core.Path.{_≡_, subst}
+use mathlib.Core.Path.{_≡_, refl, subst}
 use mathlib.Core.Bool.{true}
 use lib.ListN.{length}
 use borrow.Author.Needs.{needs}
-use borrow.Author.Tests.{lt-ltb, le-ltb}
-use Rattle.running.specs.Running.{shaped, rowStates, readingOf}
-use Rattle.running.proofs.Laws.{Shaped, shaped-facts, row-lt}
-use Rattle.running.proofs.Shapes.{states-shaped, states-unshaped}
+use Rattle.running.specs.Running.{shaped, rowStates}
+use Rattle.running.proofs.Laws.{Shaped, shaped-facts, row-lt, states-shaped, states-unshaped}
+use Rattle.running.proofs.Steps.{refusal-8, refusal-11, refusal-12, refusal-13, refusal-none, reads-refused, reads-moved}
 use Rattle.running.proofs.Run.read.Statement.{statement}
 use Rattle.running.proofs.Run.read.Tie as tie
 
@@ -17,8 +16,7 @@ states-of-requires : tie.Need-states-of-requires
 states-of-requires c κs = search needs
 
 returns : tie.Need-returns
-unfolding readingOf
-returns c = simp (states-unshaped _ _ _ _ (c .before .states-of .ensures) (c .if1 .taken))
+returns c = reads-refused _ _ _ _ _ 8 (refusal-8 _ _ _ _ _ (states-unshaped _ _ _ _ (c .before .states-of .ensures) (c .if1 .taken))) refl
 
 -- past question 8
 shape : (c : tie.Else1) → let a = c .before .before .before .before .args in shaped (a .letters) (a .targets .now) (a .priorities .now) ≡ true
@@ -38,14 +36,12 @@ cast-at : tie.Need-cast-at
 cast-at c = search needs
 
 returns-2 : tie.Need-returns-2
-unfolding readingOf
-returns-2 c = simp (shape (c .before .before), le-ltb _ _ (beyond (c .before .before) _ (c .if2 .taken)))
+returns-2 c = reads-refused _ _ _ _ _ 11 (refusal-11 _ _ _ _ _ (shape (c .before .before)) (beyond (c .before .before) _ (c .if2 .taken))) refl
 
 returns-3 : tie.Need-returns-3
-unfolding readingOf
 returns-3 c =
-    let a = c .before .before .before .before .before .before .before .args in
-    simp (shape (c .before .before .before), lt-ltb _ _ (among (c .before .before .before) _ (c .before .if2 .left)), le-ltb (a .letter) (a .letters) (omega (arith, c .if3 .taken)))
+    let e = c .before .before .before in
+    reads-refused _ _ _ _ _ 12 (refusal-12 _ _ _ _ _ (shape e) (among e _ (c .before .if2 .left)) (c .if3 .taken)) refl
 
 -- past question 12 the row is in the target table
 row : (c : tie.Else3) → let a = c .before .before .before .before .before .before .before .args in
@@ -71,11 +67,10 @@ cast-if4 c =
     omega (arith, c .shared-slice-known3 .given (a .self .state * a .letters + a .letter))
 
 returns-4 : tie.Need-returns-4
-unfolding readingOf
 returns-4 c =
     let d = c .before .before in
     let e = d .before .before .before in
-    simp (shape e, lt-ltb _ _ (among e _ (d .before .if2 .left)), lt-ltb _ _ (d .if3 .left), le-ltb _ _ (beyond e _ (c .if4 .taken)))
+    reads-refused _ _ _ _ _ 13 (refusal-13 _ _ _ _ _ (shape e) (among e _ (d .before .if2 .left)) (d .if3 .left) (beyond e _ (c .if4 .taken))) refl
 
 shared-slice-read-met : tie.Need-shared-slice-read-met
 shared-slice-read-met c =
@@ -83,11 +78,10 @@ shared-slice-read-met c =
     omega (arith, row d, facts (d .before .before .before) .same)
 
 returns-5 : tie.Need-returns-5
-unfolding readingOf
 returns-5 c =
     let d = c .before .before .before in
     let e = d .before .before .before in
-    simp (shape e, lt-ltb _ _ (among e _ (d .before .if2 .left)), lt-ltb _ _ (d .if3 .left), lt-ltb _ _ (among e _ (c .before .if4 .left)))
+    reads-moved _ _ _ _ _ (refusal-none _ _ _ _ _ (shape e) (among e _ (d .before .if2 .left)) (d .if3 .left) (among e _ (c .before .if4 .left)))
 
 pub read-spec : {M : Type 1} → statement M
 read-spec =
