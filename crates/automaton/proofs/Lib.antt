@@ -1,3 +1,4 @@
+pub mod Bounds
 pub mod Branch
 pub mod Closed
 pub mod EdgeRuns

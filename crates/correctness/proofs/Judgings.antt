@@ -2,13 +2,12 @@
 -- recurring priority is even exactly if the recurring colours are in the family; and where no letter is refused both calls answer so. Assumes nothing.
 use Prim.Native.Nat.{ℕ, _≤_, _<_}
 use native.Mathlib.Omega.{arith}
-use native.Mathlib.Decide.{decLt}
 use mathlib.Core.Path.{_≡_, refl, sym, ap, _∙_, subst}
 use mathlib.Core.Logic.{_⊎_, inl, inr, _≢_, _↔_}
 use mathlib.Core.Bool.{Bool, true, false, cond, true≢false, false≢true}
 use mathlib.Core.List.{List, [], _∷_, _++_, List·Memᴰ, List·Memᴰ·head, List·Memᴰ·tail, nil≢cons}
 use lib.Dec.{ltb}
-use lib.ListN.{length, getD, List·getD-eq-default}
+use lib.ListN.{length, getD}
 use borrow.Author.Tests.{lt-ltb}
 use Rattle.lists.specs.Lists.{any, all}
 use Rattle.lists.proofs.Bools.{test, and-l, or-left, both, bool-ext}
@@ -20,13 +19,11 @@ use Rattle.recurrence.proofs.Runs.{numbered-recurring}
 use Rattle.recurrence.proofs.Repeats.{iter-keeps}
 use Rattle.policy.specs.declared.Policy.{Policy}
 use Rattle.policy.specs.Policies.{legal, inFamily}
-use Rattle.policy.proofs.Laws.{legal-counts}
-use Rattle.forest.specs.Forest.{Node, forest, node, priority, transientPriority, inRoot, even}
-use Rattle.forest.proofs.Forest.{forest-laws}
-use Rattle.forest.proofs.Priorities.{priority-few}
-use Rattle.automaton.specs.Automaton.{built, stateAt, deepest, priorityAfter}
+use Rattle.forest.specs.Forest.{forest, even}
+use Rattle.automaton.specs.Automaton.{built, stateAt}
 use Rattle.builder.specs.Tables.{Tables}
 use Rattle.builder.specs.declared.Translation.{Translation}
+use Rattle.automaton.proofs.Bounds.{priority-after-few}
 use Rattle.automaton.proofs.EdgeRuns.{metRun}
 use Rattle.running.specs.declared.Run.{Run}
 use Rattle.running.specs.declared.Reading.{Reading}
@@ -54,28 +51,10 @@ met-no-dangling (Moved r k′) k ks e = refl
 met-no-dangling (NotRead n r) k ks e = absurd (nil≢cons e)
 
 module _ (p : Policy) (ok : legal p ≡ true) where
-  -- ---- a priority of the built automaton is at most 8
-  node-few : (n : ℕ) → priority p (node (forest p) n) ≤ 8
-  unfolding node
-  node-few n = go (decLt n (length (forest p)))
-    where
-      go : Dec (n < length (forest p)) → priority p (node (forest p) n) ≤ 8
-      go (yes h) = omega (arith, priority-few p (node (forest p) n), forest-laws p ok .levels n h, legal-counts p ok .colours-few)
-      go (no h) =
-          let none : Node = record { mask = 0; parent = 0; level = 0; accepted = false } in
-          omega (arith, priority-few p (node (forest p) n), ap (λ (x : Node). x .level) (List·getD-eq-default (forest p) none {n = n} (omega arith)))
-
-  priority-after-few : (e l : ℕ) → priorityAfter (forest p) p e l ≤ 8
-  unfolding priorityAfter transientPriority
-  priority-after-few e l = go (inRoot (forest p) e)
-    where
-      go : (b : Bool) → cond b (priority p (node (forest p) (deepest (forest p) e l))) 0 ≤ 8
-      go true = node-few (deepest (forest p) e l)
-      go false = omega arith
-
-  met-few : (es : List ℕ) (l k : ℕ) → List·Memᴰ k (metRun (forest p) p es l) → k ≤ 8
+  -- ---- a priority that is met is at most 9
+  met-few : (es : List ℕ) (l k : ℕ) → List·Memᴰ k (metRun (forest p) p es l) → k ≤ 9
   unfolding metRun
-  met-few (e ∷ es) l k (List·Memᴰ·head q) = subst (λ (x : ℕ). x ≤ 8) (sym q) (priority-after-few e l)
+  met-few (e ∷ es) l k (List·Memᴰ·head q) = subst (λ (x : ℕ). x ≤ 9) (sym q) (priority-after-few p ok e l)
   met-few (e ∷ es) l k (List·Memᴰ·tail m) = met-few es _ k m
 
   module _ (targets priorities : List ℕ) (rows : Rows p targets priorities) where
@@ -95,7 +74,7 @@ module _ (p : Policy) (ok : legal p ≡ true) where
     reading : (w : List ℕ) (r : Run) → IsBuilt r → Read p targets priorities w r (stateAt p (r .state) .state) (stateAt p (r .state) .leaf)
     reading w r h = read p ok targets priorities rows w r (stateAt p (r .state) .state) (stateAt p (r .state) .leaf) (record { is-built = h; over = refl; leaf-is = refl })
 
-    recurring-few : (stem loop : List ℕ) (r : Run) → IsBuilt r → (k : ℕ) → RecurringPriority p targets priorities stem loop r k → k ≤ 8
+    recurring-few : (stem loop : List ℕ) (r : Run) → IsBuilt r → (k : ℕ) → RecurringPriority p targets priorities stem loop r k → k ≤ 9
     recurring-few stem loop r h k rec =
         let q = rec 0 in
         let end = iter (after step meets loop) (q .0) (after step meets stem r) in

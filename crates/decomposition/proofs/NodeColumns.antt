@@ -17,9 +17,8 @@ use Rattle.tables.specs.Tables.{padded, zeros}
 use Rattle.tables.proofs.Tables.{zeros-padded, zeros-same, length-zeros, getD-padded, padded-more}
 use Rattle.policy.specs.declared.Policy.{Policy}
 use Rattle.policy.specs.Policies.{accepting, legal}
-use Rattle.policy.proofs.Laws.{legal-counts}
 use Rattle.decomposition.specs.declared.nodes.Filled.the-variants.{Nodes, TooMany}
-use Rattle.forest.specs.Forest.{Node, differs, forest, node, priority}
+use Rattle.forest.specs.Forest.{Node, differs, forest, mostLevels, node, priority}
 use Rattle.forest.specs.Laws.{ForestLaws, maskAt, parentAt, rootAt}
 use Rattle.candidates.specs.Candidates.{candidatesOf, coloursAt, candidates, judged}
 use Rattle.decomposition.specs.NodeTables.{Sought, Cleared, Written, Lent, Spare, Space, nodeTables, nodesFit, fillingOf, filledOf}
@@ -29,9 +28,10 @@ use Rattle.candidates.proofs.Distinct.{length-below, flat-few}
 use Rattle.candidates.proofs.Candidates.{of-few}
 use Rattle.candidates.proofs.CandidateLaws.{room-few}
 use Rattle.forest.proofs.Children.{root-few, child-fewer, ordered-children, ordered-roots}
-use Rattle.forest.proofs.Priorities.{priority-root, priority-child, priority-few}
+use Rattle.forest.proofs.Priorities.{priority-root, priority-child}
+use Rattle.forest.proofs.Levels.{most-levels-few}
 use Rattle.forest.proofs.Numbered.{Numbered, numbered}
-use Rattle.forest.proofs.Forest.{forest-laws}
+use Rattle.forest.proofs.Forest.{forest-laws, priority-few}
 
 -- ---- the table t holds the first n entries of the column l
 module _ (l t : List ℕ) where
@@ -134,7 +134,7 @@ module _ (p : Policy) (lawful : legal p ≡ true) where
         rejecting-few = omega (arith, room-few p lawful);
         seen-long = omega (arith, s .seen-long);
         seen-none = s .seen-none;
-        kids-long = omega (arith, s .kids-long, mul-le-mul-left (p .colours) (longer both));
+        kids-long = omega (arith, s .kids-long, mul-le-mul-left (mostLevels p) (longer both));
       }
     where
       longer : length a′ + length r′ ≤ p .states * 2 ^ p .colours → max (length a′) (length r′) ≤ p .states * 2 ^ p .colours
@@ -239,7 +239,7 @@ module _ {p : Policy} (lawful : legal p ≡ true) {masks parents r₀ r : List �
       pub prioritised-parent : (getD parents n 0 < length r) × (getD r (getD parents n 0) 0 < 255)
       prioritised-parent = (
         omega (arith, before, v .long),
-        omega (arith, priority-before, priority-few p (node (forest p) (parentAt (forest p) n)), laws .levels (parentAt (forest p) n) (omega (arith, before, here, w .parents-are n l)), legal-counts p lawful .colours-few),
+        omega (arith, priority-before, priority-few p lawful (parentAt (forest p) n)),
       )
 
       pub prioritised-child : Prioritised p r₀ (set r n (getD r (getD parents n 0) 0 + 1)) (n + 1)
@@ -300,5 +300,5 @@ space-enough p lawful {a} {r} {seen} {kids} s h = record {
   rejecting-long = omega (arith, s .rejecting-long);
   seen-long = h;
   seen-none = s .seen-none;
-  kids-long = omega (arith, s .kids-long, mul-le-mul-left (p .colours) h, mul-le-mul-right (length seen) (legal-counts p lawful .colours-few));
+  kids-long = omega (arith, s .kids-long, mul-le-mul-left (mostLevels p) h, mul-le-mul-right (length seen) (most-levels-few p lawful));
 }

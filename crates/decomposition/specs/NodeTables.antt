@@ -2,14 +2,14 @@
 use Prim.Native.Nat.{ℕ, _+_, _*_, _^_, _≤_, _<_, min, max}
 use mathlib.Core.Path.{_≡_}
 use mathlib.Core.Bool.{Bool, true, false, cond}
-use mathlib.Core.List.{List, map}
+use mathlib.Core.List.{List}
 use lib.Dec.{leb}
 use lib.ListN.{length, getD}
 use Rattle.policy.specs.declared.Policy.{Policy}
 use Rattle.tables.specs.Tables.{padded, zeros}
 use Rattle.decomposition.specs.declared.nodes.Filled.{Filled}
 use Rattle.decomposition.specs.declared.nodes.Filled.the-variants.{Nodes, TooMany}
-use Rattle.forest.specs.Forest.{nodeMasks, nodeParents, nodePriorities, Node, forest, priority, node}
+use Rattle.forest.specs.Forest.{nodeMasks, nodeParents, nodePriorities, forest, mostLevels, node}
 use Rattle.candidates.specs.Candidates.{judged, rootCandidates}
 
 -- the lists that nodes are looked for in: the candidates of either verdict, and those for roots
@@ -42,7 +42,7 @@ pub record Lent (p : Policy) (accepting rejecting seen kids : List ℕ) : Type 0
   pub rejecting-few : length rejecting ≤ 4096
   pub seen-long : length accepting + length rejecting ≤ length seen
   pub seen-none : (i : ℕ) → getD seen i 0 ≡ 0
-  pub kids-long : p .colours * max (length accepting) (length rejecting) ≤ length kids
+  pub kids-long : mostLevels p * max (length accepting) (length rejecting) ≤ length kids
 
 -- for listing the candidates and growing trees
 pub record Spare (p : Policy) (accepting rejecting seen kids : List ℕ) : Type 0 where
@@ -50,7 +50,7 @@ pub record Spare (p : Policy) (accepting rejecting seen kids : List ℕ) : Type 
   pub rejecting-long : p .states * 2 ^ p .colours ≤ length rejecting
   pub seen-long : p .states * 2 ^ p .colours ≤ length seen
   pub seen-none : (i : ℕ) → getD seen i 0 ≡ 0
-  pub kids-long : p .colours * (p .states * 2 ^ p .colours) ≤ length kids
+  pub kids-long : mostLevels p * (p .states * 2 ^ p .colours) ≤ length kids
 
 -- for as many candidates as `seen` has places
 pub record Space (accepting rejecting seen kids : List ℕ) : Type 0 where

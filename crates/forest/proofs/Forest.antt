@@ -6,42 +6,26 @@ use native.Mathlib.Decide.{ℕ-discrete, decLt}
 use native.Mathlib.Numerals.{add-one}
 use mathlib.Core.Path.{_≡_, refl, sym, ap, _∙_, subst}
 use mathlib.Core.Logic.{_⊎_, inl, inr, _↔_}
-use mathlib.Core.Bool.{Bool, true, false, not, true≢false, false≢true}
-use mathlib.Core.List.{List, List·Memᴰ, List·Memᴰ·head, Memᴰ·cast}
+use mathlib.Core.Bool.{Bool, true, false, not, true≢false}
+use mathlib.Core.List.{List, List·Memᴰ, List·Memᴰ·eq-of-singleton, Memᴰ·cast}
 use lib.Dec.{eqb}
-use lib.ListN.{length}
-use lib.Count.{ones, ones-le}
+use lib.ListN.{length, List·getD-eq-default}
 use Rattle.lists.specs.Lists.{any}
 use Rattle.lists.proofs.Bools.{test, eqb≡, ≡eqb}
 use Rattle.lists.proofs.Lists.{any-some, some-any}
-use Rattle.masks.specs.Masks.{has, inside, properly}
-use Rattle.masks.proofs.Bits.{has-none, ones-inside}
+use Rattle.masks.specs.Masks.{inside, properly}
 use Rattle.policy.specs.declared.Policy.{Policy}
-use Rattle.policy.specs.Policies.{coloursOf, accepting, legal}
-use Rattle.policy.proofs.Laws.{legal-target, colours-lt, some-colours, edge-coloured}
-use Rattle.graph.specs.Cycles.{Cycle, isCycle, contains}
-use Rattle.graph.proofs.Cycles.{cycle-edge, cycle-sound}
-use Rattle.forest.specs.Forest.{Node, before, even, priority, node, chain, childOf, forest}
+use Rattle.policy.specs.Policies.{accepting, legal}
+use Rattle.policy.proofs.Laws.{legal-target}
+use Rattle.graph.specs.Cycles.{isCycle, contains}
+use Rattle.forest.specs.Forest.{Node, before, mostLevels, levelsLeft, even, priority, node, chain, childOf, forest}
 use Rattle.forest.specs.Laws.{ForestLaws, maskAt, parentAt, rootAt}
 use Rattle.forest.proofs.Order.{before-irreflexive}
-use Rattle.forest.proofs.Chains.{chain-self, by-parent, chain-cases, chain-le, chain-trans}
-use Rattle.forest.proofs.Children.{root-cycle, root-few, root-unique, in-root, child, in-child, child-fewer, child-colours, ordered-children, ordered-roots}
-use Rattle.forest.proofs.Priorities.{root-even, child-even, child-larger}
+use Rattle.forest.proofs.Chains.{chain-self, chain-root, by-parent, chain-cases, chain-le, chain-trans}
+use Rattle.forest.proofs.Children.{root-cycle, root-few, root-unique, in-root, child, in-child, child-fewer, ordered-children, ordered-roots}
+use Rattle.forest.proofs.Levels.{most-levels-few, levels-most, levels-child, levels-some}
+use Rattle.forest.proofs.Priorities.{root-even, child-even, child-larger, priority-level}
 use Rattle.forest.proofs.Numbered.{Numbered, numbered}
-
--- a cycle has a colour: it has an edge, and each edge has one
-pub cycle-coloured : (p : Policy) (m : ℕ) → isCycle p m ≡ true → 0 < ones (coloursOf p m)
-cycle-coloured p m c = go (ones-inside 0 (coloursOf p m) (λ i t. absurd (false≢true (sym (has-none i) ∙ t))))
-  where
-    coloured : Cycle p m → (i : ℕ) × (has (coloursOf p m) i ≡ true)
-    coloured r =
-        let t : has m (r .first) ≡ true = r .exact (r .first) .1 (List·Memᴰ·head refl) in
-        let i = edge-coloured p (r .first) in
-        (i .0, some-colours p m (r .first) (i .0) (cycle-edge p m c (r .first) t) t (i .1))
-
-    go : (0 ≡ coloursOf p m) ⊎ (ones 0 < ones (coloursOf p m)) → 0 < ones (coloursOf p m)
-    go (inl z) = let i = coloured (cycle-sound p m c) in absurd (false≢true (sym (has-none (i .0)) ∙ ap (λ (s : ℕ). has s (i .0)) z ∙ i .1))
-    go (inr l) = omega arith
 
 module _ (p : Policy) (leg : legal p ≡ true) (ns : List Node) (numbers : Numbered p ns) where
   -- a law of all nodes, from the roots down
@@ -93,19 +77,35 @@ module _ (p : Policy) (leg : legal p ≡ true) (ns : List Node) (numbers : Numbe
   apart-at i j li lj ri rj v ci cj =
       one-number i j li lj ri rj (root-unique p (legal-target p leg) (maskAt ns i) (maskAt ns j) (numbers .root-mask i li ri) (numbers .root-mask j lj rj) v ci cj)
 
-  -- each level has a colour less
-  colours-levels : (n : ℕ) → n < length ns → ones (coloursOf p (maskAt ns n)) + node ns n .level ≤ p .colours
-  colours-levels = down (λ n. ones (coloursOf p (maskAt ns n)) + node ns n .level ≤ p .colours) base more
+  left-levels : (n : ℕ) → n < length ns → levelsLeft p (maskAt ns n) + node ns n .level ≤ mostLevels p
+  left-levels = down (λ n. levelsLeft p (maskAt ns n) + node ns n .level ≤ mostLevels p) base more
     where
-      base : (n : ℕ) → n < length ns → rootAt ns n ≡ true → ones (coloursOf p (maskAt ns n)) + node ns n .level ≤ p .colours
-      base n l t = omega (arith, eqb≡ (node ns n .level) 0 t, ones-le (p .colours) (coloursOf p (maskAt ns n)) (colours-lt p leg (maskAt ns n)))
+      base : (n : ℕ) → n < length ns → rootAt ns n ≡ true → levelsLeft p (maskAt ns n) + node ns n .level ≤ mostLevels p
+      base n l t = omega (arith, eqb≡ (node ns n .level) 0 t, levels-most p leg (maskAt ns n))
 
-      more : (n : ℕ) → n < length ns → rootAt ns n ≡ false → ones (coloursOf p (maskAt ns (parentAt ns n))) + node ns (parentAt ns n) .level ≤ p .colours
-          → ones (coloursOf p (maskAt ns n)) + node ns n .level ≤ p .colours
-      more n l f ih = omega (arith, numbers .level-up n l f, child-colours p (maskAt ns (parentAt ns n)) (maskAt ns n) (numbers .child-mask n l f))
+      more : (n : ℕ) → n < length ns → rootAt ns n ≡ false → levelsLeft p (maskAt ns (parentAt ns n)) + node ns (parentAt ns n) .level ≤ mostLevels p
+          → levelsLeft p (maskAt ns n) + node ns n .level ≤ mostLevels p
+      more n l f ih = omega (arith, numbers .level-up n l f, levels-child p (maskAt ns (parentAt ns n)) (maskAt ns n) (numbers .child-mask n l f))
 
-  levels-at : (n : ℕ) → n < length ns → node ns n .level < p .colours
-  levels-at n l = omega (arith, colours-levels n l, cycle-coloured p (maskAt ns n) (cycle-at n l))
+  levels-at : (n : ℕ) → n < length ns → node ns n .level < mostLevels p
+  levels-at n l = omega (arith, left-levels n l, levels-some p (maskAt ns n) (cycle-at n l))
+
+  rooted-at : (n r : ℕ) → n < length ns → List·Memᴰ r (chain ns n) → rootAt ns r ≡ true → node ns n .accepted ≡ accepting p (maskAt ns r)
+  rooted-at n r l = down (λ n. List·Memᴰ r (chain ns n) → rootAt ns r ≡ true → node ns n .accepted ≡ accepting p (maskAt ns r)) base more n l
+    where
+      of : (n : ℕ) → n < length ns → r ≡ n → rootAt ns r ≡ true → node ns n .accepted ≡ accepting p (maskAt ns r)
+      of n l e t = numbers .accepted-root n l (ap (rootAt ns) (sym e) ∙ t) ∙ ap (λ (i : ℕ). accepting p (maskAt ns i)) (sym e)
+
+      base : (n : ℕ) → n < length ns → rootAt ns n ≡ true → List·Memᴰ r (chain ns n) → rootAt ns r ≡ true → node ns n .accepted ≡ accepting p (maskAt ns r)
+      base n l t k = of n l (List·Memᴰ·eq-of-singleton (subst (λ (c : List ℕ). List·Memᴰ r c) (chain-root ns n t) k))
+
+      more : (n : ℕ) → n < length ns → rootAt ns n ≡ false → (List·Memᴰ r (chain ns (parentAt ns n)) → rootAt ns r ≡ true → node ns (parentAt ns n) .accepted ≡ accepting p (maskAt ns r))
+          → List·Memᴰ r (chain ns n) → rootAt ns r ≡ true → node ns n .accepted ≡ accepting p (maskAt ns r)
+      more n l f ih k t = go (chain-cases ns (numbers .parent-lt) (numbers .level-up) n r l k)
+        where
+          go : (r ≡ n) ⊎ ((rootAt ns n ≡ false) × List·Memᴰ r (chain ns (parentAt ns n))) → node ns n .accepted ≡ accepting p (maskAt ns r)
+          go (inl e) = of n l e t
+          go (inr u) = numbers .accepted-child n l f ∙ ih (u .1) t
 
   even-at : (n : ℕ) → n < length ns → even (priority p (node ns n)) ≡ accepting p (maskAt ns n)
   even-at = down (λ n. even (priority p (node ns n)) ≡ accepting p (maskAt ns n)) (λ n l t. root-even p (node ns n) t ∙ numbers .accepted-root n l t) more
@@ -129,6 +129,7 @@ module _ (p : Policy) (leg : legal p ≡ true) (ns : List Node) (numbers : Numbe
     ordered = numbers .ordered;
     depth-first = numbers .depth-first;
     levels = levels-at;
+    rooted = rooted-at;
     even-accepting = even-at;
     priority-grows = grows-at;
     root-mask = numbers .root-mask;
@@ -139,6 +140,18 @@ module _ (p : Policy) (leg : legal p ≡ true) (ns : List Node) (numbers : Numbe
 
 pub forest-laws : (p : Policy) → legal p ≡ true → ForestLaws p (forest p)
 forest-laws p leg = numbered-laws p leg (forest p) (numbered p (child-fewer p) (root-few p) (ordered-children p) (ordered-roots p))
+
+-- the priority of every node, and of none
+pub priority-few : (p : Policy) → legal p ≡ true → (n : ℕ) → priority p (node (forest p) n) ≤ 9
+unfolding node
+priority-few p leg n = go (decLt n (length (forest p)))
+  where
+    none : Node
+    none = record { mask = 0; parent = 0; level = 0; accepted = false }
+
+    go : Dec (n < length (forest p)) → priority p (node (forest p) n) ≤ 9
+    go (yes l) = omega (arith, priority-level p (node (forest p) n), forest-laws p leg .levels n l, most-levels-few p leg)
+    go (no h) = omega (arith, priority-level p (node (forest p) n), ap (λ (x : Node). x .level) (List·getD-eq-default (forest p) none {n = n} (omega arith)))
 
 -- ---- descendants
 -- a test that n passes, no lesser number, and with a later number also the one before it: those that pass are n up to some end

@@ -2,6 +2,7 @@ pub mod Chains
 pub mod Children
 pub mod Forest
 pub mod Largest
+pub mod Levels
 pub mod Numbered
 pub mod Order
 pub mod Planted

@@ -8,7 +8,7 @@ use mathlib.Core.Bool.{Bool, true, false, not, cond}
 use lib.Dec.{eqb}
 use Rattle.lists.proofs.Bools.{eqb≡, ≡eqb, neqb}
 use Rattle.policy.specs.declared.Policy.{Policy}
-use Rattle.forest.specs.Forest.{Node, isRoot, even, priority}
+use Rattle.forest.specs.Forest.{Node, isRoot, even, priority, transientPriority}
 
 pub even-suc : (k : ℕ) → even (suc k) ≡ not (even k)
 unfolding even
@@ -44,10 +44,14 @@ module _ (p : Policy) where
   pub priority-child : (x y : Node) → y .level ≡ x .level + 1 → y .accepted ≡ x .accepted → priority p y ≡ priority p x + 1
   priority-child x y l a = omega (arith, child-suc x y l a)
 
-  pub priority-few : (x : Node) → priority p x ≤ x .level + 1
+  pub priority-level : (x : Node) → priority p x ≤ x .level + 1
   unfolding priority
-  priority-few x = go (x .accepted)
+  priority-level x = go (x .accepted)
     where
       go : (b : Bool) → x .level + cond b 0 1 ≤ x .level + 1
       go true = omega arith
       go false = omega arith
+
+  pub transient-few : transientPriority p ≤ 9
+  unfolding transientPriority
+  transient-few = omega arith

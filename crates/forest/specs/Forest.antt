@@ -2,12 +2,13 @@
 use Prim.Native.Nat.{ℕ, zero, suc, _+_, _-_, _%_, _^_}
 use mathlib.Core.Bool.{Bool, true, false, not, _&&_, cond}
 use mathlib.Core.List.{List, [], _∷_, _++_, map}
+use lib.Count.{ones}
 use lib.Dec.{eqb, ltb}
 use lib.ListN.{length, getD}
 use Rattle.lists.specs.Lists.{any, filter}
 use Rattle.masks.specs.Masks.{has, properly, submasks}
 use Rattle.policy.specs.declared.Policy.{Policy}
-use Rattle.policy.specs.Policies.{edges, accepting}
+use Rattle.policy.specs.Policies.{edges, coloursOf, accepting}
 use Rattle.graph.specs.Cycles.{isCycle}
 
 -- ---- siblings
@@ -52,6 +53,16 @@ module _ (p : Policy) where
   -- the children of n: the largest of them (Definition 5.1)
   unfoldable pub children : ℕ → List ℕ
   children n = inOrder (largest (opposed n))
+
+-- ---- levels
+module _ (p : Policy) where
+  -- how many levels a tree has at most
+  unfoldable pub mostLevels : ℕ
+  mostLevels = p .colours
+
+  -- how many there are at most at and below a node with mask m: each level has a colour less
+  unfoldable pub levelsLeft : ℕ → ℕ
+  levelsLeft m = ones (coloursOf p m)
 
 -- an even priority is an accepting node's
 unfoldable pub even : ℕ → Bool

@@ -1,5 +1,5 @@
 -- What the layers above may know of the forest. proofs/ has the theorem that the forest of every legal policy has these laws.
-use Prim.Native.Nat.{ℕ, _+_, _≤_, _<_}
+use Prim.Native.Nat.{ℕ, _+_, _<_}
 use mathlib.Core.Path.{_≡_}
 use mathlib.Core.Logic.{_⊎_}
 use mathlib.Core.Bool.{Bool, true, false, not}
@@ -9,7 +9,7 @@ use Rattle.masks.specs.Masks.{inside, properly}
 use Rattle.policy.specs.declared.Policy.{Policy}
 use Rattle.policy.specs.Policies.{accepting}
 use Rattle.graph.specs.Cycles.{isCycle, contains}
-use Rattle.forest.specs.Forest.{Node, isRoot, before, even, priority, node, chain, childOf, roots, children}
+use Rattle.forest.specs.Forest.{Node, isRoot, before, mostLevels, even, priority, node, chain, childOf, roots, children}
 
 -- each mask stands before those after it
 abbrev pub Ordered : List ℕ → Type 0
@@ -49,8 +49,10 @@ pub record ForestLaws (p : Policy) (ns : List Node) : Type 0 where
   pub ordered : (i j : ℕ) → i < j → j < length ns → Siblings ns i j → before (maskAt ns i) (maskAt ns j) ≡ true
   -- F6: depth first: the node after n is a root, or a child of n or of an ancestor of n
   pub depth-first : (n : ℕ) → n + 1 < length ns → (rootAt ns (n + 1) ≡ true) ⊎ List·Memᴰ (parentAt ns (n + 1)) (chain ns n)
-  -- F7: a tree has at most as many levels as there are colours
-  pub levels : (n : ℕ) → n < length ns → node ns n .level < p .colours
+  -- F7: a tree has few levels
+  pub levels : (n : ℕ) → n < length ns → node ns n .level < mostLevels p
+  -- a node carries the verdict of its root
+  pub rooted : (n r : ℕ) → n < length ns → List·Memᴰ r (chain ns n) → rootAt ns r ≡ true → node ns n .accepted ≡ accepting p (maskAt ns r)
   -- priorities: even exactly for an accepting node, and a child's is larger than its parent's
   pub even-accepting : (n : ℕ) → n < length ns → even (priority p (node ns n)) ≡ accepting p (maskAt ns n)
   pub priority-grows : (n : ℕ) → n < length ns → rootAt ns n ≡ false → priority p (node ns (parentAt ns n)) < priority p (node ns n)

@@ -15,19 +15,19 @@ use lib.Seq.{sets, length-sets, getD-append-add, getD-set-same, getD-set-other, 
 use Rattle.lists.specs.Lists.{Distinct, flat}
 use Rattle.lists.proofs.Lists.{getD-mem}
 use Rattle.policy.specs.declared.Policy.{Policy}
-use Rattle.policy.specs.Policies.{edges, coloursOf, accepting}
+use Rattle.policy.specs.Policies.{edges, accepting}
 use Rattle.graph.proofs.Cycles.{cycle-lt}
-use Rattle.forest.specs.Forest.{children}
+use Rattle.forest.specs.Forest.{children, levelsLeft}
 use Rattle.candidates.specs.Candidates.{candidates, judged}
 use Rattle.candidates.specs.Siblings.{childrenIn, LargerFirst}
 use Rattle.trees.specs.Search.{masksAt, ChildrenFound}
 use Rattle.trees.specs.Subtrees.{treeMasks, treeParents, treeSize, rowMasks, rowParents}
 use Rattle.trees.specs.Stores.{part, moved}
 use Rattle.trees.specs.Growing.{Ground, Stands, Seen, Room, Seed, Growable, Grown}
-use Rattle.forest.proofs.Children.{child, child-fewer, child-colours}
+use Rattle.forest.proofs.Children.{child, child-fewer}
 use Rattle.candidates.proofs.Candidates.{candidate-cycle, judged-distinct, children-are, child-candidate}
 use Rattle.candidates.proofs.LargerFirst.{larger-first}
-use Rattle.forest.proofs.Forest.{cycle-coloured}
+use Rattle.forest.proofs.Levels.{levels-some, levels-child}
 use Rattle.trees.proofs.Subtrees.{length-parents, parents-moved, parents-few, row-none-masks, row-none-parents, row-more-masks, row-more-parents, length-row, tree-masks, tree-parents}
 use Rattle.trees.proofs.Stores.{sets-append, sets-first, sets-head, part-sets, part-at}
 
@@ -79,7 +79,7 @@ module _ {p : Policy} {a r : List ℕ} (g : Ground p a r) where
     -- there is room for the children of one node
     pub seed-room : max (length a) (length r) ≤ length kids₀
     seed-room =
-        let k : 1 ≤ ones (coloursOf p m) = cycle-coloured p m (candidate-cycle p (g .lawful) m (s .candidate)) in
+        let k : 1 ≤ levelsLeft p m = levels-some p m (candidate-cycle p (g .lawful) m (s .candidate)) in
         omega (arith, mul-le-mul-right (max (length a) (length r)) k, s .kids-long)
 
     -- the children, by the positions found
@@ -125,8 +125,8 @@ module _ {p : Policy} {a r : List ℕ} (g : Ground p a r) where
         found-seed i rest e l = record {
           candidate = subst (λ (x : ℕ). List·Memᴰ x (candidates p)) (sym e) (child-candidate p (g .lawful) m (getD (children p m) j 0) (s .candidate) child-mem);
           verdict-is = ap not (s .verdict-is) ∙ sym (child p m (getD (children p m) j 0) child-mem .turned) ∙ ap (accepting p) (sym e);
-          kids-long = subst (λ (x : ℕ). ones (coloursOf p x) * max (length a) (length r) ≤ length rest) (sym e)
-              (omega (arith, mul-le-mul-right (max (length a) (length r)) (child-colours p m (getD (children p m) j 0) child-mem), suc-mul (ones (coloursOf p (getD (children p m) j 0))) (max (length a) (length r)), s .kids-long, found-few));
+          kids-long = subst (λ (x : ℕ). levelsLeft p x * max (length a) (length r) ≤ length rest) (sym e)
+              (omega (arith, mul-le-mul-right (max (length a) (length r)) (levels-child p m (getD (children p m) j 0) child-mem), suc-mul (levelsLeft p (getD (children p m) j 0)) (max (length a) (length r)), s .kids-long, found-few));
         }
 
 -- ---- the trees seen

@@ -8,17 +8,15 @@ use mathlib.Core.Path.{_≡_, refl, sym, ap, _∙_, subst}
 use mathlib.Core.Logic.{_⊎_, inl, inr, _≢_}
 use mathlib.Core.Bool.{Bool, true, false, true≢false}
 use mathlib.Core.List.{List, [], _∷_, _++_, List·Memᴰ, List·Memᴰ·head, List·Memᴰ·tail}
-use lib.Count.{ones-le}
 use lib.ListN.{length, getD, take, length-map, List·getD-eq-default}
 use lib.Seq.{sets, take-all}
 use Rattle.lists.specs.Lists.{filter, firstOr, Distinct}
 use Rattle.lists.proofs.Bools.{test, neqb}
 use Rattle.lists.proofs.Lists.{getD-mem}
 use Rattle.policy.specs.declared.Policy.{Policy}
-use Rattle.policy.specs.Policies.{coloursOf, accepting, legal}
-use Rattle.policy.proofs.Laws.{colours-lt}
+use Rattle.policy.specs.Policies.{accepting, legal}
 use Rattle.graph.proofs.Cycles.{cycle-some}
-use Rattle.forest.specs.Forest.{Node, before, forest, inOrder, roots}
+use Rattle.forest.specs.Forest.{Node, before, forest, inOrder, mostLevels, roots}
 use Rattle.forest.specs.Laws.{Ordered}
 use Rattle.candidates.specs.Candidates.{rootCandidates}
 use Rattle.candidates.specs.Siblings.{nextIn}
@@ -26,6 +24,7 @@ use Rattle.forest.specs.Forest.{nodeMasks}
 use Rattle.trees.specs.Subtrees.{treeSize, rowMasks, rowParents}
 use Rattle.trees.specs.Growing.{Ground, Room, Growable, Grown, AllGrown}
 use Rattle.forest.proofs.Order.{before-irreflexive, before-transitive}
+use Rattle.forest.proofs.Levels.{levels-most}
 use Rattle.forest.proofs.Children.{root-cycle, root-few, ordered-roots}
 use Rattle.candidates.proofs.Candidates.{root-candidate, roots-are, root-candidates-cycle, root-candidates-distinct}
 use Rattle.trees.proofs.Subtrees.{tree-masks, forest-masks, forest-parents}
@@ -89,14 +88,14 @@ module _ {p : Policy} {a r : List ℕ} (g : Ground p a r) {rs : List ℕ} (er : 
     root-mem z = subst (λ (x : ℕ). List·Memᴰ x (roots p)) (sym root-is) (getD-mem (roots p) (v .count) 0 (root-below z))
 
     -- the next root
-    pub root-growable : {verdict : Bool} {kids : List ℕ} → m ≢ 0 → verdict ≡ accepting p m → p .colours * max (length a) (length r) ≤ length kids → Growable p a r m verdict places next masks parents seen kids
+    pub root-growable : {verdict : Bool} {kids : List ℕ} → m ≢ 0 → verdict ≡ accepting p m → mostLevels p * max (length a) (length r) ≤ length kids → Growable p a r m verdict places next masks parents seen kids
     root-growable z e h = record {
       ground = g;
       room = v .row .room;
       seed = record {
         candidate = root-candidate p (g .lawful) m (root-mem z);
         verdict-is = e;
-        kids-long = omega (arith, mul-le-mul-right (max (length a) (length r)) (ones-le (p .colours) (coloursOf p m) (colours-lt p (g .lawful) m)));
+        kids-long = omega (arith, mul-le-mul-right (max (length a) (length r)) (levels-most p (g .lawful) m));
       };
     }
 

@@ -4,14 +4,12 @@ use mathlib.Core.Path.{_≡_}
 use mathlib.Core.Logic.{_≢_}
 use mathlib.Core.Bool.{Bool, true, false}
 use mathlib.Core.List.{List, _++_, List·Memᴰ}
-use lib.Count.{ones}
 use lib.ListN.{length, getD}
 use lib.Seq.{sets}
 use Rattle.policy.specs.declared.Policy.{Policy}
-use Rattle.policy.specs.Policies.{coloursOf, accepting, legal}
-use Rattle.forest.specs.Forest.{forest}
+use Rattle.policy.specs.Policies.{accepting, legal}
 use Rattle.candidates.specs.Candidates.{candidates, judged}
-use Rattle.forest.specs.Forest.{nodeMasks, nodeParents}
+use Rattle.forest.specs.Forest.{forest, levelsLeft, nodeMasks, nodeParents}
 use Rattle.trees.specs.Subtrees.{treeMasks, treeParents, treeSize}
 use Rattle.trees.specs.Stores.{part}
 
@@ -49,7 +47,7 @@ pub record Room (p : Policy) (list masks parents seen : List ℕ) (places n : �
 pub record Seed (p : Policy) (accepting′ rejecting′ : List ℕ) (m : ℕ) (verdict : Bool) (kids : List ℕ) : Type 0 where
   pub candidate : List·Memᴰ m (candidates p)
   pub verdict-is : verdict ≡ accepting p m
-  pub kids-long : ones (coloursOf p m) * max (length accepting′) (length rejecting′) ≤ length kids
+  pub kids-long : levelsLeft p m * max (length accepting′) (length rejecting′) ≤ length kids
 
 -- what the growing of the tree of m asks of a policy
 pub record Growable (p : Policy) (accepting rejecting : List ℕ) (m : ℕ) (verdict : Bool) (places n : ℕ) (masks parents seen kids : List ℕ) : Type 0 where

@@ -8,6 +8,7 @@ ghost use lib.Seq.{sets};
 ghost use Rattle.lists.specs.Lists.{Distinct};
 ghost use Rattle.policy.specs.declared.Policy.{Policy};
 ghost use Rattle.policy.specs.ByColour.{byColour};
+ghost use Rattle.forest.specs.Forest.{mostLevels};
 ghost use Rattle.candidates.specs.Candidates.{rootCandidates};
 ghost use Rattle.candidates.specs.Siblings.{LargerFirst};
 ghost use Rattle.trees.specs.Search.{ChildrenFound};
@@ -222,7 +223,7 @@ pub fn grow_roots(
     kids: &mut [u16],
 ) -> usize
     requires lent { ⌜ (now by ≡ byColour p) × (now family ≡ p .family) ⌝ }
-    requires ground { ⌜ Ground p (now accepting) (now rejecting) × Room p (now accepting ++ now rejecting) (now masks) (now parents) (now seen) places 0 × (now roots ≡ rootCandidates p) × (p .colours * max (length (now accepting)) (length (now rejecting)) ≤ length (now kids)) ⌝ }
+    requires ground { ⌜ Ground p (now accepting) (now rejecting) × Room p (now accepting ++ now rejecting) (now masks) (now parents) (now seen) places 0 × (now roots ≡ rootCandidates p) × (mostLevels p * max (length (now accepting)) (length (now rejecting)) ≤ length (now kids)) ⌝ }
     ensures { λ r. ⌜ AllGrown p places r (now (masks .entry)) (now (parents .entry)) (now (masks .exit)) (now (parents .exit)) ⌝ }
 {
     let mut next: usize = 0;
