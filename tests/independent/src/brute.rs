@@ -35,12 +35,13 @@ pub fn cycles(p: &Policy) -> Vec<u64> {
         .collect()
 }
 
-fn grow(p: &Policy, all: &[u64], mask: u64, parent: u16, priority: u8, nodes: &mut Vec<Node>) {
+/// The tree below a cycle; a node's priority is its level until all are numbered.
+fn grow(p: &Policy, all: &[u64], mask: u64, parent: u16, level: u8, nodes: &mut Vec<Node>) {
     let number = nodes.len() as u16;
     nodes.push(Node {
         mask,
         parent,
-        priority,
+        priority: level,
     });
     let inner = all
         .iter()
@@ -48,7 +49,7 @@ fn grow(p: &Policy, all: &[u64], mask: u64, parent: u16, priority: u8, nodes: &m
         .filter(|&m| m & mask == m && p.accepts(m) != p.accepts(mask))
         .collect();
     for child in largest(inner) {
-        grow(p, all, child, number, priority + 1, nodes);
+        grow(p, all, child, number, level + 1, nodes);
     }
 }
 
@@ -56,14 +57,12 @@ pub fn forest(p: &Policy) -> Vec<Node> {
     let all = cycles(p);
     let mut nodes = Vec::new();
     for root in largest(all.clone()) {
-        grow(
-            p,
-            &all,
-            root,
-            NONE,
-            if p.accepts(root) { 0 } else { 1 },
-            &mut nodes,
-        );
+        grow(p, &all, root, NONE, 0, &mut nodes);
+    }
+    // a node's priority is its level, plus 1 if its root is rejecting
+    for n in 0..nodes.len() {
+        let root = *branch(&nodes, n).last().unwrap();
+        nodes[n].priority += if p.accepts(nodes[root].mask) { 0 } else { 1 };
     }
     nodes
 }

@@ -227,10 +227,9 @@ impl Translator {
         self.next.clear();
         self.states.clear();
         for i in 0..self.roots.len() {
-            let root = self.roots[i];
-            let priority = if self.g.accepts(root) { 0 } else { 1 };
-            self.grow(root, NONE, priority, node_room.min(NONE as usize))?;
+            self.grow(self.roots[i], NONE, 0, node_room.min(NONE as usize))?;
         }
+        self.number();
         self.build(p, state_room.min(NONE as usize))?;
         Ok(&self.out)
     }
@@ -252,7 +251,8 @@ impl Translator {
         answer
     }
 
-    fn grow(&mut self, mask: u64, parent: u16, priority: u8, room: usize) -> Result<u16, Refusal> {
+    /// The tree below a cycle; a node's priority is its level until all are numbered.
+    fn grow(&mut self, mask: u64, parent: u16, level: u8, room: usize) -> Result<u16, Refusal> {
         let number = self.out.nodes.len();
         if number == room {
             return Err(9);
@@ -260,7 +260,7 @@ impl Translator {
         self.out.nodes.push(Node {
             mask,
             parent,
-            priority,
+            priority: level,
         });
         self.first.push(NONE);
         self.next.push(NONE);
@@ -268,7 +268,7 @@ impl Translator {
         let (from, to) = self.children.of(&self.g, mask);
         let mut last = NONE;
         for i in from..to {
-            let c = self.grow(self.children.lists[i], number as u16, priority + 1, room)?;
+            let c = self.grow(self.children.lists[i], number as u16, level + 1, room)?;
             if last == NONE {
                 self.first[number] = c;
             } else {
@@ -277,6 +277,17 @@ impl Translator {
             last = c;
         }
         Ok(number as u16)
+    }
+
+    /// From levels to priorities: one more where the root rejects.
+    fn number(&mut self) {
+        let mut rejecting = 0;
+        for node in &mut self.out.nodes {
+            if node.parent == NONE {
+                rejecting = !self.g.accepts(node.mask) as u8;
+            }
+            node.priority += rejecting;
+        }
     }
 
     fn build(&mut self, p: &Policy, state_room: usize) -> Result<(), Refusal> {
