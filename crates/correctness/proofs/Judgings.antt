@@ -8,7 +8,6 @@ use mathlib.Core.Bool.{Bool, true, false, cond, true≢false, false≢true}
 use mathlib.Core.List.{List, [], _∷_, _++_, List·Memᴰ, List·Memᴰ·head, List·Memᴰ·tail, nil≢cons}
 use lib.Dec.{ltb}
 use lib.ListN.{length, getD}
-use borrow.Author.Tests.{lt-ltb}
 use Rattle.lists.specs.Lists.{any, all}
 use Rattle.lists.proofs.Bools.{test, and-l, or-left, both, bool-ext}
 use Rattle.masks.specs.Masks.{has}
@@ -30,8 +29,10 @@ use Rattle.running.specs.declared.Reading.{Reading}
 use Rattle.running.specs.declared.Reading.the-variants.{Moved, Refused as NotRead}
 use Rattle.running.specs.Running.{rowStates, readingOf, prioritiesOf, rowStep, rowMeets}
 use Rattle.running.proofs.Steps.{row-within}
-use Rattle.judging.specs.Judging.{nonEmpty, inRange, leastOf, recurringColours, policyVerdict, noState, everDangling, leastRecurring, rowsVerdict}
+use Rattle.judging.specs.declared.PolicyVerdict.the-variants.{Judged}
+use Rattle.judging.specs.Judging.{nonEmpty, inRange, leastOf, recurringColours, noState, everDangling, leastRecurring}
 use Rattle.judging.proofs.Laws.{least-le, least-mem}
+use Rattle.judging.proofs.Answers.{policy-none, policy-judged, rows-none, rows-least}
 use Rattle.judging.proofs.Meaning.{recurring-colours, outside-answer, dangling}
 use Rattle.correctness.specs.Demand3.{Rows, StandsOver, RecurringPriority, Demand3}
 use Rattle.correctness.specs.Contracts.{Succeeded, Beginning, JudgedAlike}
@@ -146,15 +147,16 @@ module _ (p : Policy) (ok : legal p ≡ true) where
     -- ---- both calls
     pub rows-judged : (stem loop : List ℕ) → nonEmpty loop ≡ true → inRange (p .letters) stem ≡ true → inRange (p .letters) loop ≡ true → (r : Run) (v : ℕ) → StandsOver p r v
         → JudgedAlike p targets priorities stem loop r v
-    unfolding rowsVerdict policyVerdict
     rows-judged stem loop some stem-range loop-range r v begins =
         let letter = some-letter (p .letters) loop some loop-range in
         let range = both (inRange (p .letters) stem) (inRange (p .letters) loop) stem-range loop-range in
         record {
           least = leastRecurring (p .letters) targets priorities r stem loop;
           colours = recurringColours p v stem loop;
-          rows-answer = rw (rows .passes, lt-ltb (r .state) (rowStates (p .letters) targets priorities) (omega (arith, begins .is-built, rows .enough)), some, range, never-dangling stem loop r (begins .is-built)) refl;
-          policy-answers = rw (ok, lt-ltb v (p .states) (v-lt stem loop letter r v begins), some, range, rows-agree stem loop letter r v begins) refl;
+          rows-answer = rows-least (p .letters) targets priorities r stem loop
+              (rows-none (p .letters) targets priorities r stem loop (rows .passes) (omega (arith, begins .is-built, rows .enough)) some range (never-dangling stem loop r (begins .is-built)));
+          policy-answers = policy-judged p v stem loop (policy-none p v stem loop ok (v-lt stem loop letter r v begins) some range)
+              ∙ ap (Judged (recurringColours p v stem loop)) (sym (rows-agree stem loop letter r v begins));
         }
 
 -- ---- after a translation that succeeded

@@ -136,28 +136,3 @@ module _ (p : Policy) where
     pub colours-after : (s : Coloured) → s ≡ colouredAfter p stem (coloured v 0) → recurringColours p (s .state) [] loop ≡ recurringColours p v stem loop
     unfolding recurringColours window after
     colours-after s e = ap (λ (x : ℕ). setOf (window (policyStep p) (policyMeets p) (p .states) [] loop x)) (ap (λ (s : Coloured). s .state) e ∙ word-is stem (coloured v 0))
-
-    -- ---- the answers, by the questions in their order
-    pub policy-7 : legal p ≡ false → policyVerdict p v stem loop ≡ RefusedPolicy 7
-    unfolding policyVerdict
-    policy-7 f = rw f refl
-
-    module _ (ok : legal p ≡ true) where
-      pub policy-11 : p .states ≤ v → policyVerdict p v stem loop ≡ RefusedPolicy 11
-      unfolding policyVerdict
-      policy-11 h = rw (ok, le-ltb _ _ h) refl
-
-      module _ (lt : v < p .states) where
-        pub policy-14 : length loop ≡ 0 → policyVerdict p v stem loop ≡ RefusedPolicy 14
-        unfolding policyVerdict
-        policy-14 h = rw (ok, lt-ltb _ _ lt, none-of loop h) refl
-
-        module _ (some : length loop ≡ 0 → ⊥) where
-          pub policy-12 : inRange (p .letters) stem && inRange (p .letters) loop ≡ false → policyVerdict p v stem loop ≡ RefusedPolicy 12
-          unfolding policyVerdict
-          policy-12 f = rw (ok, lt-ltb _ _ lt, some-of loop some, f) refl
-
-          pub policy-judged : inRange (p .letters) stem && inRange (p .letters) loop ≡ true
-              → policyVerdict p v stem loop ≡ Judged (recurringColours p v stem loop) (inFamily p (recurringColours p v stem loop))
-          unfolding policyVerdict
-          policy-judged t = rw (ok, lt-ltb _ _ lt, some-of loop some, t) refl

@@ -238,32 +238,3 @@ module _ (letters : ℕ) (targets priorities : List ℕ) where
       dangling-after = ap₂ (λ (b : Bool) (x : Run). b || everDangling letters targets priorities x [] loop)
           (ap (λ (s : Seen). s .dangling) e ∙ through-value step dangles next runOf (λ s. s .dangling) (danglingIn false) moves (adds-dangling false) stem (record { state = r .state; least = 255; dangling = false }) [] refl)
           (ap runOf e ∙ through-run step dangles next runOf (λ s. s .dangling) (danglingIn false) moves (adds-dangling false) stem (record { state = r .state; least = 255; dangling = false }))
-
-    -- ---- the answers, by the questions in their order
-    pub rows-8 : shaped letters targets priorities ≡ false → rowsVerdict letters targets priorities r stem loop ≡ RefusedRows 8
-    unfolding rowsVerdict
-    rows-8 f = rw f refl
-
-    module _ (ok : shaped letters targets priorities ≡ true) where
-      pub rows-11 : rowStates letters targets priorities ≤ r .state → rowsVerdict letters targets priorities r stem loop ≡ RefusedRows 11
-      unfolding rowsVerdict
-      rows-11 h = rw (ok, le-ltb _ _ h) refl
-
-      module _ (lt : r .state < rowStates letters targets priorities) where
-        pub rows-14 : length loop ≡ 0 → rowsVerdict letters targets priorities r stem loop ≡ RefusedRows 14
-        unfolding rowsVerdict
-        rows-14 h = rw (ok, lt-ltb _ _ lt, none-of loop h) refl
-
-        module _ (some : length loop ≡ 0 → ⊥) where
-          pub rows-12 : inRange letters stem && inRange letters loop ≡ false → rowsVerdict letters targets priorities r stem loop ≡ RefusedRows 12
-          unfolding rowsVerdict
-          rows-12 f = rw (ok, lt-ltb _ _ lt, some-of loop some, f) refl
-
-          module _ (range : inRange letters stem && inRange letters loop ≡ true) where
-            pub rows-13 : everDangling letters targets priorities r stem loop ≡ true → rowsVerdict letters targets priorities r stem loop ≡ RefusedRows 13
-            unfolding rowsVerdict
-            rows-13 t = rw (ok, lt-ltb _ _ lt, some-of loop some, range, t) refl
-
-            pub rows-least : everDangling letters targets priorities r stem loop ≡ false → rowsVerdict letters targets priorities r stem loop ≡ Least (leastRecurring letters targets priorities r stem loop)
-            unfolding rowsVerdict
-            rows-least f = rw (ok, lt-ltb _ _ lt, some-of loop some, range, f) refl

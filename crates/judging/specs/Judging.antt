@@ -1,10 +1,12 @@
 -- Judging (document 01, the questions of judging): what a stem and then a loop without end comes to, by definitions that can be computed. proofs/ has the
 -- theorems that they have the meaning of "recurs".
 use Prim.Native.Nat.{ℕ}
-use mathlib.Core.Bool.{Bool, true, false, _&&_, _||_, cond}
+use mathlib.Core.Path.{_≡_}
+use mathlib.Core.Bool.{Bool, true, false, not, _&&_, _||_, cond}
 use mathlib.Core.List.{List, [], _∷_}
 use lib.Dec.{eqb, ltb}
 use Rattle.lists.specs.Lists.{all}
+use Rattle.lists.specs.Questions.{ask}
 use Rattle.masks.specs.Masks.{insert}
 use Rattle.recurrence.specs.Recurs.{rounds}
 use Rattle.recurrence.specs.Runs.{after, met, window}
@@ -69,16 +71,23 @@ module _ (p : Policy) (v : ℕ) (stem loop : List ℕ) where
   unfoldable pub recurringColours : ℕ
   recurringColours = setOf (window (policyStep p) (policyMeets p) (p .states) stem loop v)
 
+  -- the number of the first question that is answered no; 0 if all are answered yes
+  unfoldable pub policyRefusalOf : ℕ
+  policyRefusalOf =
+      ask (legal p) 7
+      (ask (ltb v (p .states)) 11
+      (ask (nonEmpty loop) 14
+      (ask (inRange (p .letters) stem && inRange (p .letters) loop) 12 0)))
+
   unfoldable pub policyVerdict : PolicyVerdict
-  policyVerdict =
-      let s = recurringColours in
-      cond (legal p)
-      (cond (ltb v (p .states))
-      (cond (nonEmpty loop)
-      (cond (inRange (p .letters) stem && inRange (p .letters) loop) (Judged s (inFamily p s)) (RefusedPolicy 12))
-      (RefusedPolicy 14))
-      (RefusedPolicy 11))
-      (RefusedPolicy 7)
+  policyVerdict = let s = recurringColours in cond (eqb policyRefusalOf 0) (Judged s (inFamily p s)) (RefusedPolicy policyRefusalOf)
+
+  -- what judge_policy promises of its answer
+  pub record JudgesPolicy (x : PolicyVerdict) : Type 0 where
+    pub answer-is : x ≡ policyVerdict
+    pub number-is : policyNumberOf x ≡ policyRefusalOf
+    pub colours-are : policyColoursOf x ≡ cond (eqb policyRefusalOf 0) recurringColours 0
+    pub accepted-is : policyAcceptedOf x ≡ cond (eqb policyRefusalOf 0) (inFamily p recurringColours) false
 
 -- ---- judging rows from a state: running's 8 and 11, then 14, 12, 13; then the least recurring priority
 -- reading met a row whose target is no state
@@ -104,16 +113,20 @@ module _ (letters : ℕ) (targets priorities : List ℕ) where
     unfoldable pub leastRecurring : ℕ
     leastRecurring = leastOf (window step (rowMeets letters targets priorities) (rowStates letters targets priorities) stem loop r)
 
+    -- the number of the first question that is answered no; 0 if all are answered yes
+    unfoldable pub rowsRefusalOf : ℕ
+    rowsRefusalOf =
+        ask (shaped letters targets priorities) 8
+        (ask (ltb (r .state) (rowStates letters targets priorities)) 11
+        (ask (nonEmpty loop) 14
+        (ask (inRange letters stem && inRange letters loop) 12
+        (ask (not everDangling) 13 0))))
+
     unfoldable pub rowsVerdict : RowsVerdict
-    rowsVerdict =
-        let k = leastRecurring in
-        let dangling = everDangling in
-        cond (shaped letters targets priorities)
-        (cond (ltb (r .state) (rowStates letters targets priorities))
-        (cond (nonEmpty loop)
-        (cond (inRange letters stem && inRange letters loop)
-        (cond dangling (RefusedRows 13) (Least k))
-        (RefusedRows 12))
-        (RefusedRows 14))
-        (RefusedRows 11))
-        (RefusedRows 8)
+    rowsVerdict = cond (eqb rowsRefusalOf 0) (Least leastRecurring) (RefusedRows rowsRefusalOf)
+
+    -- what judge_rows promises of its answer
+    pub record JudgesRows (x : RowsVerdict) : Type 0 where
+      pub answer-is : x ≡ rowsVerdict
+      pub number-is : rowsNumberOf x ≡ rowsRefusalOf
+      pub least-is : rowsLeastOf x ≡ cond (eqb rowsRefusalOf 0) leastRecurring 0

@@ -6,7 +6,7 @@ ghost use Prim.Native.Nat.{_<_};
 ghost use Rattle.recurrence.specs.Recurs.{iter};
 ghost use Rattle.policy.specs.Policies.{legal};
 ghost use Rattle.running.specs.Running.{rowStates, shaped};
-ghost use Rattle.judging.specs.Judging.{inRange, recurringColours, everDangling, leastRecurring, policyVerdict, rowsVerdict};
+ghost use Rattle.judging.specs.Judging.{inRange, recurringColours, everDangling, leastRecurring, JudgesPolicy, JudgesRows};
 ghost use Rattle.judging.specs.Rounds.{watchNext, runOf, seenStep, seenAfter, seenSince, seenJoined, colouredStep, colouredAfter, colouredSince, colouredJoined};
 use policy::Policy;
 
@@ -208,7 +208,7 @@ pub fn judge_rows(
     stem: &[u8],
     period: &[u8],
 ) -> RowsVerdict
-    ensures { λ r. ⌜ r ≡ rowsVerdict letters (now (targets .entry)) (now (priorities .entry)) (record { state = state }) (now (stem .entry)) (now (period .entry)) ⌝ }
+    ensures { λ r. ⌜ JudgesRows letters (now (targets .entry)) (now (priorities .entry)) (record { state = state }) (now (stem .entry)) (now (period .entry)) r ⌝ }
 {
     let n = running::states_of(letters, targets, priorities);
     if 65535 < n {
@@ -362,7 +362,7 @@ fn coloured_recurring<'a>(
 
 // The colours that the policy's run meets again and again, from a state over the stem and then the loop without end, and their verdict.
 pub fn judge_policy(p: Policy, state: u8, stem: &[u8], period: &[u8]) -> PolicyVerdict
-    ensures { λ r. ⌜ r ≡ policyVerdict p state (now (stem .entry)) (now (period .entry)) ⌝ }
+    ensures { λ r. ⌜ JudgesPolicy p state (now (stem .entry)) (now (period .entry)) r ⌝ }
 {
     if !policy::is_legal(p) {
         return PolicyVerdict::Refused(7);

@@ -5,10 +5,11 @@ use mathlib.Core.Bool.{true, _&&_}
 use borrow.Author.Tests.{not-true, not-false}
 use Rattle.policy.specs.Policies.{legal, inFamily}
 use Rattle.lists.proofs.Bools.{and-l, and-r}
-use Rattle.judging.specs.declared.PolicyVerdict.the-variants.{Judged}
 use Rattle.judging.specs.declared.Coloured.{Coloured}
-use Rattle.judging.specs.Judging.{inRange}
-use Rattle.judging.proofs.Colours.{word-within, colours-after, policy-7, policy-11, policy-14, policy-12, policy-judged}
+use Rattle.judging.specs.Judging.{nonEmpty, inRange}
+use Rattle.judging.proofs.Laws.{none-of, some-of}
+use Rattle.judging.proofs.Answers.{policy-7, policy-11, policy-14, policy-12, policy-none, judges-policy-refused, judges-policy-judged}
+use Rattle.judging.proofs.Colours.{word-within, colours-after}
 use borrow.Author.Needs.{needs}
 use Rattle.judging.proofs.judge_policy.Statement.{statement}
 use Rattle.judging.proofs.judge_policy.Tie as tie
@@ -17,23 +18,21 @@ is-legal-requires : tie.Need-is-legal-requires
 is-legal-requires c κs = search needs
 
 returns : tie.Need-returns
-returns c =
-    let a = c .before .before .before .before .args in
-    sym (policy-7 (a .t1) (a .state) (a .stem .now) (a .period .now) (sym (c .before .is-legal .ensures) ∙ not-true _ (c .if1 .taken)))
+returns c = judges-policy-refused _ _ _ _ 7 (policy-7 _ _ _ _ (sym (c .before .is-legal .ensures) ∙ not-true _ (c .if1 .taken))) refl
 
 -- past question 7
 ok : (c : tie.Else1) → legal (c .before .before .before .before .args .t1) ≡ true
 ok c = sym (c .before .is-legal .ensures) ∙ not-false _ (c .if1 .left)
 
 returns-2 : tie.Need-returns-2
-returns-2 c =
-    let a = c .before .before .before .before .before .args in
-    sym (policy-11 (a .t1) (a .state) (a .stem .now) (a .period .now) (ok (c .before)) (c .if2 .taken))
+returns-2 c = judges-policy-refused _ _ _ _ 11 (policy-11 _ _ _ _ (ok (c .before)) (c .if2 .taken)) refl
 
 returns-3 : tie.Need-returns-3
-returns-3 c =
-    let a = c .before .before .before .before .before .before .args in
-    sym (policy-14 (a .t1) (a .state) (a .stem .now) (a .period .now) (ok (c .before .before)) (c .before .if2 .left) (c .if3 .taken))
+returns-3 c = judges-policy-refused _ _ _ _ 14 (policy-14 _ _ _ _ (ok (c .before .before)) (c .before .if2 .left) (none-of (c .before .before .before .before .before .before .args .period .now) (c .if3 .taken))) refl
+
+-- past question 14
+some : (c : tie.Else3) → nonEmpty (c .before .before .before .before .before .before .args .period .now) ≡ true
+some c = some-of (c .before .before .before .before .before .before .args .period .now) (c .if3 .left)
 
 in-range-requires : tie.Need-in-range-requires
 in-range-requires c κs = search needs
@@ -44,9 +43,8 @@ in-range-requires-2 c κs = search needs
 returns-4 : tie.Need-returns-4
 returns-4 c =
     let e = c .before .before .before in
-    let a = e .before .before .before .before .before .before .args in
-    sym (policy-12 (a .t1) (a .state) (a .stem .now) (a .period .now) (ok (e .before .before)) (e .before .if2 .left) (e .if3 .left)
-    (sym (ap₂ _&&_ (c .before .before .in-range .ensures) (c .before .in-range2 .ensures)) ∙ not-true _ (c .if4 .taken)))
+    judges-policy-refused _ _ _ _ 12
+    (policy-12 _ _ _ _ (ok (e .before .before)) (e .before .if2 .left) (some e) (sym (ap₂ _&&_ (c .before .before .in-range .ensures) (c .before .in-range2 .ensures)) ∙ not-true _ (c .if4 .taken))) refl
 
 -- past question 12
 range : (c : tie.Else4) → let a = c .before .before .before .before .before .before .before .before .before .args in inRange (a .t1 .letters) (a .stem .now) && inRange (a .t1 .letters) (a .period .now) ≡ true
@@ -87,8 +85,7 @@ returns-5 c =
     let e = d .before .before .before in
     let a = e .before .before .before .before .before .before .args in
     let is = r .coloured-recurring .ensures ∙ colours-after (a .t1) (a .state) (a .stem .now) (a .period .now) _ (f .coloured-word .ensures) in
-    ap₂ Judged is (ap (inFamily (a .t1)) is)
-    ∙ sym (policy-judged (a .t1) (a .state) (a .stem .now) (a .period .now) (ok (e .before .before)) (e .before .if2 .left) (e .if3 .left) (range d))
+    judges-policy-judged (a .t1) (a .state) (a .stem .now) (a .period .now) (policy-none _ _ _ _ (ok (e .before .before)) (e .before .if2 .left) (some e) (range d)) _ is
 
 pub judge-policy-spec : {M : Type 1} → statement M
 judge-policy-spec =

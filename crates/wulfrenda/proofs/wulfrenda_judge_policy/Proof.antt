@@ -28,7 +28,7 @@ policy-number-requires c κs = search needs
 returns : tie.Need-returns
 returns c =
     let args = c .before .before .before .before .before .before .before .before .args in
-    let is = c .before .before .before .before .judge-policy .ensures
+    let is = c .before .before .before .before .judge-policy .ensures .answer-is
     ∙ ap (λ (p : Policy). policyVerdict p (args .state) (args .stem .now) (args .period .now)) (c .before .before .before .before .before .policy-of .ensures) in (
       c .policy-number .ensures ∙ ap policyNumberOf is,
       (

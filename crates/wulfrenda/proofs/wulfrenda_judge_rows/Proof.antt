@@ -16,7 +16,7 @@ rows-number-requires c κs = search needs
 
 returns : tie.Need-returns
 returns c =
-    let is = c .before .before .judge-rows .ensures in
+    let is = c .before .before .judge-rows .ensures .answer-is in
     (c .rows-number .ensures ∙ ap rowsNumberOf is, c .before .rows-least .ensures ∙ ap rowsLeastOf is)
 
 pub wulfrenda-judge-rows-spec : {M : Type 1} → statement M
