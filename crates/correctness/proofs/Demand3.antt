@@ -1,35 +1,63 @@
--- Demand 3, for every legal policy: the two runs stay together over every list of letters, and on every loop with a letter of the policy the least
--- priority that recurs is even exactly if the set of colours that recurs is in the family. Assumes nothing.
+-- Demand 3, over the calls: from what the contracts promise of a call of translating that succeeded and of the calls of running. Assumes nothing.
 use Prim.Native.Nat.{ℕ}
-use mathlib.Core.Path.{_≡_}
-use mathlib.Core.Bool.{true}
-use mathlib.Core.List.{List, _++_}
-use lib.Dec.{ltb}
-use lib.ListN.{take}
-use Rattle.lists.specs.Lists.{any}
-use Rattle.recurrence.specs.Runs.{times}
-use Rattle.policy.specs.declared.Policy.{Policy}
-use Rattle.policy.specs.Policies.{legal}
-use Rattle.running.specs.declared.Run.{Run}
-use Rattle.correctness.specs.Demand3.{Rows, StandsOver, policyRun, builtRun, Demand3}
-use Rattle.correctness.proofs.Joint.{stands-after}
-use Rattle.correctness.proofs.Period.{Settled, settled}
+use mathlib.Core.Path.{_≡_, sym, ap, _∙_}
+use mathlib.Core.Logic.{_⊎_, inl, inr}
+use mathlib.Core.Bool.{true, false}
+use lib.Dec.{eqb}
+use borrow.Author.Tests.{eqb-false}
+use Rattle.lists.proofs.Bools.{test}
+use Rattle.reading.specs.Reading.{readingOf as bytesReadingOf, numberOf as readNumberOf}
+use Rattle.builder.specs.Tables.{countsOf, translationOf, numberOf as translateNumberOf}
+use Rattle.running.specs.declared.Reading.{Reading}
+use Rattle.running.specs.Running.{runAfter, priorityOf, numberOf as runNumberOf}
+use Rattle.wulfrenda.specs.Records.{firstOf}
+use Rattle.correctness.specs.Calls.{Call, translate, translateShows, read, readShows, wulfrenda-translate, wulfrendaTranslateShows, wulfrenda-translate-bytes, wulfrendaTranslateBytesShows, wulfrenda-run, wulfrendaRunShows}
+use Rattle.correctness.specs.Demand3.{Demand3}
+use Rattle.correctness.proofs.Translated.{Success}
+use Rattle.correctness.proofs.Agreement.{Answered, agreement}
 
-pub demand3 : (p : Policy) → legal p ≡ true → (targets priorities : List ℕ) → Rows p targets priorities
-    → (stem loop : List ℕ) → any (λ a. ltb a (p .letters)) loop ≡ true → (r : Run) (v : ℕ) → StandsOver p r v → Demand3 p targets priorities stem loop r v
-demand3 p ok targets priorities rows stem loop some r v stands = record {
-  stands = λ n i. together (take i (stem ++ times n loop));
-  least = after-stem .least;
-  least-recurs = after-stem .least-recurs;
-  least-lowest = after-stem .least-lowest;
-  colours = after-stem .colours;
-  colours-recur = after-stem .colours-recur;
-  verdict = after-stem .verdict;
+-- ---- translating
+pub translated : (t : Call translate) → translateShows (t .at) .number ≡ 0 → Success (translateShows (t .at))
+translated t returned = record {
+  number-is = sym (ap translateNumberOf (t .learnt .answer-is)) ∙ returned;
+  counts-are = ap countsOf (t .learnt .answer-is);
+  tables-are = t .learnt .tables-are;
 }
-  where
-    together : (w : List ℕ) → StandsOver p (builtRun p targets priorities w r) (policyRun p targets priorities w v)
-    together w = stands-after p ok targets priorities rows w r v stands
 
-    -- the loop, begun where the stem leads
-    after-stem : Settled p targets priorities loop (builtRun p targets priorities stem r) (policyRun p targets priorities stem v)
-    after-stem = settled p ok targets priorities rows loop some (builtRun p targets priorities stem r) (policyRun p targets priorities stem v) (together stem)
+pub wulfrenda-translated : (t : Call wulfrenda-translate) → wulfrendaTranslateShows (t .at) .number ≡ 0 → Success (wulfrendaTranslateShows (t .at))
+wulfrenda-translated t returned = record { number-is = sym (t .learnt .0) ∙ returned; counts-are = t .learnt .1 .0; tables-are = t .learnt .1 .1 }
+
+-- the first of two numbers that is not 0 is 0: both are
+second-none : (a b : ℕ) → firstOf a b ≡ 0 → b ≡ 0
+unfolding firstOf
+second-none a b e = go (test (eqb a 0))
+  where
+    go : (eqb a 0 ≡ true) ⊎ (eqb a 0 ≡ false) → b ≡ 0
+    go (inl t) = rw t at e
+    go (inr f) = absurd (eqb-false a 0 f (rw f at e))
+
+pub wulfrenda-translated-bytes : (t : Call wulfrenda-translate-bytes) → wulfrendaTranslateBytesShows (t .at) .number ≡ 0 → Success (wulfrendaTranslateBytesShows (t .at))
+wulfrenda-translated-bytes t returned = record {
+  number-is = second-none (readNumberOf (bytesReadingOf (t .at .given .0 .now) .outcome)) (translateNumberOf (translationOf (wulfrendaTranslateBytesShows (t .at) .policy) (wulfrendaTranslateBytesShows (t .at) .entry))) (sym (t .learnt .0) ∙ returned);
+  counts-are = t .learnt .1 .0;
+  tables-are = t .learnt .1 .1 .0;
+}
+
+-- ---- running
+read-answered : (c : Call read) → Answered (readShows (c .at))
+read-answered c =
+    let e = c .learnt .answer-is in
+    record { number-is = ap runNumberOf e; next-is = ap (λ (q : Reading). runAfter q .state) e; priority-is = ap priorityOf e }
+
+wulfrenda-run-answered : (c : Call wulfrenda-run) → Answered (wulfrendaRunShows (c .at))
+wulfrenda-run-answered c = record { number-is = c .learnt .0; next-is = c .learnt .1 .0; priority-is = c .learnt .1 .1 }
+
+-- ---- demand 3
+pub demand3 : Demand3
+demand3 = record {
+  of-the-core = λ t returned stem loop calls run. agreement (translateShows (t .at)) (translated t returned) stem loop (λ i. readShows (calls i .at)) (λ i. read-answered (calls i)) run;
+  of-the-library = λ t returned stem loop calls run.
+      agreement (wulfrendaTranslateShows (t .at)) (wulfrenda-translated t returned) stem loop (λ i. wulfrendaRunShows (calls i .at)) (λ i. wulfrenda-run-answered (calls i)) run;
+  of-the-library-from-bytes = λ t returned stem loop calls run.
+      agreement (wulfrendaTranslateBytesShows (t .at)) (wulfrenda-translated-bytes t returned) stem loop (λ i. wulfrendaRunShows (calls i .at)) (λ i. wulfrenda-run-answered (calls i)) run;
+}

@@ -25,7 +25,7 @@ use Rattle.automaton.proofs.Tables.{built-good, number-at}
 use Rattle.running.specs.declared.Run.{Run}
 use Rattle.running.specs.Running.{policyStep, policyMeets, rowOf, rowStates, rowStep, rowMeets}
 use Rattle.running.proofs.Steps.{policy-moves, policy-stays, row-moves, row-refuses}
-use Rattle.correctness.specs.Demand3.{Rows, StandsOver, policyRun, builtRun}
+use Rattle.correctness.proofs.Rows.{Rows, StandsOver, policyRun, builtRun}
 
 -- the run is in the built state (v, l)
 pub record In (p : Policy) (r : Run) (v l : ℕ) : Type 0 where
@@ -36,8 +36,8 @@ pub record In (p : Policy) (r : Run) (v l : ℕ) : Type 0 where
 -- what reading the letters w from the built state (v, l) does
 pub record Read (p : Policy) (targets priorities w : List ℕ) (r : Run) (v l : ℕ) : Type 0 where
   pub taken : List ℕ
-  pub path : Path p (below (edges p)) v taken (policyRun p targets priorities w v)
-  pub ends : In p (builtRun p targets priorities w r) (policyRun p targets priorities w v) (leafRun (forest p) p taken l)
+  pub path : Path p (below (edges p)) v taken (policyRun p w v)
+  pub ends : In p (builtRun p targets priorities w r) (policyRun p w v) (leafRun (forest p) p taken l)
   pub priorities-are : met (rowStep (p .letters) targets priorities) (rowMeets (p .letters) targets priorities) w r ≡ metRun (forest p) p taken l
   pub colours-are : met (policyStep p) (policyMeets p) w v ≡ flat (map (edgeColours p) taken)
   pub some : any (λ (a : ℕ). ltb a (p .letters)) w ≡ true → taken ≢ []
@@ -136,7 +136,7 @@ module _ (p : Policy) (ok : legal p ≡ true) where
               path = (
                 source-edge p ok v a lt,
                 mem-below (edges p) (edgeOf p v a) (edge-lt p v a (in-good r v l h .0) lt),
-                subst (λ (z : ℕ). Path p (below (edges p)) z (i .taken) (policyRun p targets priorities w (policyStep p v a))) (policy-moves p v a t .0) (i .path),
+                subst (λ (z : ℕ). Path p (below (edges p)) z (i .taken) (policyRun p w (policyStep p v a))) (policy-moves p v a t .0) (i .path),
               );
               ends = i .ends;
               priorities-are = ap₂ (λ (x y : List ℕ). x ++ y) (m .1) (i .priorities-are);
@@ -147,7 +147,7 @@ module _ (p : Policy) (ok : legal p ≡ true) where
             let i = ih l (stays r v l a h f) in
             record {
               taken = i .taken;
-              path = subst (λ (z : ℕ). Path p (below (edges p)) z (i .taken) (policyRun p targets priorities w (policyStep p v a))) (policy-stays p v a f .0) (i .path);
+              path = subst (λ (z : ℕ). Path p (below (edges p)) z (i .taken) (policyRun p w (policyStep p v a))) (policy-stays p v a f .0) (i .path);
               ends = i .ends;
               priorities-are = ap₂ (λ (x y : List ℕ). x ++ y) (row-refuses (p .letters) targets priorities r a f .1) (i .priorities-are);
               colours-are = ap₂ (λ (x y : List ℕ). x ++ y) (policy-stays p v a f .1) (i .colours-are);
@@ -155,7 +155,7 @@ module _ (p : Policy) (ok : legal p ≡ true) where
             }
 
     -- after any letters the built state stands over the policy's state
-    pub stands-after : (w : List ℕ) (r : Run) (v : ℕ) → StandsOver p r v → StandsOver p (builtRun p targets priorities w r) (policyRun p targets priorities w v)
+    pub stands-after : (w : List ℕ) (r : Run) (v : ℕ) → StandsOver p r v → StandsOver p (builtRun p targets priorities w r) (policyRun p w v)
     stands-after w r v h =
         let e = read w r v (stateAt p (r .state) .leaf) (record { is-built = h .is-built; over = h .over; leaf-is = refl }) .ends in
         record { is-built = e .is-built; over = e .over }

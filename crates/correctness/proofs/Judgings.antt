@@ -1,5 +1,5 @@
--- Judging the policy and judging the built rows come to the same: over any rows of a legal policy, and so after a translation that succeeded, the least
--- recurring priority is even exactly if the recurring colours are in the family; and where no letter is refused both calls answer so. Assumes nothing.
+-- Judging the policy and judging the built rows come to the same: over any rows of a legal policy the least recurring priority is even exactly if the recurring colours are in the family;
+-- and so after a call of translating that succeeded, where no letter is refused, both calls of judging answer. Assumes nothing.
 use Prim.Native.Nat.{ℕ, _≤_, _<_}
 use native.Mathlib.Omega.{arith}
 use mathlib.Core.Path.{_≡_, refl, sym, ap, _∙_, subst}
@@ -7,7 +7,7 @@ use mathlib.Core.Logic.{_⊎_, inl, inr, _≢_, _↔_}
 use mathlib.Core.Bool.{Bool, true, false, cond, true≢false, false≢true}
 use mathlib.Core.List.{List, [], _∷_, _++_, List·Memᴰ, List·Memᴰ·head, List·Memᴰ·tail, nil≢cons}
 use lib.Dec.{ltb}
-use lib.ListN.{length, getD}
+use lib.ListN.{length, take}
 use Rattle.lists.specs.Lists.{any, all}
 use Rattle.lists.proofs.Bools.{test, and-l, or-left, both, bool-ext}
 use Rattle.masks.specs.Masks.{has}
@@ -20,8 +20,6 @@ use Rattle.policy.specs.declared.Policy.{Policy}
 use Rattle.policy.specs.Policies.{legal, inFamily}
 use Rattle.forest.specs.Forest.{forest, even}
 use Rattle.automaton.specs.Automaton.{built, stateAt}
-use Rattle.builder.specs.Tables.{Tables}
-use Rattle.builder.specs.declared.Translation.{Translation}
 use Rattle.automaton.proofs.Bounds.{priority-after-few}
 use Rattle.automaton.proofs.EdgeRuns.{metRun}
 use Rattle.running.specs.declared.Run.{Run}
@@ -34,11 +32,14 @@ use Rattle.judging.specs.Judging.{nonEmpty, inRange, leastOf, recurringColours,
 use Rattle.judging.proofs.Laws.{least-le, least-mem}
 use Rattle.judging.proofs.Answers.{policy-none, policy-judged, rows-none, rows-least}
 use Rattle.judging.proofs.Meaning.{recurring-colours, outside-answer, dangling}
-use Rattle.correctness.specs.Demand3.{Rows, StandsOver, RecurringPriority, Demand3}
-use Rattle.correctness.specs.Contracts.{Succeeded, Beginning, JudgedAlike}
+use Rattle.correctness.specs.Calls.{Translating, translateShows, wulfrendaTranslateShows, wulfrendaTranslateBytesShows}
+use Rattle.correctness.specs.Demand3.{builtStates, under, Beginning}
+use Rattle.correctness.specs.Judgings.{JudgedAlike, Judgings}
+use Rattle.correctness.proofs.Rows.{Rows, StandsOver, policyRun, builtRun, RecurringPriority}
 use Rattle.correctness.proofs.Joint.{Read, in-good, read, stands-after}
-use Rattle.correctness.proofs.Demand3.{demand3}
-use Rattle.correctness.proofs.Translated.{success-legal, stands-over, rows-after}
+use Rattle.correctness.proofs.Period.{Settled, settled}
+use Rattle.correctness.proofs.Translated.{Success, success-legal, stands-over, rows-after}
+use Rattle.correctness.proofs.Demand3.{translated, wulfrenda-translated, wulfrenda-translated-bytes}
 
 -- a loop whose letters are all the policy's has one
 some-letter : (letters : ℕ) (loop : List ℕ) → nonEmpty loop ≡ true → inRange letters loop ≡ true → any (λ a. ltb a letters) loop ≡ true
@@ -107,8 +108,9 @@ module _ (p : Policy) (ok : legal p ≡ true) where
         go (inr f) = f
 
     module _ (stem loop : List ℕ) (some : any (λ a. ltb a (p .letters)) loop ≡ true) (r : Run) (v : ℕ) (begins : StandsOver p r v) where
-      decided : Demand3 p targets priorities stem loop r v
-      decided = demand3 p ok targets priorities rows stem loop some r v begins
+      -- the loop, begun where the stem leads
+      decided : Settled p targets priorities loop (builtRun p targets priorities stem r) (policyRun p stem v)
+      decided = settled p ok targets priorities rows loop some (builtRun p targets priorities stem r) (policyRun p stem v) (stands-after p ok targets priorities rows stem r v begins)
 
       v-lt : v < p .states
       v-lt = in-good p ok r v (stateAt p (r .state) .leaf) (record { is-built = begins .is-built; over = begins .over; leaf-is = refl }) .0
@@ -141,34 +143,43 @@ module _ (p : Policy) (ok : legal p ≡ true) where
           let d = decided .colours-recur c in
           bool-ext (has (recurringColours p v stem loop) c) (has (decided .colours) c) (λ t. d .1 (q .0 t)) (λ t. q .1 (d .0 t)))
 
-      pub rows-agree : even (leastRecurring (p .letters) targets priorities r stem loop) ≡ inFamily p (recurringColours p v stem loop)
+      rows-agree : even (leastRecurring (p .letters) targets priorities r stem loop) ≡ inFamily p (recurringColours p v stem loop)
       rows-agree = ap even least-is ∙ decided .verdict ∙ ap (inFamily p) (sym colours-are)
 
-    -- ---- both calls
-    pub rows-judged : (stem loop : List ℕ) → nonEmpty loop ≡ true → inRange (p .letters) stem ≡ true → inRange (p .letters) loop ≡ true → (r : Run) (v : ℕ) → StandsOver p r v
-        → JudgedAlike p targets priorities stem loop r v
-    rows-judged stem loop some stem-range loop-range r v begins =
-        let letter = some-letter (p .letters) loop some loop-range in
-        let range = both (inRange (p .letters) stem) (inRange (p .letters) loop) stem-range loop-range in
-        record {
-          least = leastRecurring (p .letters) targets priorities r stem loop;
-          colours = recurringColours p v stem loop;
-          rows-answer = rows-least (p .letters) targets priorities r stem loop
-              (rows-none (p .letters) targets priorities r stem loop (rows .passes) (omega (arith, begins .is-built, rows .enough)) some range (never-dangling stem loop r (begins .is-built)));
-          policy-answers = policy-judged p v stem loop (policy-none p v stem loop ok (v-lt stem loop letter r v begins) some range)
-              ∙ ap (Judged (recurringColours p v stem loop)) (sym (rows-agree stem loop letter r v begins));
-        }
+-- ---- both calls
+module _ (t : Translating) (done : Success t) (size : ℕ) (b : Beginning t size) (stem loop : List ℕ) (some : nonEmpty loop ≡ true) (stem-range : inRange (t .policy .letters) stem ≡ true)
+    (loop-range : inRange (t .policy .letters) loop ≡ true) (s : ℕ) (h : s < builtStates t) where
+  abbrev p : Policy
+  p = t .policy
 
--- ---- after a translation that succeeded
-module _ (p : Policy) (entry exit : Tables) (answer : Translation) (nodes states first : ℕ) (done : Succeeded p entry exit answer nodes states first)
-    (targets priorities : List ℕ) (b : Beginning (p .letters) states exit targets priorities) (stem loop : List ℕ)
-    (r : Run) (h : r .state < states) (v : ℕ) (e : v ≡ getD (exit .sources) (r .state) 0) where
-  pub judgings-agree : any (λ a. ltb a (p .letters)) loop ≡ true → even (leastRecurring (p .letters) targets priorities r stem loop) ≡ inFamily p (recurringColours p v stem loop)
-  judgings-agree some =
-      rows-agree p (success-legal p entry exit answer nodes states first done) targets priorities (rows-after p entry exit answer nodes states first done targets priorities b) stem loop some r v
-      (stands-over p entry exit answer nodes states first done r v h e)
+  abbrev targets : List ℕ
+  targets = take size (t .exit .targets)
 
-  pub judged-alike : nonEmpty loop ≡ true → inRange (p .letters) stem ≡ true → inRange (p .letters) loop ≡ true → JudgedAlike p targets priorities stem loop r v
-  judged-alike some stem-range loop-range =
-      rows-judged p (success-legal p entry exit answer nodes states first done) targets priorities (rows-after p entry exit answer nodes states first done targets priorities b) stem loop some stem-range
-      loop-range r v (stands-over p entry exit answer nodes states first done r v h e)
+  abbrev priorities : List ℕ
+  priorities = take size (t .exit .priorities)
+
+  abbrev r : Run
+  r = record { state = s }
+
+  judged-alike : JudgedAlike t size stem loop s
+  judged-alike =
+      let ok = success-legal t done in
+      let rows = rows-after t done size b in
+      let begins = stands-over t done r h in
+      let letter = some-letter (p .letters) loop some loop-range in
+      let range = both (inRange (p .letters) stem) (inRange (p .letters) loop) stem-range loop-range in
+      record {
+        least = leastRecurring (p .letters) targets priorities r stem loop;
+        colours = recurringColours p (under t s) stem loop;
+        rows-answer = rows-least (p .letters) targets priorities r stem loop
+            (rows-none (p .letters) targets priorities r stem loop (b .passes) (omega (arith, begins .is-built, rows .enough)) some range (never-dangling p ok targets priorities rows stem loop r (begins .is-built)));
+        policy-answers = policy-judged p (under t s) stem loop (policy-none p (under t s) stem loop ok (v-lt p ok targets priorities rows stem loop letter r (under t s) begins) some range)
+            ∙ ap (Judged (recurringColours p (under t s) stem loop)) (sym (rows-agree p ok targets priorities rows stem loop letter r (under t s) begins));
+      }
+
+pub judgings : Judgings
+judgings = record {
+  of-the-core = λ t returned. judged-alike (translateShows (t .at)) (translated t returned);
+  of-the-library = λ t returned. judged-alike (wulfrendaTranslateShows (t .at)) (wulfrenda-translated t returned);
+  of-the-library-from-bytes = λ t returned. judged-alike (wulfrendaTranslateBytesShows (t .at)) (wulfrenda-translated-bytes t returned);
+}

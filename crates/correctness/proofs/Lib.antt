@@ -1,11 +1,11 @@
 pub mod Known
+pub mod Calls
+pub mod Rows
 pub mod Joint
 pub mod Period
-pub mod Demand3
 pub mod DefinedRows
-pub mod Recurring
 pub mod Translated
-pub mod Chains
-pub mod Contracts
+pub mod Sequences
+pub mod Agreement
+pub mod Demand3
 pub mod Judgings
-pub mod Library

@@ -31,7 +31,7 @@ use Rattle.automaton.proofs.EdgeRuns.{Good, leafRun, metRun, Least}
 use Rattle.automaton.proofs.Closed.{closed-run}
 use Rattle.running.specs.declared.Run.{Run}
 use Rattle.running.specs.Running.{policyStep, policyMeets, rowStep, rowMeets}
-use Rattle.correctness.specs.Demand3.{Rows, StandsOver, policyRun, builtRun}
+use Rattle.correctness.proofs.Rows.{Rows, StandsOver, policyRun, builtRun}
 use Rattle.correctness.proofs.Joint.{In, Read, in-good, read, stands-after}
 
 -- the set of the members of a list, all below n
@@ -46,11 +46,11 @@ set-exact n es low e = (go (decLt e n), λ m. has-mask-of (λ (e : ℕ). any (eq
     go (yes lt) t = let r = any-some (eqb e) es (sym (has-mask-of (λ (e : ℕ). any (eqb e) es) n e lt) ∙ t) in Memᴰ·cast (eqb≡ e (r .0) (r .2)) (r .1)
     go (no ge) t = absurd (false≢true (sym (has-high n e (maskOf (λ (e : ℕ). any (eqb e) es) n) (mask-of-lt (λ (e : ℕ). any (eqb e) es) n) (omega arith)) ∙ t))
 
-module _ (p : Policy) (targets priorities : List ℕ) where
-  -- what the two runs meet
-  abbrev pub policyMet : List ℕ → ℕ → List ℕ
-  policyMet w v = met (policyStep p) (policyMeets p) w v
+-- what the two runs meet
+abbrev pub policyMet : Policy → List ℕ → ℕ → List ℕ
+policyMet p w v = met (policyStep p) (policyMeets p) w v
 
+module _ (p : Policy) (targets priorities : List ℕ) where
   abbrev pub builtMet : List ℕ → Run → List ℕ
   builtMet w r = met (rowStep (p .letters) targets priorities) (rowMeets (p .letters) targets priorities) w r
 
@@ -60,7 +60,7 @@ module _ (p : Policy) (targets priorities : List ℕ) where
     pub least-recurs : Recurs (builtRun p targets priorities loop) (builtMet loop) r least
     pub least-lowest : (k : ℕ) → Recurs (builtRun p targets priorities loop) (builtMet loop) r k → least ≤ k
     pub colours : ℕ
-    pub colours-recur : (c : ℕ) → (has colours c ≡ true) ↔ Recurs (policyRun p targets priorities loop) (policyMet loop) v c
+    pub colours-recur : (c : ℕ) → (has colours c ≡ true) ↔ Recurs (policyRun p loop) (policyMet p loop) v c
     pub verdict : even least ≡ inFamily p colours
 
 module _ (p : Policy) (ok : legal p ≡ true) where
@@ -76,7 +76,7 @@ module _ (p : Policy) (ok : legal p ≡ true) where
     runEnd n = iter (builtRun p targets priorities loop) n r
 
     abbrev stateEnd : ℕ → ℕ
-    stateEnd n = iter (policyRun p targets priorities loop) n v
+    stateEnd n = iter (policyRun p loop) n v
 
     stands-end : (n : ℕ) → StandsOver p (runEnd n) (stateEnd n)
     unfolding iter
@@ -107,7 +107,7 @@ module _ (p : Policy) (ok : legal p ≡ true) where
       run-end : builtRun p targets priorities (times (suc k) loop) (runEnd i) ≡ runEnd i
       run-end = after-times (rowStep (p .letters) targets priorities) (rowMeets (p .letters) targets priorities) loop r i (suc k) ∙ sym back
 
-      state-end : policyRun p targets priorities (times (suc k) loop) (stateEnd i) ≡ stateEnd i
+      state-end : policyRun p (times (suc k) loop) (stateEnd i) ≡ stateEnd i
       state-end = after-times (policyStep p) (policyMeets p) loop v i (suc k) ∙ sym state-back
 
       path : Path p (below (edges p)) (stateEnd i) (way .taken) (stateEnd i)
@@ -138,7 +138,7 @@ module _ (p : Policy) (ok : legal p ≡ true) where
           let q = period-recurs (rowStep (p .letters) targets priorities) (rowMeets (p .letters) targets priorities) loop r i (suc k) (omega arith) back k′ in
           (λ h. subst (List·Memᴰ k′) (way .priorities-are) (q .0 h), λ m. q .1 (subst (List·Memᴰ k′) (sym (way .priorities-are)) m))
 
-      colour-recurs : (c : ℕ) → Recurs (policyRun p targets priorities loop) (policyMet p targets priorities loop) v c ↔ List·Memᴰ c (flat (map (edgeColours p) (way .taken)))
+      colour-recurs : (c : ℕ) → Recurs (policyRun p loop) (policyMet p loop) v c ↔ List·Memᴰ c (flat (map (edgeColours p) (way .taken)))
       colour-recurs c =
           let q = period-recurs (policyStep p) (policyMeets p) loop v i (suc k) (omega arith) state-back c in
           (λ h. subst (List·Memᴰ c) (way .colours-are) (q .0 h), λ m. q .1 (subst (List·Memᴰ c) (sym (way .colours-are)) m))

@@ -5,9 +5,8 @@ use mathlib.Core.List.{List, [], _∷_, _++_, map}
 use lib.ListN.{length, replicate}
 use Rattle.lists.specs.Lists.{flat, below}
 use Rattle.policy.specs.declared.Policy.{Policy}
-use Rattle.forest.specs.Forest.{Node, forest, priority}
-use Rattle.automaton.specs.Automaton.{Built, built, stateAt, start, rowTarget, rowPriority, rowTargets, rowPriorities}
-use Rattle.running.specs.declared.Run.{Run}
+use Rattle.forest.specs.Forest.{forest, priority}
+use Rattle.automaton.specs.Automaton.{built, stateAt, start, rowTarget, rowPriority, rowTargets, rowPriorities}
 use Rattle.judging.specs.Judging.{leastRecurring}
 
 -- ---- the policies

@@ -1,4 +1,4 @@
+pub mod Calls
 pub mod Demand3
 pub mod Known
-pub mod Contracts
-pub mod Library
+pub mod Judgings

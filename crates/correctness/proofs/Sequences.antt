@@ -1,5 +1,5 @@
 -- A sequence of states that reads the letters of a stem and a loop one at a time is the run over them: at the rounds' ends it is where the rounds lead, and
--- what recurs among what its letters meet is what recurs in the run. And every run begins a chain of readings. Assumes nothing.
+-- what recurs among what its letters meet is what recurs in the run. Assumes nothing.
 use Prim.Native.Nat.{ℕ, zero, suc, _+_, _-_, _*_, _<_}
 use native.Mathlib.Omega.{arith}
 use native.Mathlib.Nat.{add-zero, suc-mul, zero-mul}
@@ -11,10 +11,7 @@ use lib.ListN.{length, getD}
 use borrow.Author.Tests.{lt-ltb, le-ltb}
 use Rattle.recurrence.specs.Recurs.{iter}
 use Rattle.recurrence.specs.Runs.{after, met, Recurring}
-use Rattle.running.specs.declared.Run.{Run}
-use Rattle.running.specs.declared.Reading.{Reading}
-use Rattle.running.specs.Running.{readingOf, runAfter}
-use Rattle.correctness.specs.Contracts.{letterAt, RecursAmong, Chain}
+use Rattle.correctness.specs.Demand3.{letterAt, Recurs}
 
 -- ---- the letters
 module _ (stem loop : List ℕ) where
@@ -92,10 +89,10 @@ module _ {S : Type 0} (step : S → ℕ → S) (meets : S → ℕ → List ℕ) 
       ap state e ∙ after-word step meets (letterAt stem loop) state goes loop (roundStart stem loop r) (loop-letter stem loop r) ∙ ap (after step meets loop) (round-start r)
 
   -- what the letters of round r meet is what the round meets
-  pub recurs-along : (y : ℕ) → RecursAmong stem loop (λ i. meets (state i) (letterAt stem loop i)) y ↔ Recurring step meets stem loop (state 0) y
+  pub recurs-along : (y : ℕ) → Recurs stem loop (λ i. meets (state i) (letterAt stem loop i)) y ↔ Recurring step meets stem loop (state 0) y
   recurs-along y = (to, from)
     where
-      to : RecursAmong stem loop (λ i. meets (state i) (letterAt stem loop i)) y → Recurring step meets stem loop (state 0) y
+      to : Recurs stem loop (λ i. meets (state i) (letterAt stem loop i)) y → Recurring step meets stem loop (state 0) y
       to h n =
           let q = h n in
           let j = q .2 - roundStart stem loop (q .0) in
@@ -108,18 +105,8 @@ module _ {S : Type 0} (step : S → ℕ → S) (meets : S → ℕ → List ℕ) 
                 (subst (λ (i : ℕ). List·Memᴰ y (meets (state i) (letterAt stem loop i))) e (q .4))),
           )
 
-      from : Recurring step meets stem loop (state 0) y → RecursAmong stem loop (λ i. meets (state i) (letterAt stem loop i)) y
+      from : Recurring step meets stem loop (state 0) y → Recurs stem loop (λ i. meets (state i) (letterAt stem loop i)) y
       from h n =
           let q = h n in
           let m = met-word step meets (letterAt stem loop) state goes loop (roundStart stem loop (q .0)) (loop-letter stem loop (q .0)) y (subst (λ (s : S). List·Memᴰ y (met step meets loop s)) (sym (round-start (q .0))) (q .2)) in
           (q .0, q .1, roundStart stem loop (q .0) + m .0, record { from = omega arith; until = omega (arith, m .1, suc-mul (q .0) (length loop)) }, m .2)
-
--- ---- every run begins a chain
-module _ (letters : ℕ) (targets priorities stem loop : List ℕ) (r : Run) where
-  run : ℕ → Run
-  run zero = r
-  run (suc i) = runAfter (readingOf letters targets priorities (run i) (letterAt stem loop i))
-
-  pub chain-from : (runs : ℕ → Run) × (answers : ℕ → Reading) × (runs 0 ≡ r) × Chain letters targets priorities stem loop runs answers
-  unfolding run
-  chain-from = (run, λ i. readingOf letters targets priorities (run i) (letterAt stem loop i), refl, record { answer-is = λ i. refl; goes-on = λ i. refl })
