@@ -12,7 +12,7 @@ use lib.Dec.{eqb}
 use lib.ListN.{length}
 use Rattle.lists.specs.Lists.{filter, firstOr}
 use Rattle.lists.proofs.Bools.{test, eqb≡, ≡eqb, and-l, and-r, both, not-true}
-use Rattle.lists.proofs.Lists.{filter-mem, mem-filter}
+use Rattle.lists.proofs.Lists.{filter-mem, mem-filter, first-cases, first-mem}
 use Rattle.masks.specs.Masks.{has, inside, properly}
 use Rattle.masks.proofs.Bits.{inside-all, inside-refl, inside-trans}
 use Rattle.policy.specs.declared.Policy.{Policy}
@@ -20,7 +20,6 @@ use Rattle.forest.specs.Forest.{Node, node, upFrom, chain, childOf, priority}
 use Rattle.forest.specs.Laws.{ForestLaws, maskAt, parentAt, rootAt}
 use Rattle.forest.proofs.Chains.{chain-self, chain-root, chain-child, by-parent, chain-cases, chain-up, chain-parent, chain-lt, chain-trans, chain-linear, chain-same-level}
 use Rattle.automaton.specs.Automaton.{deepest, lead}
-use Rattle.automaton.proofs.Next.{first-cases, first-mem}
 
 -- ---- children
 module _ (ns : List Node) where

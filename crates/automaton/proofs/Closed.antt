@@ -3,15 +3,15 @@
 use Prim.Native.Nat.{ℕ, _≤_, _<_}
 use native.Mathlib.Omega.{arith}
 use native.Mathlib.Nat.{le-refl}
-use native.Mathlib.Decide.{decLe}
 use mathlib.Core.Path.{_≡_, refl, sym, ap, _∙_, subst}
 use mathlib.Core.Logic.{_⊎_, inl, inr, _↔_, _≢_}
 use mathlib.Core.Bool.{true, false, not, true≢false}
-use mathlib.Core.List.{List, [], _∷_, List·Memᴰ, List·Memᴰ·head, List·Memᴰ·tail, List·Memᴰ·cases-cons, List·Memᴰ·not-nil, List·Memᴰ·eq-of-singleton, Memᴰ·cast}
+use mathlib.Core.List.{List, [], _∷_, List·Memᴰ, List·Memᴰ·head, List·Memᴰ·tail, List·Memᴰ·cases-cons, List·Memᴰ·not-nil, Memᴰ·cast}
 use lib.ListN.{length}
 use Rattle.lists.specs.Lists.{below}
 use Rattle.lists.proofs.Bools.{test, neqb, same-or-not}
 use Rattle.lists.proofs.Lists.{below-lt}
+use Rattle.lists.proofs.Least.{least-by}
 use Rattle.masks.specs.Masks.{has}
 use Rattle.masks.proofs.Bits.{inside-all, all-inside}
 use Rattle.policy.specs.declared.Policy.{Policy}
@@ -26,22 +26,6 @@ use Rattle.automaton.proofs.EdgeRuns.{Good, leafRun, metRun, Least}
 use Rattle.automaton.proofs.Next.{next-mem, gap, next-nearer}
 use Rattle.automaton.proofs.Branch.{chain-inside, chain-priority, child-lt, child-between, child-unique, lead-is, deepest-under, deepest-at}
 use Rattle.automaton.proofs.Leaves.{kid, is-kid, kids-ascend, leaf-childless, with-root, entered-next, LeafUnder, Meets, meets, after-entered, after-under, leaf-after-good}
-
--- a member of least f
-least-by : (f : ℕ → ℕ) (a : ℕ) (l : List ℕ) → (n : ℕ) × List·Memᴰ n (a ∷ l) × ((y : ℕ) → List·Memᴰ y (a ∷ l) → f n ≤ f y)
-least-by f a [] = (a, List·Memᴰ·head refl, λ y m. omega (arith, ap f (List·Memᴰ·eq-of-singleton m)))
-least-by f a (b ∷ l) = go (least-by f b l)
-  where
-    go : ((n : ℕ) × List·Memᴰ n (b ∷ l) × ((y : ℕ) → List·Memᴰ y (b ∷ l) → f n ≤ f y)) → (n : ℕ) × List·Memᴰ n (a ∷ b ∷ l) × ((y : ℕ) → List·Memᴰ y (a ∷ b ∷ l) → f n ≤ f y)
-    go r = pick (decLe (f a) (f (r .0)))
-      where
-        low : (n : ℕ) → f n ≤ f a → f n ≤ f (r .0) → (y : ℕ) → (y ≡ a) ⊎ List·Memᴰ y (b ∷ l) → f n ≤ f y
-        low n h k y (inl e) = omega (arith, ap f e)
-        low n h k y (inr m) = omega (arith, r .2 y m)
-
-        pick : Dec (f a ≤ f (r .0)) → (n : ℕ) × List·Memᴰ n (a ∷ b ∷ l) × ((y : ℕ) → List·Memᴰ y (a ∷ b ∷ l) → f n ≤ f y)
-        pick (yes h) = (a, List·Memᴰ·head refl, λ y m. low a (le-refl (f a)) h y (List·Memᴰ·cases-cons m))
-        pick (no h) = (r .0, List·Memᴰ·tail (r .1), λ y m. low (r .0) (omega arith) (le-refl (f (r .0))) y (List·Memᴰ·cases-cons m))
 
 -- ---- the nodes met
 module _ (ns : List Node) (p : Policy) where

@@ -1,18 +1,19 @@
 -- The descendants of a node are the numbers from its own up to its end; the ends of siblings; and a loop from the last node down that raises the end of
 -- each node's parent leaves the ends. Assumes nothing.
-use Prim.Native.Nat.{ℕ, zero, suc, _+_, _-_, _≤_, _<_, min}
+use Prim.Native.Nat.{ℕ, _+_, _-_, _≤_, _<_}
 use native.Mathlib.Omega.{arith}
 use native.Mathlib.Decide.{ℕ-discrete, decLt}
 use mathlib.Core.Path.{_≡_, refl, sym, ap, _∙_, subst}
 use mathlib.Core.Logic.{_⊎_, inl, inr, _↔_}
-use mathlib.Core.Bool.{Bool, true, false, cond, true≢false}
-use mathlib.Core.List.{List, [], _∷_, _++_, List·Memᴰ, Memᴰ·cast}
+use mathlib.Core.Bool.{true, false, true≢false}
+use mathlib.Core.List.{List, List·Memᴰ, Memᴰ·cast}
 use lib.Dec.{eqb}
-use lib.ListN.{length, getD, set, length-append, length-set}
+use lib.ListN.{length, getD, set, length-set}
 use lib.Seq.{getD-set-same, getD-set-other}
-use Rattle.lists.specs.Lists.{any, filter, below}
-use Rattle.lists.proofs.Bools.{test, eqb≡, ≡eqb}
+use Rattle.lists.specs.Lists.{any}
+use Rattle.lists.proofs.Bools.{eqb≡, ≡eqb}
 use Rattle.lists.proofs.Lists.{any-some, some-any}
+use Rattle.lists.proofs.Filters.{interval-count}
 use Rattle.policy.specs.declared.Policy.{Policy}
 use Rattle.forest.specs.Forest.{Node, chain, childOf, forest}
 use Rattle.forest.specs.Laws.{ForestLaws, parentAt, rootAt}
@@ -22,29 +23,6 @@ use Rattle.forest.proofs.Numbered.{numbered}
 use Rattle.forest.proofs.Forest.{contiguous}
 use Rattle.automaton.specs.Stages.{endOf}
 use Rattle.automaton.proofs.Branch.{child-of, of-child, child-above, child-lt, child-between, child-unique}
-
--- ---- how many numbers of an interval
-filter-append : (d : ℕ → Bool) (l r : List ℕ) → filter d (l ++ r) ≡ filter d l ++ filter d r
-filter-append d [] r = refl
-filter-append d (x ∷ l) r = go (d x) (filter-append d l r)
-  where
-    go : (b : Bool) → filter d (l ++ r) ≡ filter d l ++ filter d r → cond b (x ∷ filter d (l ++ r)) (filter d (l ++ r)) ≡ cond b (x ∷ filter d l) (filter d l) ++ filter d r
-    go true e = ap (λ (z : List ℕ). x ∷ z) e
-    go false e = e
-
-interval-count : (d : ℕ → Bool) (n end k : ℕ) → n ≤ end → ((j : ℕ) → j < k → (d j ≡ true) ↔ ((n ≤ j) × (j < end))) → length (filter d (below k)) ≡ min k end - min k n
-interval-count d n end zero h t = omega arith
-interval-count d n end (suc k) h t =
-    ap length (filter-append d (below k) (k ∷ [])) ∙ length-append (filter d (below k)) (filter d (k ∷ [])) ∙ go (test (d k)) (interval-count d n end k h (λ j q. t j (omega arith)))
-  where
-    go : (d k ≡ true) ⊎ (d k ≡ false) → length (filter d (below k)) ≡ min k end - min k n → length (filter d (below k)) + length (filter d (k ∷ [])) ≡ min (suc k) end - min (suc k) n
-    go (inl u) ih = rw u (omega (arith, t k (omega arith) .0 u))
-    go (inr u) ih = out (decLt k n) (decLt k end)
-      where
-        out : Dec (k < n) → Dec (k < end) → length (filter d (below k)) + length (filter d (k ∷ [])) ≡ min (suc k) end - min (suc k) n
-        out (yes a) b = rw u (omega arith)
-        out (no a) (yes b) = absurd (true≢false (sym (t k (omega arith) .1 (omega arith, b)) ∙ u))
-        out (no a) (no b) = rw u (omega arith)
 
 -- ---- the end of a node
 -- n, and the numbers up to end, are the nodes with n on their chain

@@ -3,14 +3,14 @@
 use Prim.Native.Nat.{ℕ, zero, suc, _+_, _≤_, _<_}
 use native.Mathlib.Omega.{arith}
 use mathlib.Core.Path.{_≡_, refl, sym, ap, _∙_, subst}
-use mathlib.Core.Logic.{_⊎_, inl, inr, _↔_}
+use mathlib.Core.Logic.{_⊎_, inl, inr}
 use mathlib.Core.Bool.{Bool, true, false, not, _&&_, cond, true≢false}
 use mathlib.Core.List.{List, [], _∷_, List·Memᴰ, List·Memᴰ·head, List·Memᴰ·not-nil, List·Memᴰ·eq-of-singleton, Memᴰ·cast}
 use lib.Dec.{eqb}
 use lib.ListN.{length}
 use Rattle.lists.specs.Lists.{any, filter, firstOr, below, Ascending}
 use Rattle.lists.proofs.Bools.{test, eqb≡, ≡eqb, and-l, and-r, both, not-true}
-use Rattle.lists.proofs.Lists.{any-some, some-any, none-any, filter-mem, mem-filter, mem-below, below-lt, getD-mem, mem-at, ascending-filter, ascending-below}
+use Rattle.lists.proofs.Lists.{any-some, some-any, none-any, filter-mem, mem-filter, mem-below, below-lt, getD-mem, mem-at, ascending-filter, ascending-below, first-mem}
 use Rattle.masks.specs.Masks.{has}
 use Rattle.policy.specs.declared.Policy.{Policy}
 use Rattle.policy.specs.Policies.{edges, source, targetOf}
@@ -21,7 +21,7 @@ use Rattle.forest.specs.Laws.{ForestLaws, maskAt, rootAt}
 use Rattle.forest.proofs.Chains.{chain-self, chain-lt, chain-trans, chain-top}
 use Rattle.automaton.specs.Automaton.{orElse, next, deepest, lead, holds, kids, isLeaf, leaves, firstLeaf, entered, firstLeafBelow, leafAfter}
 use Rattle.automaton.proofs.EdgeRuns.{Good}
-use Rattle.automaton.proofs.Next.{first-mem, next-mem}
+use Rattle.automaton.proofs.Next.{next-mem}
 use Rattle.automaton.proofs.Branch.{chain-inside, child-above, child-lt, deepest-mem, deepest-has}
 
 module _ (ns : List Node) (p : Policy) where
@@ -177,9 +177,6 @@ module _ (p : Policy) (ns : List Node) (laws : ForestLaws p ns) where
       go (x ∷ xs) q (inr h) =
           let r = leaf-of ns p v x (subst (List·Memᴰ x) (sym q) (List·Memᴰ·head refl)) in
           absurd (true≢false (sym (leaf-contains ns p v x (r .1)) ∙ h .1 x (r .0)))
-
-  pub good-is-leaves : (v l : ℕ) → Good ns p v l ↔ List·Memᴰ l (orElse 65535 (leaves ns p v))
-  good-is-leaves v l = (good-leaves v l, leaves-good v l)
 
   pub first-good : (v : ℕ) → Good ns p v (firstLeaf ns p v)
   unfolding firstLeaf

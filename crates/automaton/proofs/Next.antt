@@ -2,33 +2,18 @@
 use Prim.Native.Nat.{ℕ, _+_, _-_, _≤_, _<_}
 use native.Mathlib.Omega.{arith}
 use native.Mathlib.Decide.{decLt}
-use mathlib.Core.Path.{_≡_, refl, ap}
+use mathlib.Core.Path.{_≡_, ap}
 use mathlib.Core.Logic.{_⊎_, inl, inr, _≢_}
 use mathlib.Core.Bool.{true, false, cond}
-use mathlib.Core.List.{List, [], _∷_, List·Memᴰ, List·Memᴰ·head, List·Memᴰ·tail, Memᴰ·cast}
-use lib.Dec.{ltb, leb, lt→ltb}
+use mathlib.Core.List.{List, [], List·Memᴰ, Memᴰ·cast}
+use lib.Dec.{ltb, leb}
+use borrow.Author.Tests.{lt-ltb}
 use Rattle.lists.specs.Lists.{filter, firstOr, Ascending}
-use Rattle.lists.proofs.Bools.{test, T→≡, lt-true, le-true, le-false}
-use Rattle.lists.proofs.Lists.{filter-mem, mem-filter, ascending-filter}
+use Rattle.lists.proofs.Bools.{test, lt-true, le-true, le-false}
+use Rattle.lists.proofs.Lists.{filter-mem, mem-filter, ascending-filter, first-cases, first-mem, first-le}
 use Rattle.automaton.specs.Automaton.{next}
 
--- ---- the first of a list
-module _ {A : Type 0} where
-  pub first-cases : (d : A) (l : List A) → (l ≡ []) ⊎ List·Memᴰ (firstOr d l) l
-  first-cases d [] = inl refl
-  first-cases d (x ∷ xs) = inr (List·Memᴰ·head refl)
-
-  pub first-mem : (d : A) (l : List A) (y : A) → List·Memᴰ y l → List·Memᴰ (firstOr d l) l
-  first-mem d (x ∷ xs) y m = List·Memᴰ·head refl
-
-pub first-le : (d : ℕ) (l : List ℕ) → Ascending l → (y : ℕ) → List·Memᴰ y l → firstOr d l ≤ y
-first-le d (x ∷ xs) s y (List·Memᴰ·head e) = omega arith
-first-le d (x ∷ xs) s y (List·Memᴰ·tail k) = omega (arith, s .0 y k)
-
 -- ---- the next in cyclic order
-above : (c x : ℕ) → c < x → ltb c x ≡ true
-above c x h = T→≡ (ltb c x) (lt→ltb c x h)
-
 -- the next one is the first of all, or above c
 next-cases : (c : ℕ) (l : List ℕ) → (next c l ≡ firstOr c l) ⊎ (List·Memᴰ (next c l) l × (c < next c l))
 unfolding next
@@ -44,7 +29,7 @@ next-cases c l = go (first-cases (firstOr c l) (filter (ltb c) l))
 pub next-above : (c : ℕ) (l : List ℕ) → Ascending l → (y : ℕ) → List·Memᴰ y l → c < y → (c < next c l) × (next c l ≤ y)
 unfolding next
 next-above c l s y m h =
-    let k = mem-filter (ltb c) l y m (above c y h) in
+    let k = mem-filter (ltb c) l y m (lt-ltb c y h) in
     let r = filter-mem (ltb c) l (firstOr (firstOr c l) (filter (ltb c) l)) (first-mem (firstOr c l) (filter (ltb c) l) y k) in
     (lt-true c (firstOr (firstOr c l) (filter (ltb c) l)) (r .1), first-le (firstOr c l) (filter (ltb c) l) (ascending-filter (ltb c) l s) y k)
 

@@ -1,15 +1,13 @@
 -- What the stages of translating rest on: lengths compared, what each stage answers and leaves in its tables. Assumes nothing.
-use Prim.Native.Nat.{ℕ, _+_, _*_, _/_, _%_, _≤_, _<_, min}
+use Prim.Native.Nat.{ℕ, _*_, _≤_, min}
 use native.Mathlib.Omega.{arith}
-use native.Mathlib.Nat.{div-add-mod', mul-comm, mul-le-mul-right}
+use native.Mathlib.Nat.{mul-comm, mul-le-mul-right}
 use mathlib.Core.Path.{_≡_, refl, sym, ap, ap₂, _∙_}
 use mathlib.Core.Logic.{_⊎_, inl, inr}
-use mathlib.Core.Bool.{Bool, true, false, not, _&&_, true≢false}
+use mathlib.Core.Bool.{Bool, true, false, true≢false}
 use mathlib.Core.List.{List}
-use lib.Arith.{digits-div, digits-mod}
-use lib.Dec.{eqb}
 use lib.ListN.{length, getD, length-map, List·getD-map}
-use Rattle.lists.proofs.Bools.{test, eqb≡, ≡eqb, and-l, and-r, both, bool-ext, le-true}
+use Rattle.lists.proofs.Bools.{test, le-true}
 use Rattle.tables.specs.Tables.{padded, zeros}
 use Rattle.tables.proofs.Tables.{zeros-same, length-zeros, getD-padded}
 use Rattle.policy.specs.declared.Policy.{Policy}
@@ -47,28 +45,6 @@ areNodes node-variants.TooMany = false
 abbrev nodesOf : node-filled.Filled → ℕ
 nodesOf (node-variants.Nodes n) = n
 nodesOf node-variants.TooMany = 0
-
-pub unnot : (b : Bool) → not b ≡ false → b ≡ true
-unnot true e = refl
-unnot false e = absurd (true≢false e)
-
--- ---- lengths without multiplying
-pub times-fits : (k m : ℕ) → k < 256 → m < 72057594037927936 → k * m < 18446744073709551616
-times-fits k m h g = let a : k ≤ 255 = omega arith in omega (arith, mul-le-mul-right m a)
-
-pub times-is : (n k m : ℕ) → 1 ≤ k → (eqb (n % k) 0 && eqb (n / k) m) ≡ eqb n (k * m)
-times-is n k m h = bool-ext (eqb (n % k) 0 && eqb (n / k) m) (eqb n (k * m)) there back
-  where
-    there : eqb (n % k) 0 && eqb (n / k) m ≡ true → eqb n (k * m) ≡ true
-    there t =
-        let r : n % k ≡ 0 = eqb≡ (n % k) 0 (and-l (eqb (n % k) 0) (eqb (n / k) m) t) in
-        let q : n / k ≡ m = eqb≡ (n / k) m (and-r (eqb (n % k) 0) (eqb (n / k) m) t) in
-        ≡eqb n (k * m) (omega (arith, div-add-mod' n k, ap (λ (x : ℕ). x * k) q, mul-comm m k))
-
-    back : eqb n (k * m) ≡ true → eqb (n % k) 0 && eqb (n / k) m ≡ true
-    back t =
-        let e : n ≡ m * k + 0 = omega (arith, eqb≡ n (k * m) t, mul-comm m k) in
-        both (eqb (n % k) 0) (eqb (n / k) m) (≡eqb (n % k) 0 (ap (λ (x : ℕ). x % k) e ∙ digits-mod m {m = k} {r = 0} h)) (≡eqb (n / k) m (ap (λ (x : ℕ). x / k) e ∙ digits-div m {m = k} {r = 0} h))
 
 -- ---- columns of the node tables
 pub mask-column : {p : Policy} {masks parents node-priorities : List ℕ} → Nodes p masks parents node-priorities → MaskColumn p masks

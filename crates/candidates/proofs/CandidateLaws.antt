@@ -7,7 +7,7 @@ use native.Mathlib.Numerals.{add-one}
 use mathlib.Core.Path.{_≡_, refl, sym, ap, _∙_, subst}
 use mathlib.Core.Logic.{_⊎_, inl, inr, _≢_}
 use mathlib.Core.Bool.{Bool, true, false, not, cond, true≢false, false≢true}
-use mathlib.Core.List.{List, [], _∷_, _++_, map, append-nil, append-assoc, List·Memᴰ, List·Memᴰ·head, List·Memᴰ·tail}
+use mathlib.Core.List.{List, [], _∷_, _++_, map, append-nil, append-assoc, List·Memᴰ}
 use lib.Bits.{bitOr, or-zero-r}
 use lib.Dec.{eqb}
 use lib.ListN.{length, take, getD, set, length-set, length-append}
@@ -15,7 +15,8 @@ use lib.Pow.{pow-mono, pow-pos}
 use lib.Seq.{take-suc, take-suc-set}
 use Rattle.lists.specs.Lists.{filter, flat, below}
 use Rattle.lists.proofs.Bools.{≡eqb, neqb, bool-ext, same-or-not}
-use Rattle.lists.proofs.Lists.{all-each, each-all}
+use Rattle.lists.proofs.Lists.{all-each, each-all, flat-next, none-mem}
+use Rattle.lists.proofs.Filters.{filter-append, filter-all, filter-none, filter-same}
 use Rattle.masks.specs.Masks.{has, inside}
 use Rattle.masks.proofs.Bits.{has-full, has-high, has-none, mask-ext, inside-all, inside-trans}
 use Rattle.policy.specs.declared.Policy.{Policy}
@@ -29,6 +30,7 @@ use Rattle.graph.proofs.Coloured.{coloured-some, some-coloured, coloured-inside
 use Rattle.graph.proofs.Through.{through-inside}
 use Rattle.candidates.specs.declared.Counts.{Counts}
 use Rattle.forest.specs.Forest.{differs, full}
+use Rattle.forest.proofs.Children.{differs-other}
 use Rattle.candidates.specs.Candidates.{lowestIs, largestAt, largestIn, candidatesOf, coloursAt, candidates, judged, rootCandidates}
 use Rattle.candidates.specs.Listed.{single, Appended, isOpen, lowestCycle, keptIn, largestTo, judgedOf, judgedTo, Found, Finding, Put, Listing, Listed}
 use Rattle.candidates.proofs.Candidates.{lowest-some, largest-in-mem, of-mem, of-colours, of-few}
@@ -104,33 +106,6 @@ put-is {b} {d} {xs} {ys} {a₀} {a} {r₀} {r} {k} {n} h e q =
     subst (λ (zs : List ℕ). Put d zs a₀ a r₀ r k n) q (subst (λ (f : Bool). Put f xs a₀ a r₀ r k n) e h)
 
 -- ---- lists made piece by piece
-flat-last : (f : ℕ → List ℕ) (l : List ℕ) (n : ℕ) → flat (map f (l ++ (n ∷ []))) ≡ flat (map f l) ++ f n
-flat-last f [] n = append-nil (f n)
-flat-last f (x ∷ l) n = ap (λ (r : List ℕ). f x ++ r) (flat-last f l n) ∙ sym (append-assoc (f x) (flat (map f l)) (f n))
-
-pub flat-next : (f : ℕ → List ℕ) (n : ℕ) → flat (map f (below (n + 1))) ≡ flat (map f (below n)) ++ f n
-flat-next f n = ap (λ (k : ℕ). flat (map f (below k))) (add-one n) ∙ flat-last f (below n) n
-
-filter-append : (t : ℕ → Bool) (a b : List ℕ) → filter t (a ++ b) ≡ filter t a ++ filter t b
-filter-append t [] b = refl
-filter-append t (x ∷ a) b = go (t x) (filter-append t a b)
-  where
-    go : (c : Bool) → filter t (a ++ b) ≡ filter t a ++ filter t b → cond c (x ∷ filter t (a ++ b)) (filter t (a ++ b)) ≡ cond c (x ∷ filter t a) (filter t a) ++ filter t b
-    go true ih = ap (λ (l : List ℕ). x ∷ l) ih
-    go false ih = ih
-
-filter-whole : (t : ℕ → Bool) (l : List ℕ) → ((x : ℕ) → List·Memᴰ x l → t x ≡ true) → filter t l ≡ l
-filter-whole t [] h = refl
-filter-whole t (x ∷ l) h = rw (h x (List·Memᴰ·head refl)) (ap (λ (r : List ℕ). x ∷ r) (filter-whole t l (λ y m. h y (List·Memᴰ·tail m))))
-
-filter-empty : (t : ℕ → Bool) (l : List ℕ) → ((x : ℕ) → List·Memᴰ x l → t x ≡ false) → filter t l ≡ []
-filter-empty t [] h = refl
-filter-empty t (x ∷ l) h = rw (h x (List·Memᴰ·head refl)) (filter-empty t l (λ y m. h y (List·Memᴰ·tail m)))
-
-none-mem : (l : List ℕ) → ((x : ℕ) → List·Memᴰ x l → ⊥) → l ≡ []
-none-mem [] h = refl
-none-mem (x ∷ l) h = absurd (h x (List·Memᴰ·head refl))
-
 pub single-few : (x : ℕ) → length (single x) ≤ 1
 unfolding single
 single-few x = go (eqb x 0)
@@ -179,10 +154,6 @@ kept-out {t₀} {t} {u} {at} {next} {k} by c l i {d} a h e q eu ek = rw (eu, ek)
 differs-same : (b a : Bool) → a ≡ b → differs b a ≡ false
 differs-same true a e = rw e
 differs-same false a e = e
-
-differs-other : (b a : Bool) → a ≡ not b → differs b a ≡ true
-differs-other true a e = rw e
-differs-other false a e = e
 
 module _ (p : Policy) where
   -- ---- the largest cycles inside m, state by state
@@ -269,11 +240,6 @@ module _ (p : Policy) where
           let r = largest-in-mem p m x (of-mem p c x k .0) in
           lowest-some p (r .0) x (r .3) .0 (none x (subst (λ (y : ℕ). inside y m ≡ true) (sym (r .2)) (through-inside p m (r .0))))
 
-  -- those of the largest cycles that are kept by the table
-  filter-same : (t u : ℕ → Bool) → ((x : ℕ) → t x ≡ u x) → (l : List ℕ) → filter t l ≡ filter u l
-  filter-same t u h [] = refl
-  filter-same t u h (x ∷ l) = rw (h x, filter-same t u h l) refl
-
   pub kept-candidates : legal p ≡ true → (by : List ℕ) (c m : ℕ) (l : List ℕ) → by ≡ byColour p → m ≡ coloured p (full p) c → l ≡ largestIn p m → keptIn by c l ≡ candidatesOf p c
   unfolding keptIn candidatesOf
   kept-candidates lawful by c m l e q k =
@@ -306,10 +272,10 @@ module _ (p : Policy) where
 
       go : (inFamily p c ≡ b) ⊎ (inFamily p c ≡ not b) → filter (λ (m : ℕ). not (differs b (accepting p m))) (candidatesOf p c) ≡ judgedOf p b c
       go (inl e) =
-          filter-whole (λ (m : ℕ). not (differs b (accepting p m))) (candidatesOf p c) (λ x k. ap not (differs-same b (accepting p x) (verdict x k ∙ e)))
+          filter-all (λ (m : ℕ). not (differs b (accepting p m))) (candidatesOf p c) (λ x k. ap not (differs-same b (accepting p x) (verdict x k ∙ e)))
           ∙ sym (judged-same b c e)
       go (inr e) =
-          filter-empty (λ (m : ℕ). not (differs b (accepting p m))) (candidatesOf p c) (λ x k. ap not (differs-other b (accepting p x) (verdict x k ∙ e)))
+          filter-none (λ (m : ℕ). not (differs b (accepting p m))) (candidatesOf p c) (λ x k. ap not (differs-other b (accepting p x) (verdict x k ∙ e)))
           ∙ sym (judged-other b c e)
 
   pub sets-few : legal p ≡ true → (n : ℕ) → n ≡ 2 ^ p .colours → n ≤ 256

@@ -5,13 +5,16 @@ use native.Mathlib.Omega.{arith}
 use native.Mathlib.Decide.{decLt}
 use mathlib.Core.Path.{_≡_, refl, sym, ap, _∙_, subst}
 use mathlib.Core.Logic.{_⊎_, inl, inr, _≢_}
-use mathlib.Core.Bool.{Bool, true, false, not, cond, true≢false, false≢true}
-use mathlib.Core.List.{List, [], _∷_, List·Memᴰ, List·Memᴰ·head, List·Memᴰ·not-nil, List·Memᴰ·eq-of-singleton, Memᴰ·cast}
+use mathlib.Core.Bool.{Bool, true, false, not, true≢false, false≢true}
+use mathlib.Core.List.{List, List·Memᴰ, Memᴰ·cast}
 use lib.Dec.{eqb}
 use lib.ListN.{length}
 use Rattle.lists.specs.Lists.{any, filter, below, Distinct}
-use Rattle.lists.proofs.Bools.{test, eqb≡, ≡eqb, neqb, and-l, and-r, both, not-true}
-use Rattle.lists.proofs.Lists.{any-some, none-any, filter-mem, mem-filter, mem-below, below-lt, flat-mem, mem-flat}
+use Rattle.lists.proofs.Bools.{test, eqb≡, ≡eqb, neqb, and-l, and-r, both, not-true, not-itself}
+use Rattle.lists.proofs.Lists.{none-any, filter-mem, mem-filter, mem-below, below-lt, flat-mem, mem-flat, length-below, flat-few}
+use Rattle.lists.proofs.Least.{least}
+use Rattle.lists.proofs.Distinct.{one-mem, mem-one, one-distinct, one-few, distinct-filter, distinct-below, distinct-flat}
+use Rattle.lists.proofs.Filters.{filter-few}
 use Rattle.masks.specs.Masks.{inside, properly}
 use Rattle.masks.proofs.Bits.{inside-trans, properly-lt}
 use Rattle.policy.specs.declared.Policy.{Policy}
@@ -19,53 +22,17 @@ use Rattle.policy.specs.Policies.{coloursOf, accepting, legal}
 use Rattle.policy.proofs.Laws.{legal-target, colours-lt, accepting-colours}
 use Rattle.graph.specs.Cycles.{isCycle, contains}
 use Rattle.graph.specs.Through.{cycleThrough}
-use Rattle.graph.proofs.Cycles.{Targets, some-nonzero, contains-some, contains-inside}
-use Rattle.graph.proofs.Through.{through-cycle, through-largest, through-same}
+use Rattle.graph.proofs.Cycles.{Targets, contains-inside}
+use Rattle.graph.proofs.Through.{through-cycle, through-largest, through-same, contains-nonzero}
 use Rattle.forest.specs.Forest.{Node, isRoot, node, differs, full, inOrder, largest, roots, children}
 use Rattle.forest.specs.Laws.{ForestLaws, maskAt, parentAt}
 use Rattle.candidates.specs.Candidates.{lowestIs, largestAt, largestIn, candidatesOf, coloursAt, candidates, judged, rootCandidates}
 use Rattle.candidates.specs.Siblings.{childrenIn}
 use Rattle.forest.proofs.Order.{order-mem, mem-order}
 use Rattle.forest.proofs.Largest.{largest-order-mem, in-largest-order}
-use Rattle.candidates.proofs.Distinct.{distinct-filter, distinct-below, distinct-flat, length-below, flat-few, distinct-ordered, distinct-largest}
+use Rattle.candidates.proofs.Distinct.{distinct-ordered, distinct-largest}
 use Rattle.forest.proofs.Children.{root-cycle, root-largest}
 use Rattle.candidates.proofs.Full.{inColours, Full, contains-lt, cycle-state, inside-full, full-cycle, full-state, fill, fill-inside}
-
--- the least number that passes, from one that does
-least-to : (t : ℕ → Bool) (k n : ℕ) → n < k → t n ≡ true → (u : ℕ) × (t u ≡ true) × (any t (below u) ≡ false)
-least-to t zero n l h = absurd (omega arith)
-least-to t (suc k) n l h = go (test (any t (below n))) (least-to t k)
-  where
-    go : (any t (below n) ≡ true) ⊎ (any t (below n) ≡ false) → ((m : ℕ) → m < k → t m ≡ true → (u : ℕ) × (t u ≡ true) × (any t (below u) ≡ false)) → (u : ℕ) × (t u ≡ true) × (any t (below u) ≡ false)
-    go (inl a) ih = let r = any-some t (below n) a in ih (r .0) (omega (arith, below-lt n (r .0) (r .1))) (r .2)
-    go (inr a) ih = (n, h, a)
-
-least : (t : ℕ → Bool) (n : ℕ) → t n ≡ true → (u : ℕ) × (t u ≡ true) × (any t (below u) ≡ false)
-least t n h = least-to t (suc n) n (omega arith) h
-
--- ---- at most one
-one-mem : (b : Bool) (x y : ℕ) → List·Memᴰ y (cond b (x ∷ []) []) → (b ≡ true) × (y ≡ x)
-one-mem true x y k = (refl, List·Memᴰ·eq-of-singleton k)
-one-mem false x y k = absurd (List·Memᴰ·not-nil k)
-
-mem-one : (b : Bool) (x : ℕ) → b ≡ true → List·Memᴰ x (cond b (x ∷ []) [])
-mem-one b x t = rw t (List·Memᴰ·head refl)
-
-one-distinct : (b : Bool) (x : ℕ) → Distinct (cond b (x ∷ []) [])
-one-distinct true x = (λ y k. absurd (List·Memᴰ·not-nil k), tt)
-one-distinct false x = tt
-
-one-few : (b : Bool) (x : ℕ) → length (cond b (x ∷ []) []) ≤ 1
-one-few true x = omega arith
-one-few false x = omega arith
-
-filter-few : (t : ℕ → Bool) (l : List ℕ) → length (filter t l) ≤ length l
-filter-few t [] = omega arith
-filter-few t (x ∷ l) = go (t x) (filter-few t l)
-  where
-    go : (b : Bool) → length (filter t l) ≤ length l → length (cond b (x ∷ filter t l) (filter t l)) ≤ suc (length l)
-    go true h = omega arith
-    go false h = omega arith
 
 -- ---- verdicts
 same-verdict : (b a : Bool) → not (differs b a) ≡ true → a ≡ b
@@ -77,10 +44,6 @@ same-verdict false false t = refl
 verdict-same : (b a : Bool) → a ≡ b → not (differs b a) ≡ true
 verdict-same true a t = rw t refl
 verdict-same false a t = rw t refl
-
-not-itself : (a : Bool) → a ≡ not a → ⊥
-not-itself true e = true≢false e
-not-itself false e = false≢true e
 
 pub properly-inside : (x y : ℕ) → properly x y ≡ true → inside x y ≡ true
 unfolding properly
@@ -99,9 +62,6 @@ module _ (p : Policy) where
       go u on (yes l) = absurd (true≢false (sym on ∙ none-any (λ (u : ℕ). contains p u x) (below v) none u (mem-below v u l)))
       go u on (no n) = omega arith
 
-  contains-nonzero : (v x : ℕ) → contains p v x ≡ true → x ≢ 0
-  contains-nonzero v x on = let r = contains-some p v x on in some-nonzero x (r .0) (r .2)
-
   lowest-same : (v u x : ℕ) → lowestIs p v x ≡ true → lowestIs p u x ≡ true → contains p v x ≡ true → contains p u x ≡ true → v ≡ u
   lowest-same v u x a b on onu = omega (arith, lowest-some v x a .1 u onu, lowest-some u x b .1 v on)
 
@@ -109,7 +69,7 @@ module _ (p : Policy) where
   unfolding lowestIs
   some-lowest v x on =
       let r = least (λ (u : ℕ). contains p u x) v on in
-      (r .0, r .1, both (not (eqb x 0)) (not (any (λ (u : ℕ). contains p u x) (below (r .0)))) (ap not (neqb x 0 (contains-nonzero v x on))) (ap not (r .2)))
+      (r .0, r .1, both (not (eqb x 0)) (not (any (λ (u : ℕ). contains p u x) (below (r .0)))) (ap not (neqb x 0 (contains-nonzero p v x on))) (ap not (r .2)))
 
   -- ---- the largest cycles inside m
   largest-at : (m v x : ℕ) → List·Memᴰ x (largestAt p m v) → (x ≡ cycleThrough p m v) × (lowestIs p v x ≡ true)

@@ -12,14 +12,15 @@ use lib.Bits.{bitAnd, bitOr}
 use lib.Dec.{eqb}
 use lib.Pow.{pow-pos}
 use Rattle.lists.proofs.Bools.{test, or-cases, or-left, or-right, and-l, and-r, both, eqb≡, ≡eqb, not-true, not-false, bool-ext}
-use Rattle.masks.specs.Masks.{has, minus}
+use Rattle.masks.specs.Masks.{has}
 use Rattle.masks.proofs.Bits.{has-and, has-or, has-none, has-minus, has-full, has-high, mask-ext}
+use Rattle.masks.proofs.Members.{some-nonzero}
 use Rattle.policy.specs.declared.Policy.{Policy}
 use Rattle.policy.specs.Policies.{edges, edgeOf, source, legal}
 use Rattle.policy.proofs.Laws.{legal-counts, legal-target, source-edge}
 use Rattle.graph.specs.Cycles.{contains}
 use Rattle.graph.specs.Through.{cycleThrough}
-use Rattle.graph.proofs.Cycles.{Targets, some-nonzero, contains-some, some-contains, contains-inside}
+use Rattle.graph.proofs.Cycles.{Targets, contains-some, some-contains, contains-inside}
 use Rattle.graph.proofs.Through.{through-inside, through-cycle, through-same}
 use Rattle.candidates.specs.Candidates.{lowestIs}
 use Rattle.candidates.specs.Listed.{ownEdges, isOpen, lowestCycle, covered}
@@ -50,10 +51,6 @@ has-own l v e h k =
 module _ (p : Policy) (lawful : legal p ≡ true) where
   targets : Targets p
   targets e l = legal-target p lawful e l
-
-  -- the edges of a state are edges
-  pub own-few : (v : ℕ) → v < p .states → v * p .letters + p .letters ≤ 64
-  own-few v l = omega (arith, legal-counts p lawful .edges-few, mul-le-mul-right (p .letters) l, suc-mul v (p .letters))
 
   own-source : (v e : ℕ) → v * p .letters ≤ e → e < v * p .letters + p .letters → source p e ≡ v
   unfolding edgeOf

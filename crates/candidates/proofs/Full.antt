@@ -7,13 +7,14 @@ use mathlib.Core.Bool.{true}
 use mathlib.Core.List.{List·Memᴰ·head}
 use Rattle.masks.specs.Masks.{has, inside}
 use Rattle.masks.proofs.Bits.{has-full, inside-all, all-inside, inside-refl, inside-antisym, inside-trans}
+use Rattle.masks.proofs.Members.{some-nonzero}
 use Rattle.policy.specs.declared.Policy.{Policy}
 use Rattle.policy.specs.Policies.{edges, source, coloursOf, legal}
 use Rattle.policy.proofs.Laws.{legal-target, source-lt, some-colours, colours-up}
 use Rattle.graph.specs.Cycles.{isCycle, contains}
 use Rattle.graph.specs.Coloured.{coloured}
 use Rattle.graph.specs.Through.{cycleThrough}
-use Rattle.graph.proofs.Cycles.{Targets, some-nonzero, cycle-edge, cycle-sound, contains-some, some-contains, contains-inside}
+use Rattle.graph.proofs.Cycles.{Targets, cycle-edge, cycle-sound, contains-some, some-contains, contains-inside}
 use Rattle.graph.proofs.Coloured.{some-coloured, coloured-colours}
 use Rattle.graph.proofs.Through.{through-inside, through-cycle, through-largest, through-same}
 use Rattle.forest.specs.Forest.{full}

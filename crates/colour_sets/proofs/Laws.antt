@@ -160,7 +160,3 @@ inside-before a b h k n t = go (ones-inside a b (inside-all a b t))
 
 pub inside-position : (a b : ℕ) → a < 256 → b < 256 → a ≢ b → inside a b ≡ true → positionOf b < positionOf a
 inside-position a b h k n t = before-position b a k h (inside-before a b h k n t)
-
--- the same by positions
-pub inside-later : (i j : ℕ) → i < 256 → j < 256 → setAt i ≢ setAt j → inside (setAt i) (setAt j) ≡ true → j < i
-inside-later i j h k n t = omega (arith, inside-position (setAt i) (setAt j) (set-lt i) (set-lt j) n t, position-set i h, position-set j k)

@@ -12,12 +12,13 @@ use Rattle.lists.proofs.Lists.{all-each, each-all, mem-below, below-lt}
 use Rattle.masks.specs.Masks.{has, inside}
 use Rattle.masks.proofs.Bits.{inside-all, all-inside, inside-refl, inside-antisym, inside-trans}
 use Rattle.masks.proofs.MaskOf.{has-mask-of, mask-of-lt}
+use Rattle.masks.proofs.Members.{some-nonzero, bit-lt}
 use Rattle.policy.specs.declared.Policy.{Policy}
 use Rattle.policy.specs.Policies.{edges, edgeColours, coloursOf, inFamily, accepting}
 use Rattle.policy.proofs.Laws.{legal-target, colours-some, some-colours, colours-up, colours-lt, accepting-is}
 use Rattle.graph.specs.Cycles.{isCycle, contains}
 use Rattle.graph.specs.Through.{cycleThrough}
-use Rattle.graph.proofs.Cycles.{Targets, bit-lt, some-nonzero, cycle-edge, contains-some}
+use Rattle.graph.proofs.Cycles.{Targets, cycle-edge, contains-some}
 use Rattle.graph.proofs.Through.{through-inside, through-cycle, through-largest}
 use Rattle.forest.specs.Forest.{differs, full, cyclesIn}
 use Rattle.forest.proofs.Children.{cycles-mem, mem-cycles}

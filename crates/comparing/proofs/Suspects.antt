@@ -9,7 +9,7 @@ use lib.Bits.{bitAnd}
 use lib.Dec.{eqb}
 use lib.ListN.{getD}
 use Rattle.lists.specs.Lists.{all, below}
-use Rattle.lists.proofs.Bools.{test, and-l, and-r, both, bool-ext}
+use Rattle.lists.proofs.Bools.{test, and-l, and-r, both, bool-ext, and-absent, and-implied}
 use Rattle.lists.proofs.Lists.{all-each, each-all}
 use Rattle.masks.specs.Masks.{has, inside}
 use Rattle.masks.proofs.Bits.{has-and, mask-ext, all-inside, inside-antisym}
@@ -23,17 +23,6 @@ use Rattle.forest.specs.Forest.{differs}
 use Rattle.comparing.specs.Pairs.{Comparable, Tables, inPair, pairEdges, exactly, isFree, suspect, pairAgrees, setAgrees, exactlyBy, suspectBy}
 use Rattle.comparing.proofs.Graphs.{same-edges}
 use Rattle.comparing.proofs.Pairs.{pair-some, exactly-p, exactly-q, free-missing}
-
-and-absent : (a b : Bool) → b ≡ false → a && b ≡ false
-and-absent true b f = f
-and-absent false b f = refl
-
--- a condition that follows from a later one
-and-implied : (a b c : Bool) → (c ≡ true → b ≡ true) → a && b && c ≡ a && c
-and-implied true true c h = refl
-and-implied true false true h = h refl
-and-implied true false false h = refl
-and-implied false b c h = refl
 
 module _ (p q : Policy) where
   -- ---- the edges with colours in c and d, by those in c and those in d

@@ -1,38 +1,17 @@
 -- What the tests in the code say: loops that end at the first number that fails, and the steps of comparing one pair of colour sets. Assumes nothing.
-use Prim.Native.Nat.{ℕ, _+_, _^_, _≤_, _<_}
-use native.Mathlib.Omega.{arith}
+use Prim.Native.Nat.{ℕ}
 use lib.Dec.{eqb}
 use lib.ListN.{getD}
-use lib.Pow.{pow-mono}
-use mathlib.Core.Path.{_≡_, sym, ap, ap₂, _∙_}
-use mathlib.Core.Logic.{_⊎_, inl, inr, _≢_}
-use mathlib.Core.Bool.{Bool, true, false, not, _||_, true≢false}
+use mathlib.Core.Path.{_≡_, ap, ap₂}
+use mathlib.Core.Logic.{_≢_}
+use mathlib.Core.Bool.{Bool, true, false, not, _||_}
 use mathlib.Core.List.{List}
 use Rattle.lists.specs.Lists.{all, below}
-use Rattle.lists.proofs.Bools.{test, ≡eqb, neqb}
-use Rattle.lists.proofs.Lists.{all-each, mem-below}
+use Rattle.lists.proofs.Bools.{≡eqb, neqb}
 use Rattle.policy.specs.declared.Policy.{Policy}
 use Rattle.policy.specs.Policies.{edges, targetOf}
-use Rattle.policy.proofs.Tests.{all-turn}
 use Rattle.graph.specs.Through.{cycleThrough}
 use Rattle.comparing.specs.Pairs.{sameTarget, sameTargets, pairEdges, exactly, freeAt, sameHead}
-
--- ---- every number below n
--- one more that passes
-pub all-more : (t : ℕ → Bool) (i : ℕ) → all t (below i) ≡ true → t i ≡ true → all t (below (i + 1)) ≡ true
-all-more t i h g = sym (all-turn t i true true (sym h) (sym g))
-
--- one fails
-pub all-not : (t : ℕ → Bool) (n i : ℕ) → i < n → t i ≡ false → all t (below n) ≡ false
-all-not t n i l f = go (test (all t (below n)))
-  where
-    go : (all t (below n) ≡ true) ⊎ (all t (below n) ≡ false) → all t (below n) ≡ false
-    go (inl h) = absurd (true≢false (sym (all-each t (below n) h i (mem-below n i l)) ∙ f))
-    go (inr h) = h
-
--- all sets of at most 8 colours are bytes
-pub sets-few : (n d : ℕ) → n ≤ 8 → d < 2 ^ n → d < 256
-sets-few n d h l = omega (arith, pow-mono {i = n} {j = 8} h)
 
 -- ---- targets
 module _ (t u : List ℕ) where

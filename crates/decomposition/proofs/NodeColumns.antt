@@ -8,13 +8,15 @@ use mathlib.Core.Path.{_≡_, refl, sym, ap, ap₂, _∙_, subst}
 use mathlib.Core.Logic.{_⊎_, inl, inr, _≢_}
 use mathlib.Core.Bool.{Bool, true, false, not, cond}
 use mathlib.Core.List.{List, [], _∷_, _++_, map}
-use lib.ListN.{length, getD, take, drop, set, replicate, length-set, length-map, length-append, length-replicate}
-use lib.Seq.{sets, sets-eq, take-suc, take-all, length-take-le, getD-take}
+use lib.ListN.{length, getD, take, set, replicate, length-set, length-map, length-append, length-replicate}
+use lib.Seq.{take-suc, take-all, length-take-le, getD-take}
 use borrow.Author.Tests.{le-leb, lt-leb}
 use Rattle.lists.specs.Lists.{filter, below}
 use Rattle.lists.proofs.Bools.{test}
+use Rattle.lists.proofs.Lists.{length-below, flat-few}
 use Rattle.tables.specs.Tables.{padded, zeros}
 use Rattle.tables.proofs.Tables.{zeros-padded, zeros-same, length-zeros, getD-padded, padded-more}
+use Rattle.tables.proofs.Stores.{sets-padded, replicate-at}
 use Rattle.policy.specs.declared.Policy.{Policy}
 use Rattle.policy.specs.Policies.{accepting, legal}
 use Rattle.decomposition.specs.declared.nodes.Filled.the-variants.{Nodes, TooMany}
@@ -24,7 +26,6 @@ use Rattle.candidates.specs.Candidates.{candidatesOf, coloursAt, candidates, ju
 use Rattle.decomposition.specs.NodeTables.{Sought, Cleared, Written, Lent, Spare, Space, nodeTables, nodesFit, fillingOf, filledOf}
 use Rattle.forest.specs.Forest.{nodeMasks, nodeParents, nodePriorities}
 use Rattle.trees.specs.Growing.{Ground, Room, AllGrown}
-use Rattle.candidates.proofs.Distinct.{length-below, flat-few}
 use Rattle.candidates.proofs.Candidates.{of-few}
 use Rattle.candidates.proofs.CandidateLaws.{room-few}
 use Rattle.forest.proofs.Children.{root-few, child-fewer, ordered-children, ordered-roots}
@@ -54,20 +55,6 @@ module _ (l t : List ℕ) where
 
     column-whole : length l ≤ n → t ≡ padded (length t) l
     column-whole h = e ∙ ap (padded (length t)) (take-all n l h)
-
--- a column stored into a table that is cleared
-drop-zeros : (k n : ℕ) → drop {A = ℕ} k (replicate n 0) ≡ replicate (n - k) 0
-drop-zeros zero n = let e : n - 0 ≡ n = omega arith in ap (λ (i : ℕ). replicate i 0) (sym e)
-drop-zeros (suc k) zero = let e : 0 - suc k ≡ 0 = omega arith in ap (λ (i : ℕ). replicate i 0) (sym e)
-drop-zeros (suc k) (suc n) = let e : n - k ≡ suc n - suc k = omega arith in drop-zeros k n ∙ ap (λ (i : ℕ). replicate i 0) e
-
-stored : (t l : List ℕ) → t ≡ zeros t → length l ≤ length t → sets t 0 l ≡ padded (length t) l
-unfolding zeros padded
-stored t l e h =
-    sets-eq l t 0 (omega arith) ∙ ap (λ (u : List ℕ). l ++ u) (ap₂ (λ (k : ℕ) (u : List ℕ). drop k u) zero-more e ∙ drop-zeros (length l) (length t))
-  where
-    zero-more : 0 + length l ≡ length l
-    zero-more = omega arith
 
 -- ---- the columns
 getD-map : (f : Node → ℕ) (l : List Node) (d : Node) (j : ℕ) → j < length l → getD (map f l) j 0 ≡ f (getD l j d)
@@ -163,10 +150,10 @@ module _ (p : Policy) (lawful : legal p ≡ true) where
 -- ---- masks and parents as they are grown
 module _ {p : Policy} {m₀ q₀ r₀ m q : List ℕ} {places n : ℕ} (c : Cleared m₀ q₀ r₀) (e : places ≡ min (length m₀) 65535) (g : AllGrown p places n m₀ q₀ m q) (h : n ≤ places) where
   pub grown-masks : m ≡ padded (length m₀) (nodeMasks p)
-  grown-masks = g .masks-are h ∙ stored m₀ (nodeMasks p) (c .masks-are) (omega (arith, g .next-is, length-masks p))
+  grown-masks = g .masks-are h ∙ sets-padded m₀ (nodeMasks p) (c .masks-are) (omega (arith, g .next-is, length-masks p))
 
   pub grown-parents : q ≡ padded (length q₀) (nodeParents p)
-  grown-parents = g .parents-are h ∙ stored q₀ (nodeParents p) (c .parents-are) (omega (arith, g .next-is, length-parents p, c .parents-long))
+  grown-parents = g .parents-are h ∙ sets-padded q₀ (nodeParents p) (c .parents-are) (omega (arith, g .next-is, length-parents p, c .parents-long))
 
   pub grown-written : length m ≡ length m₀ → length q ≡ length q₀ → Written p m q n
   grown-written lm lq = record {
@@ -277,11 +264,6 @@ cleared-zeros m₀ q₀ r₀ {m} {q} {r} lq lr z = record {
   node-priorities-are = z .2 ∙ zeros-same r₀ r (sym (ap length (z .2) ∙ length-zeros r₀));
 }
 
-pub none-seen : (n i : ℕ) → getD {A = ℕ} (replicate n 0) i 0 ≡ 0
-none-seen zero i = refl
-none-seen (suc n) zero = refl
-none-seen (suc n) (suc i) = none-seen n i
-
 -- space for k candidates
 pub space-of : (k : ℕ) {a r seen kids : List ℕ} → length a ≡ k → length r ≡ k → seen ≡ replicate k 0 → length kids ≡ 8 * k → Space a r seen kids
 space-of k {a} {r} {seen} {kids} ea er es ek =
@@ -289,7 +271,7 @@ space-of k {a} {r} {seen} {kids} ea er es ek =
     record {
       accepting-long = omega (arith, long);
       rejecting-long = omega (arith, long);
-      seen-none = λ i. ap (λ (t : List ℕ). getD t i 0) es ∙ none-seen k i;
+      seen-none = λ i. ap (λ (t : List ℕ). getD t i 0) es ∙ replicate-at k i 0;
       kids-long = omega (arith, long);
     }
 

@@ -2,7 +2,6 @@
 -- Assumes nothing.
 use Prim.Native.Nat.{ℕ, zero, suc, _+_, _≤_, _<_}
 use native.Mathlib.Omega.{arith}
-use native.Mathlib.Decide.{decLe}
 use native.Mathlib.Numerals.{add-one}
 use mathlib.Core.Path.{_≡_, refl, sym, ap, _∙_, subst}
 use mathlib.Core.Logic.{_⊎_, inl, inr}
@@ -145,13 +144,6 @@ module _ (ns : List Node)
           go (inl e) s = meets n l i j (inr e)
           go (inr u) (inl e) = meets n l i j (inl e)
           go (inr u) (inr w) = ih (u .1) (w .1)
-
-  pub chain-either : (n a b : ℕ) → n < length ns → List·Memᴰ a (chain ns n) → List·Memᴰ b (chain ns n) → List·Memᴰ a (chain ns b) ⊎ List·Memᴰ b (chain ns a)
-  chain-either n a b l i j = go (decLe (node ns a .level) (node ns b .level))
-    where
-      go : Dec (node ns a .level ≤ node ns b .level) → List·Memᴰ a (chain ns b) ⊎ List·Memᴰ b (chain ns a)
-      go (yes h) = inl (chain-linear n a b l i j h)
-      go (no h) = inr (chain-linear n b a l j i (omega arith))
 
   pub chain-same-level : (n a b : ℕ) → n < length ns → List·Memᴰ a (chain ns n) → List·Memᴰ b (chain ns n) → node ns a .level ≡ node ns b .level → a ≡ b
   chain-same-level n a b l i j e = go (chain-level b a (chain-lt n b l j) (chain-linear n a b l i j (omega (arith, e))))

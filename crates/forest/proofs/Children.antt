@@ -3,13 +3,13 @@
 use Prim.Native.Nat.{ℕ, _-_, _^_, _≤_, _<_}
 use mathlib.Core.Path.{_≡_, sym, ap, _∙_}
 use mathlib.Core.Logic.{_⊎_, inl, inr}
-use mathlib.Core.Bool.{Bool, true, false, not, true≢false, false≢true}
+use mathlib.Core.Bool.{Bool, true, false, not}
 use mathlib.Core.List.{List, List·Memᴰ}
 use lib.Dec.{eqb}
 use lib.Bits.{bitOr}
 use lib.Count.{ones, ones-le}
 use Rattle.lists.specs.Lists.{Ascending}
-use Rattle.lists.proofs.Bools.{neqb, both, or-left, or-right, not-true}
+use Rattle.lists.proofs.Bools.{neqb, both, or-left, or-right, not-true, not-itself}
 use Rattle.lists.proofs.Lists.{filter-mem, mem-filter, ascending-filter}
 use Rattle.masks.specs.Masks.{has, inside, properly, submasks}
 use Rattle.masks.proofs.Bits.{has-or, has-full, inside-all, all-inside, ones-inside}
@@ -27,13 +27,9 @@ differs-not : (a b : Bool) → differs a b ≡ true → b ≡ not a
 differs-not true b t = not-true b t
 differs-not false b t = t
 
-not-differs : (a b : Bool) → b ≡ not a → differs a b ≡ true
-not-differs true b t = ap not t
-not-differs false b t = t
-
-not-itself : (a : Bool) → a ≡ not a → ⊥
-not-itself true e = true≢false e
-not-itself false e = false≢true e
+pub differs-other : (a b : Bool) → b ≡ not a → differs a b ≡ true
+differs-other true b t = ap not t
+differs-other false b t = t
 
 module _ (p : Policy) where
   -- ---- the cycles inside a mask
@@ -107,7 +103,7 @@ module _ (p : Policy) where
 
   pub mem-opposed : (m x : ℕ) → isCycle p x ≡ true → inside x m ≡ true → accepting p x ≡ not (accepting p m) → List·Memᴰ x (opposed p m)
   unfolding opposed
-  mem-opposed m x c i t = mem-filter (other m) (cyclesIn p m) x (mem-cycles m x c i) (not-differs (accepting p m) (accepting p x) t)
+  mem-opposed m x c i t = mem-filter (other m) (cyclesIn p m) x (mem-cycles m x c i) (differs-other (accepting p m) (accepting p x) t)
 
   ascending-opposed : (m : ℕ) → Ascending (opposed p m)
   unfolding opposed

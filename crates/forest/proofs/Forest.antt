@@ -1,18 +1,19 @@
 -- The forest of every legal policy has the laws of specs/Laws; and the descendants of a node have the numbers from its own up to some end,
 -- without a gap. Assumes nothing.
-use Prim.Native.Nat.{ℕ, zero, suc, _+_, _-_, _≤_, _<_}
+use Prim.Native.Nat.{ℕ, suc, _+_, _-_, _≤_, _<_}
 use native.Mathlib.Omega.{arith}
-use native.Mathlib.Decide.{ℕ-discrete, decLt}
+use native.Mathlib.Decide.{decLt}
 use native.Mathlib.Numerals.{add-one}
 use mathlib.Core.Path.{_≡_, refl, sym, ap, _∙_, subst}
 use mathlib.Core.Logic.{_⊎_, inl, inr, _↔_}
-use mathlib.Core.Bool.{Bool, true, false, not, true≢false}
+use mathlib.Core.Bool.{true, false, not, true≢false}
 use mathlib.Core.List.{List, List·Memᴰ, List·Memᴰ·eq-of-singleton, Memᴰ·cast}
 use lib.Dec.{eqb}
 use lib.ListN.{length, List·getD-eq-default}
 use Rattle.lists.specs.Lists.{any}
 use Rattle.lists.proofs.Bools.{test, eqb≡, ≡eqb}
 use Rattle.lists.proofs.Lists.{any-some, some-any}
+use Rattle.lists.proofs.Least.{interval}
 use Rattle.masks.specs.Masks.{inside, properly}
 use Rattle.policy.specs.declared.Policy.{Policy}
 use Rattle.policy.specs.Policies.{accepting, legal}
@@ -154,44 +155,6 @@ priority-few p leg n = go (decLt n (length (forest p)))
     go (no h) = omega (arith, priority-level p (node (forest p) n), ap (λ (x : Node). x .level) (List·getD-eq-default (forest p) none {n = n} (omega arith)))
 
 -- ---- descendants
--- a test that n passes, no lesser number, and with a later number also the one before it: those that pass are n up to some end
-interval : (d : ℕ → Bool) (n k : ℕ) → n < k → d n ≡ true → ((j : ℕ) → j < k → d j ≡ true → n ≤ j) → ((j : ℕ) → n ≤ j → suc j < k → d (suc j) ≡ true → d j ≡ true)
-    → (end : ℕ) × (n < end) × (end ≤ k) × ((j : ℕ) → j < k → (d j ≡ true) ↔ ((n ≤ j) × (j < end)))
-interval d n zero l t low back = absurd (omega arith)
-interval d n (suc k) l t low back = go (ℕ-discrete n k) (λ h. interval d n k h t (λ j q. low j (omega arith)) (λ j i q. back j i (omega arith)))
-  where
-    End : ℕ → Type 0
-    End k = (end : ℕ) × (n < end) × (end ≤ k) × ((j : ℕ) → j < k → (d j ≡ true) ↔ ((n ≤ j) × (j < end)))
-
-    first : n ≡ k → End (suc k)
-    first e = (suc k, omega arith, omega arith, λ j q. (λ u. (low j q u, q), λ w. subst (λ (i : ℕ). d i ≡ true) (omega (arith, w .0)) t))
-
-    -- k passes, so the number before it does, and the end so far is k
-    longer : n < k → d k ≡ true → End k → End (suc k)
-    longer h u r = (suc k, omega arith, omega arith, λ j q. (λ w. (low j q w, q), λ w. pick j q (w .0) (decLt j k)))
-      where
-        whole : k ≤ r .0
-        whole = omega (arith, r .3 (k - 1) (omega arith) .0 (back (k - 1) (omega arith) (omega arith) (subst (λ (i : ℕ). d i ≡ true) (omega arith) u)) .1)
-
-        pick : (j : ℕ) → j < suc k → n ≤ j → Dec (j < k) → d j ≡ true
-        pick j q i (yes g) = r .3 j g .1 (i, omega (arith, whole))
-        pick j q i (no g) = subst (λ (i : ℕ). d i ≡ true) (omega arith) u
-
-    same : d k ≡ false → End k → End (suc k)
-    same f r = (r .0, r .1, omega (arith, r .2), λ j q. pick j q (decLt j k))
-      where
-        pick : (j : ℕ) → j < suc k → Dec (j < k) → (d j ≡ true) ↔ ((n ≤ j) × (j < r .0))
-        pick j q (yes g) = r .3 j g
-        pick j q (no g) = let e : j ≡ k = omega arith in (λ u. absurd (true≢false (sym u ∙ ap d e ∙ f)), λ w. absurd (omega (arith, w .1, r .2)))
-
-    go : Dec (n ≡ k) → (n < k → End k) → End (suc k)
-    go (yes e) ih = first e
-    go (no e) ih = pick (test (d k))
-      where
-        pick : (d k ≡ true) ⊎ (d k ≡ false) → End (suc k)
-        pick (inl u) = longer (omega arith) u (ih (omega arith))
-        pick (inr f) = same f (ih (omega arith))
-
 module _ (p : Policy) (ns : List Node) (laws : ForestLaws p ns) where
   -- the descendants of n are the numbers from n up to some end
   pub contiguous : (n : ℕ) → n < length ns → (end : ℕ) × (n < end) × (end ≤ length ns) × ((j : ℕ) → j < length ns → List·Memᴰ n (chain ns j) ↔ ((n ≤ j) × (j < end)))

@@ -2,15 +2,15 @@
 -- and one above each member, is the list of the largest in sibling order. Assumes nothing.
 use Prim.Native.Nat.{ℕ, _≤_}
 use native.Mathlib.Omega.{arith}
-use native.Mathlib.Decide.{decLe}
-use mathlib.Core.Path.{_≡_, refl, sym, ap, _∙_}
+use mathlib.Core.Path.{_≡_, sym, ap, _∙_}
 use mathlib.Core.Logic.{_⊎_, inl, inr}
-use mathlib.Core.Bool.{Bool, true, false, not, true≢false, false≢true}
-use mathlib.Core.List.{List, [], _∷_, List·Memᴰ, List·Memᴰ·head, List·Memᴰ·tail, List·Memᴰ·cases-cons, Memᴰ·cast}
+use mathlib.Core.Bool.{true, false, not, true≢false}
+use mathlib.Core.List.{List, List·Memᴰ, Memᴰ·cast}
 use lib.Dec.{eqb}
 use Rattle.lists.specs.Lists.{any, Ascending}
 use Rattle.lists.proofs.Bools.{test, eqb≡, and-l, both, not-true}
 use Rattle.lists.proofs.Lists.{some-any, none-any, none-true, filter-mem, mem-filter, ascending-filter}
+use Rattle.lists.proofs.Least.{greatest}
 use Rattle.masks.specs.Masks.{inside, properly}
 use Rattle.masks.proofs.Bits.{inside-refl, inside-trans, inside-le, properly-lt}
 use Rattle.forest.specs.Forest.{inOrder, largest}
@@ -41,40 +41,6 @@ inside-same x y t f = go (test (eqb x y))
     go (inr e) = absurd (true≢false (sym (both (inside x y) (not (eqb x y)) t (ap not e)) ∙ f))
 
 -- ---- each member lies inside a largest one
--- the greatest number of the list that passes the test
-greatest : (p : ℕ → Bool) (l : List ℕ) → any p l ≡ true → (y : ℕ) × List·Memᴰ y l × (p y ≡ true) × ((z : ℕ) → List·Memᴰ z l → p z ≡ true → z ≤ y)
-greatest p [] e = absurd (false≢true e)
-greatest p (x ∷ xs) e = go (test (p x)) (test (any p xs)) (greatest p xs)
-  where
-    Best : List ℕ → Type 0
-    Best l = (y : ℕ) × List·Memᴰ y l × (p y ≡ true) × ((z : ℕ) → List·Memᴰ z l → p z ≡ true → z ≤ y)
-
-    step : (t : p x ≡ true) (r : Best xs) → Dec (x ≤ r .0) → Best (x ∷ xs)
-    step t r (yes h) = (r .0, List·Memᴰ·tail (r .1), r .2, λ z m q. pick z q (List·Memᴰ·cases-cons m))
-      where
-        pick : (z : ℕ) → p z ≡ true → (z ≡ x) ⊎ List·Memᴰ z xs → z ≤ r .0
-        pick z q (inl k) = omega arith
-        pick z q (inr k) = r .3 z k q
-    step t r (no h) = (x, List·Memᴰ·head refl, t, λ z m q. pick z q (List·Memᴰ·cases-cons m))
-      where
-        pick : (z : ℕ) → p z ≡ true → (z ≡ x) ⊎ List·Memᴰ z xs → z ≤ x
-        pick z q (inl k) = omega arith
-        pick z q (inr k) = omega (arith, r .3 z k q)
-
-    go : (p x ≡ true) ⊎ (p x ≡ false) → (any p xs ≡ true) ⊎ (any p xs ≡ false) → (any p xs ≡ true → Best xs) → Best (x ∷ xs)
-    go (inl t) (inl a) ih = step t (ih a) (decLe x (ih a .0))
-    go (inl t) (inr n) ih = (x, List·Memᴰ·head refl, t, λ z m q. pick z q (List·Memᴰ·cases-cons m))
-      where
-        pick : (z : ℕ) → p z ≡ true → (z ≡ x) ⊎ List·Memᴰ z xs → z ≤ x
-        pick z q (inl k) = omega arith
-        pick z q (inr k) = absurd (false≢true (sym (none-any p xs n z k) ∙ q))
-    go (inr f) (inl a) ih = (ih a .0, List·Memᴰ·tail (ih a .1), ih a .2, λ z m q. pick z q (List·Memᴰ·cases-cons m))
-      where
-        pick : (z : ℕ) → p z ≡ true → (z ≡ x) ⊎ List·Memᴰ z xs → z ≤ ih a .0
-        pick z q (inl k) = absurd (false≢true (sym f ∙ ap p (sym k) ∙ q))
-        pick z q (inr k) = ih a .3 z k q
-    go (inr f) (inr n) ih = absurd (false≢true (sym n ∙ (rw f at e)))
-
 pub in-largest : (l : List ℕ) (x : ℕ) → List·Memᴰ x l → (y : ℕ) × List·Memᴰ y (largest l) × (inside x y ≡ true)
 unfolding properly
 in-largest l x m = go (greatest (inside x) l (some-any (inside x) l x m (inside-refl x)))

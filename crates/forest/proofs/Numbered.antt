@@ -2,7 +2,6 @@
 -- roots and children are listed in sibling order. Assumes nothing.
 use Prim.Native.Nat.{ℕ, zero, suc, _+_, _≤_, _<_}
 use native.Mathlib.Omega.{arith}
-use native.Mathlib.Decide.{ℕ-discrete}
 use native.Mathlib.Numerals.{add-one}
 use mathlib.Core.Path.{_≡_, refl, sym, ap, _∙_, subst}
 use mathlib.Core.Logic.{_⊎_, inl, inr}
@@ -11,8 +10,9 @@ use mathlib.Core.List.{List, [], _∷_, _++_, map, append-assoc, append-nil, Lis
 use lib.Count.{ones}
 use lib.Dec.{eqb}
 use lib.ListN.{length, getD, length-append}
-use Rattle.lists.proofs.Bools.{both, ≡eqb, neqb}
+use Rattle.lists.proofs.Bools.{both, ≡eqb}
 use Rattle.lists.proofs.Lists.{getD-mem, mem-at, map-mem, mem-map}
+use Rattle.lists.proofs.Numbers.{below-suc, not-zero}
 use Rattle.policy.specs.declared.Policy.{Policy}
 use Rattle.policy.specs.Policies.{edges, accepting}
 use Rattle.forest.specs.Forest.{Node, isRoot, before, node, chain, childOf, forest, roots, children}
@@ -101,13 +101,6 @@ order-at (x ∷ l) d o i zero h g s = absurd (omega arith)
 order-at (x ∷ l) d o zero (suc j) h g s = o .0 (getD l j d) (getD-mem l j d (omega arith)) s
 order-at (x ∷ l) d o (suc i) (suc j) h g s = order-at l d (o .1) i j (omega arith) (omega arith) s
 
-below-suc : (n i : ℕ) → n < suc i → (n < i) ⊎ (n ≡ i)
-below-suc n i h = go (ℕ-discrete n i)
-  where
-    go : Dec (n ≡ i) → (n < i) ⊎ (n ≡ i)
-    go (yes e) = inr e
-    go (no k) = inl (omega arith)
-
 -- ---- the loop
 module _ (p : Policy) (ns : List Node) where
   -- a root
@@ -186,12 +179,9 @@ module _ (p : Policy) (ns : List Node) where
       go (inl t) = inl t
       go (inr m) = inr (g (x .parent) m)
 
-  not-top : (l : ℕ) → eqb (l + 1) 0 ≡ false
-  not-top l = neqb (l + 1) 0 (λ e. omega (arith, e))
-
   hangs-children : (i l : ℕ) (a : Bool) (cs : List ℕ) (xs : List Node) → Hangs (chain ns i) xs → Hangs (chain ns i) (map (pending i (l + 1) a) cs ++ xs)
   hangs-children i l a [] xs h = h
-  hangs-children i l a (c ∷ cs) xs h = (inr (chain-self ns i), rw (not-top l) (hangs-children i l a cs xs h))
+  hangs-children i l a (c ∷ cs) xs h = (inr (chain-self ns i), rw (not-zero l) (hangs-children i l a cs xs h))
 
   raise : (i : ℕ) (x : Node) → Known i x → Known (suc i) x
   raise i x (inl t) = inl t
@@ -238,7 +228,7 @@ module _ (p : Policy) (ns : List Node) where
       child m = pending i (x .level + 1) (x .accepted) m
 
       child-known : (c : ℕ) → List·Memᴰ c (children p (x .mask)) → Known (suc i) (child c) × (ones c ≤ edges p)
-      child-known c k = (inr (record { not-root = not-top (x .level); parent-below = omega arith; level-next = refl; same-verdict = refl; of-children = k }), omega (arith, fewer (x .mask) c k, x-known .1))
+      child-known c k = (inr (record { not-root = not-zero (x .level); parent-below = omega arith; level-next = refl; same-verdict = refl; of-children = k }), omega (arith, fewer (x .mask) c k, x-known .1))
 
       new-known : (z : Node) → (c : ℕ) × List·Memᴰ c (children p (x .mask)) × (z ≡ child c) → Known (suc i) z × (ones (z .mask) ≤ edges p)
       new-known z r = subst (λ (z : Node). Known (suc i) z × (ones (z .mask) ≤ edges p)) (sym (r .2)) (child-known (r .0) (r .1))
@@ -265,7 +255,7 @@ module _ (p : Policy) (ns : List Node) where
 
       -- a child of i is no sibling of what was there before
       clash : (z : Node) (c : ℕ) → Known i z → Sib z (child c) → ⊥
-      clash z c k (inl e) = true≢false (sym (e .1) ∙ not-top (x .level))
+      clash z c k (inl e) = true≢false (sym (e .1) ∙ not-zero (x .level))
       clash z c (inl t) (inr e) = true≢false (sym (t .is-root) ∙ e .0)
       clash z c (inr u) (inr e) = omega (arith, u .parent-below, e .2)
 
@@ -279,7 +269,7 @@ module _ (p : Policy) (ns : List Node) where
       now-children n (inr e) m k = (
         child m,
         Memᴰ·append-right a (Memᴰ·append-left xs (mem-map child (children p (x .mask)) m (subst (λ (n : ℕ). List·Memᴰ m (children p (maskAt ns n))) e k))),
-        both (not (eqb (x .level + 1) 0)) (eqb i n) (ap not (not-top (x .level))) (≡eqb i n (sym e)),
+        both (not (eqb (x .level + 1) 0)) (eqb i n) (ap not (not-zero (x .level))) (≡eqb i n (sym e)),
         refl,
       )
 

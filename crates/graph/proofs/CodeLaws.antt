@@ -10,36 +10,21 @@ use mathlib.Core.Path.{_≡_, refl, sym, ap, _∙_, subst}
 use mathlib.Core.Logic.{_⊎_, inl, inr}
 use mathlib.Core.Bool.{Bool, true, false, _&&_, cond, and-true, and-false, false≢true}
 use mathlib.Core.List.{List, [], _∷_, List·Memᴰ}
-use lib.Dec.{eqb}
 use lib.Bits.{bitOr}
 use lib.ListN.{length, getD, set, length-set}
 use lib.Seq.{getD-set-same, getD-set-other}
-use Rattle.lists.proofs.Bools.{test, or-cases, or-left, or-right, and-l, and-r, both, eqb≡, ≡eqb, bool-ext}
+use Rattle.lists.proofs.Bools.{test, or-cases, or-left, or-right, and-l, and-r, both, bool-ext}
 use Rattle.masks.specs.Masks.{has, insert, maskOf, members}
-use Rattle.masks.proofs.MaskOf.{mask-of-none, mask-of-in, mask-of-out, has-mask-of}
-use Rattle.masks.proofs.Bits.{has-none, has-or, has-insert, mask-ext}
+use Rattle.masks.proofs.MaskOf.{mask-of-none, mask-of-in, mask-of-out, has-mask-of, mask-of-some}
+use Rattle.masks.proofs.Bits.{has-none, has-or, mask-ext}
+use Rattle.masks.proofs.Members.{insert-cases, insert-keeps, insert-adds}
 use Rattle.policy.specs.declared.Policy.{Policy}
 use Rattle.policy.specs.Policies.{edges, edgeOf, source, targetOf, legal}
 use Rattle.policy.proofs.Laws.{legal-counts, edges-le, legal-target, source-edge, edge-lt, source-lt}
 use Rattle.graph.specs.Cycles.{Path, reach}
 use Rattle.graph.specs.Through.{cycleThrough, Rows, withEdge, edgeRow, edgeRows, States, joinRow, joinRows, joinedRows, mutualTo, inner, innerTo}
 use Rattle.graph.proofs.Paths.{members-has, members-lt, reach-sound, reach-complete}
-use Rattle.graph.proofs.Coloured.{mask-of-some}
 use Rattle.graph.proofs.Through.{Leads, leads-join, leads-edge, through-some, some-through}
-
--- ---- one more member
-insert-cases : (m t e : ℕ) → has (insert m t) e ≡ true → (has m e ≡ true) ⊎ (t ≡ e)
-insert-cases m t e h = go (or-cases (has m e) (eqb t e) (sym (has-insert m t e) ∙ h))
-  where
-    go : (has m e ≡ true) ⊎ (eqb t e ≡ true) → (has m e ≡ true) ⊎ (t ≡ e)
-    go (inl k) = inl k
-    go (inr k) = inr (eqb≡ t e k)
-
-insert-keeps : (m t e : ℕ) → has m e ≡ true → has (insert m t) e ≡ true
-insert-keeps m t e h = has-insert m t e ∙ or-left (has m e) (eqb t e) h
-
-insert-adds : (m t : ℕ) → has (insert m t) t ≡ true
-insert-adds m t = has-insert m t t ∙ or-right (has m t) (eqb t t) (≡eqb t t refl)
 
 -- ---- a row joined at k
 join-cases : (row k pivot x : ℕ) → has (joinRow row k pivot) x ≡ true → (has row x ≡ true) ⊎ ((has row k ≡ true) × (has pivot x ≡ true))
@@ -281,9 +266,6 @@ module _ (p : Policy) (m : ℕ) where
 
 -- ---- what the code asks of a legal policy
 module _ (p : Policy) (ok : legal p ≡ true) where
-  pub edge-few : (e : ℕ) → e < edges p → e < 64
-  edge-few e l = omega (arith, edges-le p ok)
-
   pub target-few : (e : ℕ) → e < edges p → getD (p .target) e 0 < 16
   unfolding targetOf
   target-few e l = omega (arith, legal-target p ok e l, legal-counts p ok .states-few)

@@ -1,23 +1,18 @@
 -- The part of an edge set in some colours: which edges it has, and its colours. Assumes nothing.
 use Prim.Native.Nat.{ℕ, _^_, _<_}
-use mathlib.Core.Path.{_≡_, sym, _∙_}
-use mathlib.Core.Bool.{Bool, true, _&&_}
+use mathlib.Core.Path.{_≡_, _∙_}
+use mathlib.Core.Bool.{true, _&&_}
 use mathlib.Core.List.{List·Memᴰ}
 use Rattle.lists.specs.Lists.{all}
 use Rattle.lists.proofs.Bools.{and-l, and-r, both}
 use Rattle.lists.proofs.Lists.{all-each, each-all}
-use Rattle.masks.specs.Masks.{has, inside, maskOf}
+use Rattle.masks.specs.Masks.{has, inside}
 use Rattle.masks.proofs.Bits.{all-inside}
-use Rattle.masks.proofs.MaskOf.{has-mask-of, mask-of-lt}
+use Rattle.masks.proofs.MaskOf.{has-mask-of, mask-of-lt, mask-of-some}
 use Rattle.policy.specs.declared.Policy.{Policy}
 use Rattle.policy.specs.Policies.{edges, edgeColours, coloursOf}
 use Rattle.policy.proofs.Laws.{colours-some}
 use Rattle.graph.specs.Coloured.{coloured}
-use Rattle.graph.proofs.Cycles.{bit-lt}
-
--- what a mask-of-some set has
-pub mask-of-some : (t : ℕ → Bool) (n e : ℕ) → has (maskOf t n) e ≡ true → (e < n) × (t e ≡ true)
-mask-of-some t n e h = let l = bit-lt n (maskOf t n) e (mask-of-lt t n) h in (l, sym (has-mask-of t n e l) ∙ h)
 
 module _ (p : Policy) where
   pub coloured-some : (m c e : ℕ) → has (coloured p m c) e ≡ true → (e < edges p) × (has m e ≡ true) × ((d : ℕ) → List·Memᴰ d (edgeColours p e) → has c d ≡ true)

@@ -1,19 +1,19 @@
 -- Cycles: the test `isCycle` and the statement `Cycle` agree; a cycle's edges are joined by paths inside it, and such a set is a cycle;
 -- two cycles that share a state are one cycle together; the states that an edge set contains. Assumes nothing.
 use Prim.Native.Nat.{ℕ, _^_, _<_}
-use native.Mathlib.Omega.{arith}
-use native.Mathlib.Decide.{decLt}
 use mathlib.Core.Path.{_≡_, refl, sym, ap, _∙_, subst}
 use mathlib.Core.Logic.{_⊎_, inl, inr, _≢_, _↔_}
-use mathlib.Core.Bool.{true, false, not, _&&_, true≢false, false≢true}
+use mathlib.Core.Bool.{true, false, not, _&&_, true≢false}
 use mathlib.Core.List.{List, [], _∷_, _++_, List·Memᴰ, List·Memᴰ·head, List·Memᴰ·tail, List·Memᴰ·cases-cons, List·Memᴰ·not-nil, Memᴰ·append-right, Memᴰ·cast}
 use lib.Dec.{eqb, ltb}
 use lib.Bits.{bitOr, or-lt}
+use borrow.Author.Tests.{lt-ltb}
 use Rattle.lists.specs.Lists.{all, below}
-use Rattle.lists.proofs.Bools.{test, and-l, and-r, both, or-cases, or-left, or-right, eqb≡, ≡eqb, neqb, lt-true, lt-false, not-true}
+use Rattle.lists.proofs.Bools.{test, and-l, and-r, both, or-cases, or-left, or-right, eqb≡, ≡eqb, neqb, lt-true, not-true}
 use Rattle.lists.proofs.Lists.{any-some, some-any, all-each, each-all, mem-below, below-lt}
 use Rattle.masks.specs.Masks.{has, inside, members}
-use Rattle.masks.proofs.Bits.{has-none, has-or, has-high, mask-ext, inside-all, lt-of-bits}
+use Rattle.masks.proofs.Bits.{has-none, has-or, mask-ext, inside-all, lt-of-bits}
+use Rattle.masks.proofs.Members.{some-nonzero, bit-lt}
 use Rattle.policy.specs.declared.Policy.{Policy}
 use Rattle.policy.specs.Policies.{edges, source, targetOf}
 use Rattle.graph.specs.Cycles.{Path, Cycle, reach, isCycle, contains}
@@ -22,25 +22,6 @@ use Rattle.graph.proofs.Paths.{members-has, members-lt, has-members, pa
 -- each edge leads to a state
 abbrev pub Targets : Policy → Type 0
 Targets p = (e : ℕ) → e < edges p → targetOf p e < p .states
-
-ltb-true : (a b : ℕ) → a < b → ltb a b ≡ true
-ltb-true a b l = go (test (ltb a b))
-  where
-    go : (ltb a b ≡ true) ⊎ (ltb a b ≡ false) → ltb a b ≡ true
-    go (inl t) = t
-    go (inr f) = absurd (omega (arith, lt-false a b f))
-
--- a set with a member is not empty
-pub some-nonzero : (m e : ℕ) → has m e ≡ true → m ≢ 0
-some-nonzero m e t z = false≢true (sym (ap (λ (x : ℕ). has x e) z ∙ has-none e) ∙ t)
-
--- a bit of a number below 2 ^ n stands below n
-pub bit-lt : (n m e : ℕ) → m < 2 ^ n → has m e ≡ true → e < n
-bit-lt n m e l t = go (decLt e n)
-  where
-    go : Dec (e < n) → e < n
-    go (yes k) = k
-    go (no k) = absurd (false≢true (sym (has-high n e m l (omega arith)) ∙ t))
 
 module _ (p : Policy) where
   -- ---- what the test says
@@ -73,7 +54,7 @@ module _ (p : Policy) where
       → ((e f : ℕ) → has m e ≡ true → has m f ≡ true → (w : List ℕ) × Path p (members (edges p) m) (targetOf p e) w (source p f)) → isCycle p m ≡ true
   unfolding isCycle
   path-cycle targets m nz l joined =
-      both (not (eqb m 0) && ltb m (2 ^ edges p)) _ (both (not (eqb m 0)) _ (ap not (neqb m 0 nz)) (ltb-true m (2 ^ edges p) l)) (each-all _ es (λ e me. each-all _ es (λ f mf. strong e f me mf)))
+      both (not (eqb m 0) && ltb m (2 ^ edges p)) _ (both (not (eqb m 0)) _ (ap not (neqb m 0 nz)) (lt-ltb m (2 ^ edges p) l)) (each-all _ es (λ e me. each-all _ es (λ f mf. strong e f me mf)))
     where
       es : List ℕ
       es = members (edges p) m

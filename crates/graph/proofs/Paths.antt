@@ -3,16 +3,16 @@ use Prim.Native.Nat.{ℕ, zero, suc, _^_, _<_}
 use native.Mathlib.Omega.{arith}
 use mathlib.Core.Path.{_≡_, refl, sym, ap, _∙_, subst}
 use mathlib.Core.Logic.{_⊎_, inl, inr}
-use mathlib.Core.Bool.{Bool, true, false, cond, false≢true}
+use mathlib.Core.Bool.{Bool, true, false, cond}
 use mathlib.Core.List.{List, [], _∷_, _++_, List·Memᴰ, List·Memᴰ·head, List·Memᴰ·tail, Memᴰ·cast}
-use lib.Dec.{eqb}
-use lib.Pow.{pow-lt, pow-pos}
+use lib.Pow.{pow-lt}
 use lib.Count.{ones, ones-le}
 use Rattle.lists.specs.Lists.{below}
-use Rattle.lists.proofs.Bools.{test, or-cases, or-left, or-right, eqb≡, ≡eqb}
+use Rattle.lists.proofs.Bools.{test, eqb≡, ≡eqb}
 use Rattle.lists.proofs.Lists.{filter-mem, mem-filter, mem-below, below-lt}
 use Rattle.masks.specs.Masks.{has, insert, members}
-use Rattle.masks.proofs.Bits.{has-pow, has-insert, insert-lt, has-none, ones-inside}
+use Rattle.masks.proofs.Bits.{has-pow, insert-lt, ones-inside}
+use Rattle.masks.proofs.Members.{one-member, insert-cases, insert-keeps, insert-adds}
 use Rattle.policy.specs.declared.Policy.{Policy}
 use Rattle.policy.specs.Policies.{source, targetOf}
 use Rattle.graph.specs.Cycles.{Path, spread, closure, reach}
@@ -30,26 +30,6 @@ members-lt n m e k = below-lt n e (filter-mem (has m) (below n) e k .0)
 pub has-members : (n m e : ℕ) → e < n → has m e ≡ true → List·Memᴰ e (members n m)
 unfolding members
 has-members n m e l t = mem-filter (has m) (below n) e (mem-below n e l) t
-
-insert-cases : (m t e : ℕ) → has (insert m t) e ≡ true → (has m e ≡ true) ⊎ (t ≡ e)
-insert-cases m t e h = go (or-cases (has m e) (eqb t e) (sym (has-insert m t e) ∙ h))
-  where
-    go : (has m e ≡ true) ⊎ (eqb t e ≡ true) → (has m e ≡ true) ⊎ (t ≡ e)
-    go (inl k) = inl k
-    go (inr k) = inr (eqb≡ t e k)
-
-insert-keeps : (m t e : ℕ) → has m e ≡ true → has (insert m t) e ≡ true
-insert-keeps m t e h = has-insert m t e ∙ or-left (has m e) (eqb t e) h
-
-insert-adds : (m t : ℕ) → has (insert m t) t ≡ true
-insert-adds m t = has-insert m t t ∙ or-right (has m t) (eqb t t) (≡eqb t t refl)
-
-one-member : (u : ℕ) → 0 < ones (2 ^ u)
-one-member u = go (ones-inside 0 (2 ^ u) (λ e t. absurd (false≢true (sym (has-none e) ∙ t))))
-  where
-    go : (0 ≡ 2 ^ u) ⊎ (ones 0 < ones (2 ^ u)) → 0 < ones (2 ^ u)
-    go (inl e) = absurd (omega (arith, pow-pos u))
-    go (inr l) = omega arith
 
 module _ (p : Policy) where
   -- ---- paths

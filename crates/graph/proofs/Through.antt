@@ -1,36 +1,21 @@
 -- The largest cycle through a state inside an edge set: it is a cycle with that state where it is not empty, each cycle with the state inside
 -- the set lies inside it, and it is the same for each of its states. Assumes nothing.
 use Prim.Native.Nat.{ℕ, _^_, _<_}
-use native.Mathlib.Decide.{ℕ-discrete}
-use mathlib.Core.Path.{_≡_, refl, sym, ap, _∙_, subst}
+use mathlib.Core.Path.{_≡_, refl, sym, _∙_, subst}
 use mathlib.Core.Logic.{_⊎_, inl, inr, _≢_}
-use mathlib.Core.Bool.{Bool, true, false, _&&_, true≢false}
+use mathlib.Core.Bool.{true, _&&_}
 use mathlib.Core.List.{List, [], _∷_, _++_, List·Memᴰ}
-use Rattle.lists.specs.Lists.{any, below}
-use Rattle.lists.proofs.Bools.{test, and-l, and-r, both}
-use Rattle.lists.proofs.Lists.{any-some, none-any, mem-below}
-use Rattle.masks.specs.Masks.{has, inside, maskOf, members}
-use Rattle.masks.proofs.Bits.{has-none, mask-ext, inside-all, all-inside, inside-antisym}
-use Rattle.masks.proofs.MaskOf.{has-mask-of, mask-of-lt}
+use Rattle.lists.proofs.Bools.{and-l, and-r, both}
+use Rattle.masks.specs.Masks.{has, inside, members}
+use Rattle.masks.proofs.Bits.{inside-all, all-inside, inside-antisym}
+use Rattle.masks.proofs.MaskOf.{has-mask-of, mask-of-lt, mask-of-some}
+use Rattle.masks.proofs.Members.{some-nonzero, none-or-some}
 use Rattle.policy.specs.declared.Policy.{Policy}
 use Rattle.policy.specs.Policies.{edges, source, targetOf}
 use Rattle.graph.specs.Cycles.{Path, reach, isCycle, contains}
 use Rattle.graph.specs.Through.{cycleThrough}
 use Rattle.graph.proofs.Paths.{members-has, members-lt, has-members, path-join, path-weaken, reach-sound, reach-complete}
-use Rattle.graph.proofs.Coloured.{mask-of-some}
-use Rattle.graph.proofs.Cycles.{Targets, bit-lt, some-nonzero, cycle-some, cycle-edge, cycle-path, path-cycle, contains-some, some-contains, contains-inside}
-
--- a set of numbers below n is empty, or has a member
-none-or-some : (n m : ℕ) → ((e : ℕ) → has m e ≡ true → e < n) → (m ≡ 0) ⊎ ((e : ℕ) × (has m e ≡ true))
-none-or-some n m lt = go (test (any (has m) (below n)))
-  where
-    go : (any (has m) (below n) ≡ true) ⊎ (any (has m) (below n) ≡ false) → (m ≡ 0) ⊎ ((e : ℕ) × (has m e ≡ true))
-    go (inl t) = let r = any-some (has m) (below n) t in inr (r .0, r .2)
-    go (inr f) = inl (mask-ext m 0 (λ e. off e (test (has m e))))
-      where
-        off : (e : ℕ) → (has m e ≡ true) ⊎ (has m e ≡ false) → has m e ≡ has 0 e
-        off e (inl t) = absurd (true≢false (sym t ∙ none-any (has m) (below n) f e (mem-below n e (lt e t))))
-        off e (inr k) = k ∙ sym (has-none e)
+use Rattle.graph.proofs.Cycles.{Targets, cycle-edge, cycle-path, path-cycle, contains-some, some-contains, contains-inside}
 
 module _ (p : Policy) where
   -- paths of m's edges
@@ -74,7 +59,7 @@ module _ (p : Policy) where
   through-inside m v = all-inside (cycleThrough p m v) m (λ e t. through-some m v e t .1)
 
   -- a set that contains a state is not empty
-  contains-nonzero : (u m : ℕ) → contains p u m ≡ true → m ≢ 0
+  pub contains-nonzero : (u m : ℕ) → contains p u m ≡ true → m ≢ 0
   contains-nonzero u m on = let r = contains-some p u m on in some-nonzero m (r .0) (r .2)
 
   module _ (targets : Targets p) (m v : ℕ) (state : v < p .states) where
@@ -141,28 +126,6 @@ module _ (p : Policy) where
 
         from : (e : ℕ) → has x e ≡ true → Leads x (targetOf p e) v
         from e t = subst (Leads x (targetOf p e)) (g .3) (cycle-path p x cy e (g .0) t (g .2))
-
-    -- it is empty exactly if no cycle inside m contains v
-    pub through-none : cycleThrough p m v ≡ 0 → (x : ℕ) → isCycle p x ≡ true → inside x m ≡ true → contains p v x ≡ false
-    through-none z x cy wi = go (test (contains p v x))
-      where
-        zero-only : inside x (cycleThrough p m v) ≡ true → x ≡ 0
-        zero-only i = mask-ext x 0 (λ e. off e (test (has x e)))
-          where
-            off : (e : ℕ) → (has x e ≡ true) ⊎ (has x e ≡ false) → has x e ≡ has 0 e
-            off e (inl t) = t ∙ sym (sym (ap (λ (k : ℕ). has k e) z) ∙ inside-all x (cycleThrough p m v) i e t)
-            off e (inr f) = f ∙ sym (has-none e)
-
-        go : (contains p v x ≡ true) ⊎ (contains p v x ≡ false) → contains p v x ≡ false
-        go (inl t) = absurd (cycle-some p x cy (zero-only (through-largest x cy wi t)))
-        go (inr f) = f
-
-    pub none-through : ((x : ℕ) → isCycle p x ≡ true → inside x m ≡ true → contains p v x ≡ false) → cycleThrough p m v ≡ 0
-    none-through h = go (ℕ-discrete (cycleThrough p m v) 0)
-      where
-        go : Dec (cycleThrough p m v ≡ 0) → cycleThrough p m v ≡ 0
-        go (yes z) = z
-        go (no nz) = let c = through-cycle nz in absurd (true≢false (sym (c .1) ∙ h (cycleThrough p m v) (c .0) (through-inside m v)))
 
   -- each state of it has it as the largest cycle through that state
   pub through-same : Targets p → (m v u : ℕ) → v < p .states → contains p u (cycleThrough p m v) ≡ true → cycleThrough p m u ≡ cycleThrough p m v

@@ -9,19 +9,13 @@ use mathlib.Core.List.{List, [], _∷_, _++_, List·Memᴰ, List·Memᴰ·head, 
 use lib.Bits.{bitOr}
 use lib.Dec.{eqb, ltb}
 use lib.ListN.{length}
-use Rattle.lists.proofs.Bools.{test, eqb≡, ≡eqb, lt-true, lt-false, or-cases, or-left, or-right, bool-ext}
+use Rattle.lists.proofs.Bools.{test, eqb≡, ≡eqb, or-cases, or-left, or-right, bool-ext}
+use Rattle.lists.proofs.Numbers.{cond-min}
 use Rattle.masks.specs.Masks.{has}
 use Rattle.masks.proofs.Bits.{has-or, has-none, has-insert, mask-ext}
 use Rattle.judging.specs.Judging.{nonEmpty, setOf, leastOf}
 
 -- ---- the least
-cond-min : (x y : ℕ) → cond (ltb x y) x y ≡ min x y
-cond-min x y = go (test (ltb x y))
-  where
-    go : (ltb x y ≡ true) ⊎ (ltb x y ≡ false) → cond (ltb x y) x y ≡ min x y
-    go (inl t) = rw t (omega (arith, lt-true x y t))
-    go (inr f) = rw f (omega (arith, lt-false x y f))
-
 pub least-cons : (x : ℕ) (l : List ℕ) → leastOf (x ∷ l) ≡ min x (leastOf l)
 unfolding leastOf
 least-cons x l = cond-min x (leastOf l)

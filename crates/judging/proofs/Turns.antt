@@ -3,24 +3,20 @@ use Prim.Native.Nat.{ℕ, _+_, _≤_, _<_}
 use native.Mathlib.Numerals.{add-one}
 use mathlib.Core.Path.{_≡_, refl, sym, ap, _∙_}
 use mathlib.Core.Bool.{Bool, true, false, _&&_, and-true}
-use mathlib.Core.List.{List, _∷_}
+use mathlib.Core.List.{List}
 use lib.Dec.{ltb}
 use lib.ListN.{length, getD, drop, drop-of-length-le}
-use lib.Seq.{drop-cons}
 use Rattle.lists.proofs.Bools.{lt-true}
-use Rattle.lists.proofs.Lists.{all-each, getD-mem}
+use Rattle.lists.proofs.Lists.{all-each, getD-mem, drop-next}
 use Rattle.recurrence.specs.Recurs.{iter}
 use Rattle.judging.specs.Judging.{inRange}
 use Rattle.judging.specs.Rounds.{through}
-
-drop-next : (w : List ℕ) (i : ℕ) → i < length w → drop i w ≡ getD w i 0 ∷ drop (i + 1) w
-drop-next w i h = drop-cons w i 0 h ∙ ap (λ (j : ℕ). getD w i 0 ∷ drop j w) (sym (add-one i))
 
 -- ---- all letters in range
 pub range-turn : (letters : ℕ) (w : List ℕ) (i : ℕ) (b : Bool) → i < length w
     → b && inRange letters (drop i w) ≡ b && ltb (getD w i 0) letters && inRange letters (drop (i + 1) w)
 unfolding inRange
-range-turn letters w i b h = ap (λ (l : List ℕ). b && inRange letters l) (drop-next w i h) ∙ go b (ltb (getD w i 0) letters) (inRange letters (drop (i + 1) w))
+range-turn letters w i b h = ap (λ (l : List ℕ). b && inRange letters l) (drop-next w i 0 h) ∙ go b (ltb (getD w i 0) letters) (inRange letters (drop (i + 1) w))
   where
     go : (x y z : Bool) → x && (y && z) ≡ x && y && z
     go true y z = refl
@@ -39,7 +35,7 @@ range-at letters w h i l = lt-true (getD w i 0) letters (all-each (λ a. ltb a l
 module _ {T : Type 0} (next : T → ℕ → T) (w : List ℕ) (i : ℕ) (t : T) where
   pub through-turn : i < length w → through next (drop i w) t ≡ through next (drop (i + 1) w) (next t (getD w i 0))
   unfolding through
-  through-turn h = ap (λ (l : List ℕ). through next l t) (drop-next w i h)
+  through-turn h = ap (λ (l : List ℕ). through next l t) (drop-next w i 0 h)
 
   pub through-end : length w ≤ i → through next (drop i w) t ≡ t
   unfolding through

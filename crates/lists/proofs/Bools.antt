@@ -1,8 +1,8 @@
 -- Tests as equations, and cases on a test. Assumes nothing.
 use Prim.Native.Nat.{ℕ, _≤_, _<_}
-use mathlib.Core.Path.{_≡_, refl, sym, ap, _∙_}
+use mathlib.Core.Path.{_≡_, refl, sym, ap}
 use mathlib.Core.Logic.{_⊎_, inl, inr, _≢_}
-use mathlib.Core.Bool.{Bool, true, false, not, _&&_, _||_, true≢false, false≢true}
+use mathlib.Core.Bool.{Bool, true, false, not, _&&_, _||_, cond, true≢false, false≢true}
 use lib.Dec.{T, eqb, ltb, leb, eqb→eq, eqb-refl, ltb→lt, nltb→le, leb→le, nleb→lt}
 
 -- a Boolean is one or the other, with the equation
@@ -76,6 +76,38 @@ not-true false e = refl
 pub not-false : (b : Bool) → (b ≡ true → ⊥) → not b ≡ true
 not-false true h = absurd (h refl)
 not-false false h = refl
+
+pub unnot : (b : Bool) → not b ≡ false → b ≡ true
+unnot true e = refl
+unnot false e = absurd (true≢false e)
+
+pub not-itself : (a : Bool) → a ≡ not a → ⊥
+not-itself true e = true≢false e
+not-itself false e = false≢true e
+
+pub and-absent : (a b : Bool) → b ≡ false → a && b ≡ false
+and-absent true b f = f
+and-absent false b f = refl
+
+-- a condition that follows from a later one
+pub and-implied : (a b c : Bool) → (c ≡ true → b ≡ true) → a && b && c ≡ a && c
+and-implied true true c h = refl
+and-implied true false true h = h refl
+and-implied true false false h = refl
+and-implied false b c h = refl
+
+pub or-none : (a b : Bool) → a || b ≡ false → a ≡ false
+or-none true b e = e
+or-none false b e = refl
+
+-- a choice between two tests that is one of them
+pub cond-not : (b : Bool) → not b ≡ cond b false true
+cond-not true = refl
+cond-not false = refl
+
+pub cond-true : (b : Bool) → b ≡ cond b true false
+cond-true true = refl
+cond-true false = refl
 
 pub bool-ext : (x y : Bool) → (x ≡ true → y ≡ true) → (y ≡ true → x ≡ true) → x ≡ y
 bool-ext true y f g = sym (f refl)

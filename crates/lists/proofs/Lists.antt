@@ -1,16 +1,17 @@
--- Membership in a filtered list, in a list of numbers below n, at a position; what `any` and `all` say of the members; places of lists one after the other.
--- Assumes nothing.
+-- Membership in a filtered list, in a list of numbers below n, at a position; what `any` and `all` say of the members; the first of a list; places of lists one after
+-- the other. Assumes nothing.
 use Prim.Native.Nat.{ℕ, zero, suc, _+_, _*_, _≤_, _<_}
 use native.Mathlib.Omega.{arith}
 use native.Mathlib.Decide.{ℕ-discrete}
 use native.Mathlib.Nat.{zero-mul, suc-mul}
+use native.Mathlib.Numerals.{add-one}
 use mathlib.Core.Path.{_≡_, refl, sym, ap, ap₂, _∙_, subst}
 use mathlib.Core.Logic.{_⊎_, inl, inr, _≢_}
-use mathlib.Core.Bool.{Bool, true, false, not, _&&_, _||_, cond, true≢false, false≢true}
-use mathlib.Core.List.{List, [], _∷_, _++_, map, map-append, append-nil, append-assoc, List·Memᴰ, List·Memᴰ·head, List·Memᴰ·tail, List·Memᴰ·cases-cons, Memᴰ·append-left, Memᴰ·append-right, List·Memᴰ·append-cases, List·Memᴰ·not-nil, List·Memᴰ·eq-of-singleton, Memᴰ·cast}
+use mathlib.Core.Bool.{Bool, true, false, cond, true≢false, false≢true}
+use mathlib.Core.List.{List, [], _∷_, _++_, map, map-append, append-nil, append-assoc, List·Memᴰ, List·Memᴰ·head, List·Memᴰ·tail, List·Memᴰ·cases-cons, Memᴰ·append-left, Memᴰ·append-right, List·Memᴰ·append-cases, List·Memᴰ·not-nil, List·Memᴰ·eq-of-singleton}
 use lib.Arith.{digits-lt}
-use lib.ListN.{length, getD, length-append, length-map, List·getD-append}
-use lib.Seq.{getD-at, getD-append-add}
+use lib.ListN.{length, getD, drop, length-append, length-map, List·getD-append}
+use lib.Seq.{drop-cons, getD-at, getD-append-add}
 use Rattle.lists.specs.Lists.{any, all, filter, firstOr, flat, position, below, Ascending}
 use Rattle.lists.proofs.Bools.{test, and-l, and-r, or-right}
 
@@ -136,6 +137,27 @@ module _ {A B : Type 0} where
   mem-map f (a ∷ l) x (List·Memᴰ·head e) = List·Memᴰ·head (ap f e)
   mem-map f (a ∷ l) x (List·Memᴰ·tail m) = List·Memᴰ·tail (mem-map f l x m)
 
+-- ---- no member, and the first one
+module _ {A : Type 0} where
+  pub none-mem : (l : List A) → ((x : A) → List·Memᴰ x l → ⊥) → l ≡ []
+  none-mem [] h = refl
+  none-mem (x ∷ l) h = absurd (h x (List·Memᴰ·head refl))
+
+  pub first-cases : (d : A) (l : List A) → (l ≡ []) ⊎ List·Memᴰ (firstOr d l) l
+  first-cases d [] = inl refl
+  first-cases d (x ∷ xs) = inr (List·Memᴰ·head refl)
+
+  pub first-mem : (d : A) (l : List A) (y : A) → List·Memᴰ y l → List·Memᴰ (firstOr d l) l
+  first-mem d (x ∷ xs) y m = List·Memᴰ·head refl
+
+  pub first-at : (d : A) (l : List A) → firstOr d l ≡ getD l 0 d
+  first-at d [] = refl
+  first-at d (x ∷ l) = refl
+
+pub first-le : (d : ℕ) (l : List ℕ) → Ascending l → (y : ℕ) → List·Memᴰ y l → firstOr d l ≤ y
+first-le d (x ∷ xs) s y (List·Memᴰ·head e) = omega arith
+first-le d (x ∷ xs) s y (List·Memᴰ·tail k) = omega (arith, s .0 y k)
+
 -- ---- ascending lists
 pub ascending-filter : (p : ℕ → Bool) (l : List ℕ) → Ascending l → Ascending (filter p l)
 ascending-filter p [] s = tt
@@ -163,20 +185,34 @@ length-below zero = refl
 length-below (suc n) = length-append (below n) (n ∷ []) ∙ omega (arith, length-below n)
 
 module _ {A : Type 0} where
+  pub length-map-below : (g : ℕ → A) (n : ℕ) → length (map g (below n)) ≡ n
+  length-map-below g n = length-map (below n) g ∙ length-below n
+
   pub getD-map-below : (g : ℕ → A) (n i : ℕ) (d : A) → i < n → getD (map g (below n)) i d ≡ g i
   getD-map-below g zero i d h = absurd (omega arith)
   getD-map-below g (suc n) i d h = ap (λ (l : List A). getD l i d) (map-append g (below n) (n ∷ [])) ∙ go (ℕ-discrete i n) (getD-map-below g n i d)
     where
       long : length (map g (below n)) ≡ n
-      long = length-map (below n) g ∙ length-below n
+      long = length-map-below g n
 
       go : Dec (i ≡ n) → (i < n → getD (map g (below n)) i d ≡ g i) → getD (map g (below n) ++ (g n ∷ [])) i d ≡ g i
       go (yes e) ih = getD-at (map g (below n)) (g n) [] d i (long ∙ sym e) ∙ ap g (sym e)
       go (no k) ih = List·getD-append (map g (below n)) (g n ∷ []) d i (omega (arith, long)) ∙ ih (omega arith)
 
+  -- the suffix from a place on
+  pub drop-next : (l : List A) (i : ℕ) (d : A) → i < length l → drop i l ≡ getD l i d ∷ drop (i + 1) l
+  drop-next l i d h = drop-cons l i d h ∙ ap (λ (j : ℕ). getD l i d ∷ drop j l) (sym (add-one i))
+
   flat-last : (f : ℕ → List A) (l : List ℕ) (n : ℕ) → flat (map f (l ++ (n ∷ []))) ≡ flat (map f l) ++ f n
   flat-last f [] n = append-nil (f n)
   flat-last f (x ∷ l) n = ap (λ (r : List A). f x ++ r) (flat-last f l n) ∙ sym (append-assoc (f x) (flat (map f l)) (f n))
+
+  pub flat-next : (f : ℕ → List A) (n : ℕ) → flat (map f (below (n + 1))) ≡ flat (map f (below n)) ++ f n
+  flat-next f n = ap (λ (k : ℕ). flat (map f (below k))) (add-one n) ∙ flat-last f (below n) n
+
+  pub flat-few : (f : ℕ → List A) (k : ℕ) → ((x : ℕ) → length (f x) ≤ k) → (l : List ℕ) → length (flat (map f l)) ≤ length l * k
+  flat-few f k h [] = omega arith
+  flat-few f k h (x ∷ l) = omega (arith, length-append (f x) (flat (map f l)), h x, flat-few f k h l, suc-mul (length l) k)
 
   module _ (f : ℕ → List A) (k : ℕ) (long : (i : ℕ) → length (f i) ≡ k) where
     pub length-pieces : (n : ℕ) → length (flat (map f (below n))) ≡ n * k

@@ -9,6 +9,7 @@ use native.Mathlib.Numerals.{add-one}
 use Rattle.lists.proofs.Bools.{test, ≡eqb, neqb}
 use Rattle.masks.specs.Masks.{has, insert, maskOf}
 use Rattle.masks.proofs.Bits.{insert-top, has-top, has-high}
+use Rattle.masks.proofs.Members.{bit-lt}
 
 pub mask-of-lt : (t : ℕ → Bool) (n : ℕ) → maskOf t n < 2 ^ n
 unfolding maskOf
@@ -30,13 +31,14 @@ has-mask-of t (suc n) e h = go (native.Mathlib.Decide.ℕ-discrete n e) (test (t
     go (no q) (inl u) ih = rw u (has-top n e (maskOf t n) (mask-of-lt t n) ∙ ap (λ (b : Bool). has (maskOf t n) e || b) (neqb n e q) ∙ or-false (has (maskOf t n) e) ∙ ih (omega arith))
     go (no q) (inr u) ih = rw u (ih (omega arith))
 
+-- a member is below n, and passes
+pub mask-of-some : (t : ℕ → Bool) (n e : ℕ) → has (maskOf t n) e ≡ true → (e < n) × (t e ≡ true)
+mask-of-some t n e h = let l = bit-lt n (maskOf t n) e (mask-of-lt t n) h in (l, sym (has-mask-of t n e l) ∙ h)
+
 -- one turn of the loop that builds it
 pub mask-of-turn : (t : ℕ → Bool) (i a r : ℕ) (b : Bool) → a ≡ maskOf t i → b ≡ t i → r ≡ cond b (a + 2 ^ i) a → r ≡ maskOf t (i + 1)
 unfolding maskOf
 mask-of-turn t i a r b p q s = rw add-one (s ∙ ap (λ (b : Bool). cond b (a + 2 ^ i) a) q ∙ ap (λ (a : ℕ). cond (t i) (a + 2 ^ i) a) p)
-
-pub mask-of-end : (t : ℕ → Bool) (i n a : ℕ) → a ≡ maskOf t i → i ≡ n → a ≡ maskOf t n
-mask-of-end t i n a p q = p ∙ ap (maskOf t) q
 
 -- with n, or without it, as a loop meets it
 pub mask-of-none : (t : ℕ → Bool) → maskOf t 0 ≡ 0

@@ -1,7 +1,7 @@
 -- The table of the edges by colour: one turn of each loop over it, and that it gives the edges of a colour set and the colours of an edge set. Assumes nothing.
-use Prim.Native.Nat.{ℕ, zero, suc, _+_, _^_, _<_}
+use Prim.Native.Nat.{ℕ, zero, suc, _+_, _<_}
 use native.Mathlib.Omega.{arith}
-use native.Mathlib.Decide.{ℕ-discrete, decLt}
+use native.Mathlib.Decide.{ℕ-discrete}
 use native.Mathlib.Numerals.{add-one}
 use mathlib.Core.Path.{_≡_, refl, sym, ap, ap₂, _∙_, subst}
 use mathlib.Core.Logic.{_⊎_, inl, inr, _≢_}
@@ -11,12 +11,13 @@ use lib.Bits.{bitAnd, bitOr}
 use lib.Dec.{eqb}
 use lib.ListN.{length, getD, set, replicate, length-set}
 use lib.Seq.{ext-getD, getD-set-same, getD-set-other}
-use Rattle.lists.specs.Lists.{all, below}
+use Rattle.lists.specs.Lists.{all}
 use Rattle.lists.proofs.Bools.{test, and-l, and-r, both, or-cases, or-left, or-right, eqb≡, ≡eqb, neqb, bool-ext}
 use Rattle.lists.proofs.Lists.{getD-map-below}
 use Rattle.masks.specs.Masks.{has, insert, maskOf}
-use Rattle.masks.proofs.Bits.{has-and, has-or, has-none, has-insert, has-high, mask-ext}
-use Rattle.masks.proofs.MaskOf.{mask-of-lt, has-mask-of, mask-of-in, mask-of-out}
+use Rattle.masks.proofs.Bits.{has-and, has-or, has-none, has-insert, mask-ext}
+use Rattle.masks.proofs.MaskOf.{has-mask-of, mask-of-in, mask-of-out, mask-of-some}
+use Rattle.masks.proofs.Members.{none-zero}
 use Rattle.policy.specs.declared.Policy.{Policy}
 use Rattle.policy.specs.Policies.{edges, colourOf, edgeColours, coloursOf, inFamily, accepting, legal}
 use Rattle.policy.specs.ByColour.{hasColour, edgesIn, byColourTo, byColour, tableEdgesTo, tableEdges, tableColoursTo, tableColours}
@@ -49,10 +50,6 @@ colours-to-next t n m = rw add-one (go (eqb (bitAnd m (getD t n 0)) 0))
     go false = refl
 
 -- ---- the bits of what they give
--- a set without a member is empty
-empty : (m : ℕ) → ((e : ℕ) → has m e ≡ true → ⊥) → m ≡ 0
-empty m h = mask-ext m 0 (λ e. bool-ext (has m e) (has 0 e) (λ t. absurd (h e t)) (λ t. absurd (false≢true (sym (has-none e) ∙ t))))
-
 edges-to-some : (t : List ℕ) (n c e : ℕ) → has (tableEdgesTo t n c) e ≡ true → (k : ℕ) × (k < n) × (has c k ≡ true) × (has (getD t k 0) e ≡ true)
 unfolding tableEdgesTo
 edges-to-some t zero c e h = absurd (false≢true (sym (has-none e) ∙ h))
@@ -167,16 +164,6 @@ module _ (p : Policy) where
   by-all colours n h q = ap₂ byColourTo h q
 
   -- ---- the table, by its edges
-  bit-lt : (n m e : ℕ) → m < 2 ^ n → has m e ≡ true → e < n
-  bit-lt n m e l t = go (decLt e n)
-    where
-      go : Dec (e < n) → e < n
-      go (yes k) = k
-      go (no k) = absurd (false≢true (sym (has-high n e m l (omega arith)) ∙ t))
-
-  mask-of-some : (t : ℕ → Bool) (n e : ℕ) → has (maskOf t n) e ≡ true → (e < n) × (t e ≡ true)
-  mask-of-some t n e h = let l = bit-lt n (maskOf t n) e (mask-of-lt t n) h in (l, sym (has-mask-of t n e l) ∙ h)
-
   table-some : (c e : ℕ) → c < 8 → has (getD (byColour p) c 0) e ≡ true → (e < edges p) × (colourOf p e ≡ c)
   unfolding byColour colourOf
   table-some c e l h =
@@ -234,7 +221,7 @@ module _ (p : Policy) where
 
             none : has (coloursOf p m) c ≡ false → bitAnd m (getD (byColour p) c 0) ≡ 0
             none f =
-                empty (bitAnd m (getD (byColour p) c 0))
+                none-zero (bitAnd m (getD (byColour p) c 0))
                 (λ e t.
                 let u : has m e && has (getD (byColour p) c 0) e ≡ true = sym (has-and e m (getD (byColour p) c 0)) ∙ t in
                 let s = table-some c e (r .0) (and-r (has m e) (has (getD (byColour p) c 0) e) u) in

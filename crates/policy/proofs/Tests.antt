@@ -1,48 +1,17 @@
 -- One turn of the loops that test every number below n. Assumes nothing.
-use Prim.Native.Nat.{ℕ, zero, suc, _+_, _-_, _^_, _≤_, _<_}
+use Prim.Native.Nat.{ℕ, zero, suc, _-_, _^_, _≤_, _<_}
 use native.Mathlib.Omega.{arith}
-use native.Mathlib.Decide.{ℕ-discrete}
-use native.Mathlib.Numerals.{add-one}
-use mathlib.Core.Path.{_≡_, refl, sym, ap, ap₂, _∙_}
+use mathlib.Core.Path.{_≡_, sym, ap, ap₂, _∙_}
 use mathlib.Core.Logic.{_⊎_, inl, inr}
 use mathlib.Core.Bool.{Bool, true, false, not, _&&_, _||_, and-true, or-true, or-false}
-use mathlib.Core.List.{List, [], _∷_, _++_}
-use lib.Dec.{eqb, ltb}
+use lib.Dec.{ltb}
 use lib.Pow.{pow-pos}
 use borrow.Author.Tests.{lt-ltb, le-ltb}
 use Rattle.lists.specs.Lists.{all, below}
-use Rattle.lists.proofs.Bools.{≡eqb, neqb}
+use Rattle.lists.proofs.Tests.{all-snoc}
+use Rattle.lists.proofs.Numbers.{below-one}
 use Rattle.policy.specs.declared.Policy.{Policy}
 use Rattle.policy.specs.Policies.{edges, targetOf, colourOf, inFamily, legalCounts, legalEdge, legalSet, legal}
-
--- a member more at the end
-pub all-snoc : {A : Type 0} (t : A → Bool) (l : List A) (x : A) → all t (l ++ (x ∷ [])) ≡ all t l && t x
-all-snoc t [] x = and-true (t x)
-all-snoc t (y ∷ l) x = ap (λ (b : Bool). t y && b) (all-snoc t l x) ∙ go (t y) (all t l) (t x)
-  where
-    go : (a b c : Bool) → a && (b && c) ≡ a && b && c
-    go true b c = refl
-    go false b c = refl
-
--- one number more
-pub all-turn : (t : ℕ → Bool) (n : ℕ) (a b : Bool) → a ≡ all t (below n) → b ≡ t n → a && b ≡ all t (below (n + 1))
-all-turn t n a b p q = ap₂ _&&_ p q ∙ sym (all-snoc t (below n) n) ∙ ap (λ (k : ℕ). all t (below k)) (sym (add-one n))
-
--- and two tests of it
-pub all-turn-both : (t : ℕ → Bool) (n : ℕ) (a b c : Bool) → a ≡ all t (below n) → b && c ≡ t n → a && b && c ≡ all t (below (n + 1))
-all-turn-both t n a b c p q = go a b c ∙ all-turn t n a (b && c) p q
-  where
-    go : (a b c : Bool) → a && b && c ≡ a && (b && c)
-    go true b c = refl
-    go false b c = refl
-
--- below 1 is 0
-below-one : (x : ℕ) → ltb x 1 ≡ eqb x 0
-below-one x = go (ℕ-discrete x 0)
-  where
-    go : Dec (x ≡ 0) → ltb x 1 ≡ eqb x 0
-    go (yes q) = lt-ltb x 1 (omega arith) ∙ sym (≡eqb x 0 q)
-    go (no q) = le-ltb x 1 (omega arith) ∙ sym (neqb x 0 q)
 
 module _ (p : Policy) where
   -- ---- the parts of the test for a legal policy

@@ -5,14 +5,14 @@ use native.Mathlib.Omega.{arith}
 use native.Mathlib.Decide.{ℕ-discrete}
 use mathlib.Core.Path.{_≡_, refl, sym, ap, _∙_, subst}
 use mathlib.Core.Logic.{_⊎_, inl, inr, _≢_}
-use mathlib.Core.Bool.{Bool, true, false, _&&_, _||_, true≢false, false≢true}
+use mathlib.Core.Bool.{true, false, _&&_, _||_, true≢false, false≢true}
 use mathlib.Core.List.{List}
 use lib.Dec.{eqb, ltb}
 use lib.ListN.{length, getD, set, replicate, length-set}
 use lib.Seq.{getD-set-same, getD-set-other}
 use borrow.Author.Tests.{lt-ltb, ltb-true, ltb-false, eq-eqb, eqb-true, eqb-false}
 use Rattle.lists.specs.Lists.{all, below}
-use Rattle.lists.proofs.Bools.{test, and-l, and-r, both, or-cases, or-right}
+use Rattle.lists.proofs.Bools.{test, and-l, and-r, both, or-cases, or-right, or-none}
 use Rattle.lists.proofs.Lists.{all-each, each-all, mem-below}
 use Rattle.masks.specs.Masks.{has}
 use Rattle.masks.proofs.Bits.{has-none, has-insert}
@@ -41,10 +41,6 @@ module _ {A : Type 0} where
   getD-repeat zero i a = refl
   getD-repeat (suc n) zero a = refl
   getD-repeat (suc n) (suc i) a = getD-repeat n i a
-
-or-none : (a b : Bool) → a || b ≡ false → a ≡ false
-or-none true b e = e
-or-none false b e = refl
 
 -- ---- each command keeps it
 sound-shape : (d : Draft) (v a k i : ℕ) → withinLimits (d .policy) (Shape v a k i) ≡ true → Sound (after d (Shape v a k i))

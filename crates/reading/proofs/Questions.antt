@@ -1,22 +1,20 @@
 -- The questions of reading, over plain values: what each command's case says, what a "no" gives, and what holds where every answer is "yes".
 -- Assumes nothing.
-use Prim.Native.Nat.{ℕ, suc, _+_, _-_, _*_, _^_, _≤_, _<_}
+use Prim.Native.Nat.{ℕ, suc, _+_, _-_, _^_, _≤_, _<_}
 use native.Mathlib.Omega.{arith}
-use native.Mathlib.Nat.{mul-le-mul}
-use native.Mathlib.Decide.{decLt}
-use mathlib.Core.Path.{_≡_, refl, sym, _∙_}
-use mathlib.Core.Bool.{Bool, true, false, not, _&&_, cond, true≢false}
+use mathlib.Core.Path.{_≡_, refl}
+use mathlib.Core.Bool.{Bool, true, false, _&&_, cond}
 use mathlib.Core.List.{List}
 use lib.Dec.{ltb}
 use lib.ListN.{length, getD}
-use lib.Pow.{pow-pos}
 use borrow.Author.Tests.{ltb-true, leb-true, lt-ltb, le-ltb, le-leb, lt-leb, eq-eqb}
 use Rattle.lists.specs.Lists.{all, below}
 use Rattle.lists.proofs.Bools.{and-l, and-r, bool-ext}
 use Rattle.lists.proofs.Lists.{all-each, each-all, mem-below, below-lt}
 use Rattle.lists.specs.Questions.{ask}
 use Rattle.masks.specs.Masks.{has, inside}
-use Rattle.masks.proofs.Bits.{inside-all, all-inside, has-high, has-full}
+use Rattle.masks.proofs.Bits.{inside-all, all-inside, has-full}
+use Rattle.masks.proofs.Members.{full-lt}
 use Rattle.policy.specs.declared.Policy.{Policy}
 use Rattle.policy.specs.Policies.{edges, edgeOf}
 use Rattle.policy.proofs.Laws.{edge-lt}
@@ -24,21 +22,6 @@ use Rattle.reading.specs.declared.Draft.{Draft}
 use Rattle.reading.specs.declared.Command.{Command}
 use Rattle.reading.specs.declared.Command.the-variants.{Edge}
 use Rattle.reading.specs.Reading.{Bounded, allGiven, commandAt, commandKnown, completeAtEnd, firstTime, inPlace, operandCount, operandsThere, refusalOf, withinLimits}
-
--- ---- numbers and tests
-pub product-lt : {a b : ℕ} → a < 256 → b < 256 → a * b < 65536
-product-lt h g = omega (arith, mul-le-mul (h' h) (h' g))
-  where
-    h' : {x : ℕ} → x < 256 → x ≤ 255
-    h' k = omega arith
-
-pub later-not : (b : Bool) → not b ≡ cond b false (not false)
-later-not true = refl
-later-not false = refl
-
-pub first-is : (b : Bool) → b ≡ cond b true (not true)
-first-is true = refl
-first-is false = refl
 
 -- ---- operands
 pub shape-count : {c : ℕ} → c ≡ 1 → operandCount c ≡ 4
@@ -73,13 +56,6 @@ module _ {p : Policy} (bounded : Bounded p) where
       let w = and-l in-states in-letters r in
       let u = and-r in-states in-letters r in
       omega (arith, edge-lt p v a (ltb-true v (p .states) w) (ltb-true a (p .letters) u), bounded .few-edges)
-
-full-lt : (n e : ℕ) → has (2 ^ n - 1) e ≡ true → e < n
-full-lt n e t = go (decLt e n)
-  where
-    go : Dec (e < n) → e < n
-    go (yes h) = h
-    go (no h) = absurd (true≢false (sym t ∙ has-high n e (2 ^ n - 1) (omega (arith, pow-pos n)) (omega arith)))
 
 -- every edge below n is given exactly where the full set of them lies inside the given one
 pub full-given : (given n : ℕ) → inside (2 ^ n - 1) given ≡ allGiven given n

@@ -6,14 +6,14 @@ use native.Mathlib.Nat.{le-refl}
 use native.Mathlib.Decide.{ℕ-discrete, decLt}
 use mathlib.Core.Path.{_≡_, refl, sym, ap, _∙_, subst}
 use mathlib.Core.Logic.{_⊎_, inl, inr, _≢_}
-use mathlib.Core.Bool.{Bool, true, false, not, _||_, cond, true≢false, false≢true}
+use mathlib.Core.Bool.{Bool, true, false, not, cond, true≢false, false≢true}
 use mathlib.Core.List.{List, [], List·Memᴰ}
-use lib.Dec.{eqb, ltb, leb}
+use lib.Dec.{eqb, ltb}
 use lib.ListN.{length, getD, set, length-set}
 use lib.Seq.{getD-set-same, getD-set-other}
 use Rattle.lists.specs.Lists.{filter, firstOr}
-use Rattle.lists.proofs.Lists.{filter-mem}
-use Rattle.lists.proofs.Bools.{test, eqb≡, ≡eqb, neqb, lt-true, lt-false, le-false, or-left, or-right, not-true}
+use Rattle.lists.proofs.Lists.{filter-mem, first-cases}
+use Rattle.lists.proofs.Bools.{test, eqb≡, ≡eqb, neqb, lt-true, lt-false, not-true}
 use Rattle.masks.specs.Masks.{has}
 use Rattle.masks.proofs.Bits.{inside-all}
 use Rattle.policy.specs.declared.Policy.{Policy}
@@ -28,7 +28,6 @@ use Rattle.automaton.specs.Automaton.{orElse, deepest, lead, leaves, leafAfter,
 use Rattle.automaton.specs.Stages.{endOf, firstOver, Nodes, Ends, States}
 use Rattle.rows.specs.Rows.{ParentColumn, LeafColumn, AscendsIn, LowerBound, Narrowed, Met, raisedTo}
 use Rattle.automaton.proofs.EdgeRuns.{Good}
-use Rattle.automaton.proofs.Next.{first-cases}
 use Rattle.automaton.proofs.Branch.{of-child, chain-inside, child-lt, child-between, lead-is, deepest-mem, deepest-under, deepest-at}
 use Rattle.automaton.proofs.Leaves.{Meets, of-leaf, leaf-under, leaves-good, leaf-after-good, meets, root-with, with-root, after-out}
 use Rattle.automaton.proofs.Tables.{number-at}
@@ -379,17 +378,6 @@ module _ (p : Policy) (ends entries : List ℕ) (e l : ℕ) (met : Bool) (at chi
           sym (target-first p (a .0) entries (b .2) e (a .1) l stands met at child priority (a .3) t r₀ r q ended (λ i j. none (omega (arith, b .4)) (omega (arith, b .1 .ends-are at at-lt))) (bound at r w))
 
 -- ---- searches in an ascending run
-pub hint-in : (from to h : ℕ) → (ltb h from || leb to h) ≡ false → (from ≤ h) × (h < to)
-hint-in from to h e = (go (test (ltb h from)), over (test (leb to h)))
-  where
-    go : (ltb h from ≡ true) ⊎ (ltb h from ≡ false) → from ≤ h
-    go (inl t) = absurd (true≢false (sym (or-left (ltb h from) (leb to h) t) ∙ e))
-    go (inr f) = lt-false h from f
-
-    over : (leb to h ≡ true) ⊎ (leb to h ≡ false) → h < to
-    over (inl t) = absurd (true≢false (sym (or-right (ltb h from) (leb to h) t) ∙ e))
-    over (inr f) = le-false to h f
-
 module _ (l : List ℕ) (from to x : ℕ) where
   pub narrowed-up : (low high m : ℕ) → AscendsIn l from to → Narrowed l from to x low high → low ≤ m → m < high → getD l m 0 < x → Narrowed l from to x (m + 1) high
   narrowed-up low high m s r a b q = record { from-low = omega (arith, r .from-low); low-high = omega arith; high-to = r .high-to; before = λ i j k. go i j (ℕ-discrete i m) k; after = r .after }

@@ -9,10 +9,10 @@ use mathlib.Core.Logic.{_⊎_, inl, inr}
 use mathlib.Core.Bool.{true}
 use mathlib.Core.List.{List, List·Memᴰ, map}
 use lib.Arith.{digits-div, digits-mod, digits-lt}
-use lib.ListN.{length, getD, set, replicate, length-set, length-map}
+use lib.ListN.{length, getD, set, replicate, length-set}
 use lib.Seq.{getD-set-same, getD-set-other, getD-append-add, ext-getD}
 use Rattle.lists.specs.Lists.{below}
-use Rattle.lists.proofs.Lists.{length-below, getD-map-below, length-pieces, getD-pieces}
+use Rattle.lists.proofs.Lists.{getD-map-below, length-pieces, getD-pieces, length-map-below}
 use Rattle.tables.specs.Tables.{padded, zeros}
 use Rattle.tables.proofs.Tables.{length-padded, getD-padded}
 use Rattle.policy.specs.declared.Policy.{Policy}
@@ -79,29 +79,26 @@ module _ (l : List ℕ) where
       go i (no q) (inl u) = u ∙ ap (λ (x : List ℕ). getD x i 0) z ∙ zero-at (length t₀) i ∙ sym (padded-past (length t₀) l i (omega arith))
 
 -- ---- the rows by state and letter
-row-long : (f : ℕ → ℕ) (k : ℕ) → length (map f (below k)) ≡ k
-row-long f k = length-map (below k) f ∙ length-below k
-
 module _ (p : Policy) where
   pub length-targets : length (rowTargets p) ≡ length (built p) * p .letters
   unfolding rowTargets
-  length-targets = length-pieces (λ (s : ℕ). map (rowTarget p s) (below (p .letters))) (p .letters) (λ s. row-long (rowTarget p s) (p .letters)) (length (built p))
+  length-targets = length-pieces (λ (s : ℕ). map (rowTarget p s) (below (p .letters))) (p .letters) (λ s. length-map-below (rowTarget p s) (p .letters)) (length (built p))
 
   pub length-priorities : length (rowPriorities p) ≡ length (built p) * p .letters
   unfolding rowPriorities
-  length-priorities = length-pieces (λ (s : ℕ). map (rowPriority p s) (below (p .letters))) (p .letters) (λ s. row-long (rowPriority p s) (p .letters)) (length (built p))
+  length-priorities = length-pieces (λ (s : ℕ). map (rowPriority p s) (below (p .letters))) (p .letters) (λ s. length-map-below (rowPriority p s) (p .letters)) (length (built p))
 
   module _ (s a : ℕ) (h : s < length (built p)) (k : a < p .letters) where
     pub target-in : getD (rowTargets p) (s * p .letters + a) 0 ≡ rowTarget p s a
     unfolding rowTargets
     target-in =
-        getD-pieces (λ (s : ℕ). map (rowTarget p s) (below (p .letters))) (p .letters) (λ s. row-long (rowTarget p s) (p .letters)) (length (built p)) s a 0 h k
+        getD-pieces (λ (s : ℕ). map (rowTarget p s) (below (p .letters))) (p .letters) (λ s. length-map-below (rowTarget p s) (p .letters)) (length (built p)) s a 0 h k
         ∙ getD-map-below (rowTarget p s) (p .letters) a 0 k
 
     pub priority-in : getD (rowPriorities p) (s * p .letters + a) 0 ≡ rowPriority p s a
     unfolding rowPriorities
     priority-in =
-        getD-pieces (λ (s : ℕ). map (rowPriority p s) (below (p .letters))) (p .letters) (λ s. row-long (rowPriority p s) (p .letters)) (length (built p)) s a 0 h k
+        getD-pieces (λ (s : ℕ). map (rowPriority p s) (below (p .letters))) (p .letters) (λ s. length-map-below (rowPriority p s) (p .letters)) (length (built p)) s a 0 h k
         ∙ getD-map-below (rowPriority p s) (p .letters) a 0 k
 
     pub row-lt : s * p .letters + a < length (built p) * p .letters

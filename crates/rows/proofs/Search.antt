@@ -12,7 +12,7 @@ use lib.Dec.{eqb, ltb, lt→ltb}
 use lib.ListN.{length, getD}
 use Rattle.lists.specs.Lists.{any, filter, firstOr}
 use Rattle.lists.proofs.Bools.{test, T→≡, ≡eqb, neqb, lt-true}
-use Rattle.lists.proofs.Lists.{some-any, filter-mem, mem-filter, mem-at, ascending-filter}
+use Rattle.lists.proofs.Lists.{some-any, filter-mem, mem-filter, mem-at, ascending-filter, first-le}
 use Rattle.policy.specs.declared.Policy.{Policy}
 use Rattle.policy.specs.Policies.{targetOf}
 use Rattle.graph.specs.Cycles.{contains}
@@ -24,7 +24,7 @@ use Rattle.automaton.specs.Automaton.{Built, next, deepest, lead, kids, isLeaf,
 use Rattle.automaton.specs.Stages.{endOf, firstOver}
 use Rattle.rows.specs.Rows.{LeafColumn, AscendsIn, LowerBound}
 use Rattle.automaton.proofs.EdgeRuns.{Good}
-use Rattle.automaton.proofs.Next.{first-le, next-above}
+use Rattle.automaton.proofs.Next.{next-above}
 use Rattle.automaton.proofs.Branch.{chain-inside, child-above, child-lt, child-between, lead-is}
 use Rattle.automaton.proofs.Leaves.{LeafUnder, Meets, kid, is-kid, kids-ascend, leaf-contains, leaf-childless, leaf-of, of-leaf, leaves-ascend, entered-next, entered-kid, inner-kid, after-at, after-in, leaf-under, first-below, first-good}
 use Rattle.automaton.proofs.Tables.{Earlier, built-ordered, built-good, number-at}

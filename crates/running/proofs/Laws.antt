@@ -1,6 +1,5 @@
 -- Question 8 of running: its five answers, the number of states that they give, and that a state and a letter have a row. Assumes nothing.
-use Prim.Native.Nat.{ℕ, _+_, _*_, _/_, _%_, _≤_, _<_}
-use native.Mathlib.Nat.{div-mul-le-self, mul-le-mul-right, suc-mul}
+use Prim.Native.Nat.{ℕ, _/_, _%_, _≤_, _<_}
 use native.Mathlib.Omega.{arith}
 use mathlib.Core.Path.{_≡_, refl}
 use mathlib.Core.Logic.{_⊎_, inl, inr}
@@ -11,10 +10,6 @@ use lib.ListN.{length}
 use borrow.Author.Tests.{le-leb, eq-eqb}
 use Rattle.lists.proofs.Bools.{test, and-l, and-r, eqb≡, le-true}
 use Rattle.running.specs.Running.{shaped, rowStates, statesOf}
-
--- a state and a letter in range have a row
-pub row-lt : (n k s a : ℕ) → s < n / k → a < k → s * k + a < n
-row-lt n k s a h g = omega (arith, div-mul-le-self n k, mul-le-mul-right k h, suc-mul s k)
 
 module _ (letters : ℕ) (targets priorities : List ℕ) where
   -- question 8, answered yes

@@ -3,31 +3,35 @@
 -- Assumes nothing.
 use Prim.Native.Nat.{ℕ, zero, suc, _+_, _-_, _*_, _/_, _%_, _^_, _≤_, _<_, min}
 use native.Mathlib.Omega.{arith}
-use native.Mathlib.Nat.{add-zero, zero-add, add-suc, suc-add, mod-lt, div-add-mod'}
+use native.Mathlib.Nat.{zero-add, mod-lt, div-add-mod'}
 use native.Mathlib.Decide.{ℕ-discrete, decLt, decLe}
 use native.Mathlib.Numerals.{add-one}
 use mathlib.Core.Path.{_≡_, refl, sym, ap, ap₂, _∙_, subst}
 use mathlib.Core.Logic.{_⊎_, inl, inr, _≢_}
-use mathlib.Core.Bool.{Bool, true, false, not, _&&_, cond, true≢false}
-use mathlib.Core.List.{List, [], _∷_, _++_, map, append-nil, append-assoc, map-append, List·Memᴰ, List·Memᴰ·head, List·Memᴰ·tail}
+use mathlib.Core.Bool.{Bool, true, false, not, _&&_, true≢false}
+use mathlib.Core.List.{List, [], _∷_, _++_, map, append-nil, append-assoc, map-append, List·Memᴰ}
 use lib.Bits.{bitAnd, and-le-r}
 use lib.Dec.{eqb, ltb, leb}
-use lib.ListN.{length, getD, set, drop, replicate, length-append, length-set, length-map, length-replicate, replicate-append-replicate, List·getD-map}
+use lib.ListN.{length, getD, set, replicate, length-append, length-set, length-map, length-replicate, List·getD-map}
 use lib.Pow.{pow-pos, shr-shr}
-use lib.Seq.{sets, length-sets, sets-eq, getD-set-same, getD-set-other}
-use borrow.Author.Tests.{lt-ltb, le-ltb, le-leb}
+use lib.Seq.{sets, getD-set-same, getD-set-other}
+use borrow.Author.Tests.{lt-ltb, le-ltb}
 use Rattle.lists.specs.Lists.{any, filter, flat, below}
-use Rattle.lists.proofs.Bools.{test, eqb≡, ≡eqb, le-true, and-l, and-r, both, bool-ext, not-true, not-false}
-use Rattle.lists.proofs.Lists.{any-some, some-any, none-any, none-true, mem-below, below-lt, flat-mem, map-mem}
-use Rattle.tables.specs.Tables.{padded, zeros}
+use Rattle.lists.proofs.Bools.{test, eqb≡, ≡eqb, le-true, both, bool-ext, not-true, not-false}
+use Rattle.lists.proofs.Lists.{some-any, none-true, mem-below, below-lt, flat-mem, map-mem}
+use Rattle.lists.proofs.Filters.{filter-append, filter-all, filter-none}
+use Rattle.lists.proofs.Numbers.{leb-min}
+use Rattle.tables.specs.Tables.{padded, zeros, Stored}
 use Rattle.tables.proofs.Tables.{getD-padded}
+use Rattle.tables.proofs.Stores.{stored-none, stored-length, stored-join, stored-one, stored-more, sets-padded}
 use Rattle.masks.specs.Masks.{has}
-use Rattle.masks.proofs.Bits.{has-and, has-none, has-full, mask-ext-to}
+use Rattle.masks.proofs.Bits.{has-and, has-full}
+use Rattle.masks.proofs.Members.{some-nonzero, some-bit}
 use Rattle.policy.specs.declared.Policy.{Policy}
 use Rattle.policy.specs.Policies.{edgeOf, source, legal}
 use Rattle.policy.proofs.Laws.{legal-counts, edges-le, source-edge, edge-lt}
 use Rattle.graph.specs.Cycles.{contains}
-use Rattle.graph.proofs.Cycles.{some-nonzero, contains-some, some-contains}
+use Rattle.graph.proofs.Cycles.{contains-some, some-contains}
 use Rattle.forest.specs.Forest.{Node, forest, chain, childOf}
 use Rattle.forest.specs.Laws.{ForestLaws, maskAt}
 use Rattle.forest.proofs.Chains.{chain-le}
@@ -35,20 +39,12 @@ use Rattle.forest.proofs.Forest.{forest-laws}
 use Rattle.automaton.specs.Automaton.{Built, orElse, holds, isLeaf, leaves, statesOver, builtStates, built, stateAt, start}
 use Rattle.automaton.specs.Stages.{endOf, firstOver, States}
 use Rattle.automaton.specs.Automaton.{places, stateSources, stateLeaves}
-use Rattle.states.specs.Placing.{MaskColumn, builtBelow, leavesBelow, leavesOver, Stored, Filled}
+use Rattle.states.specs.Placing.{MaskColumn, builtBelow, leavesBelow, leavesOver, Filled}
 use Rattle.automaton.proofs.Branch.{child-above, child-lt, child-between}
 use Rattle.automaton.proofs.Ends.{end-gt, end-le, under-end, end-under, end-mono, child-ends}
 use Rattle.rows.proofs.Search.{over-le, first-number}
 
 -- ---- the edges that leave a state
--- a number that is not 0 has a bit
-some-bit : (k x : ℕ) → x < 2 ^ k → x ≢ 0 → (e : ℕ) × (e < k) × (has x e ≡ true)
-some-bit k x h n = go (test (any (has x) (below k)))
-  where
-    go : (any (has x) (below k) ≡ true) ⊎ (any (has x) (below k) ≡ false) → (e : ℕ) × (e < k) × (has x e ≡ true)
-    go (inl t) = let r = any-some (has x) (below k) t in (r .0, below-lt k (r .0) (r .1), r .2)
-    go (inr f) = absurd (n (mask-ext-to k x 0 h (pow-pos k) (λ e q. none-any (has x) (below k) f e (mem-below k e q) ∙ sym (has-none e))))
-
 has-shift : (m k e : ℕ) → has (m / 2 ^ k) e ≡ has m (k + e)
 unfolding has
 has-shift m k e = ap (λ (x : ℕ). eqb (x % 2) 1) (shr-shr m k e)
@@ -193,59 +189,7 @@ pub column-contains : (p : Policy) (masks : List ℕ) → MaskColumn p masks →
     → contains p v (maskAt (forest p) n) ≡ c
 column-contains p masks col v n b c h e t = ap (contains p v) (sym (col .are n h)) ∙ sym e ∙ t
 
--- ---- entries written one after the other
-sets-append : (xs ys l : List ℕ) (i : ℕ) → sets l i (xs ++ ys) ≡ sets (sets l i xs) (i + length xs) ys
-sets-append [] ys l i = ap (λ (k : ℕ). sets l k ys) (sym (add-zero i))
-sets-append (x ∷ xs) ys l i =
-    sets-append xs ys (set l i x) (suc i) ∙ ap (λ (k : ℕ). sets (sets (set l i x) (suc i) xs) k ys) (suc-add i (length xs) ∙ sym (add-suc i (length xs)))
-
-pub stored-none : (t : List ℕ) (at : ℕ) → Stored t t at at []
-stored-none t at = record { now-is = refl; next-is = omega arith }
-
-pub stored-length : {t₀ t : List ℕ} {at next : ℕ} {xs : List ℕ} → Stored t₀ t at next xs → length t ≡ length t₀
-stored-length {t₀} {t} {at} {next} {xs} s = ap length (s .now-is) ∙ length-sets t₀ at xs
-
-pub stored-join : {t₀ t₁ t₂ : List ℕ} {at i j : ℕ} {xs ys : List ℕ} → Stored t₀ t₁ at i xs → Stored t₁ t₂ i j ys → Stored t₀ t₂ at j (xs ++ ys)
-stored-join {t₀} {t₁} {t₂} {at} {i} {j} {xs} {ys} a b = record {
-  now-is = b .now-is ∙ ap (λ (k : ℕ). sets t₁ k ys) (a .next-is) ∙ ap (λ (l : List ℕ). sets l (at + length xs) ys) (a .now-is) ∙ sym (sets-append xs ys t₀ at);
-  next-is = omega (arith, a .next-is, b .next-is, length-append xs ys);
-}
-
-pub stored-one : (t : List ℕ) (at x : ℕ) → Stored t (set t at x) at (at + 1) (x ∷ [])
-stored-one t at x = record { now-is = refl; next-is = omega arith }
-
-stored-more : {t₀ t : List ℕ} {at next : ℕ} {xs : List ℕ} → Stored t₀ t at next xs → (x : ℕ) → Stored t₀ (set t next x) at (next + 1) (xs ++ (x ∷ []))
-stored-more {t₀} {t} {at} {next} {xs} s x = stored-join s (stored-one t next x)
-
--- one entry, again and again
-pub replicate-none : (t : List ℕ) (from v : ℕ) → t ≡ sets t from (replicate (from - from) v)
-replicate-none t from v = let e : 0 ≡ from - from = omega arith in ap (λ (k : ℕ). sets t from (replicate k v)) e
-
-pub replicate-more : (t₀ t : List ℕ) (from i v : ℕ) → from ≤ i → t ≡ sets t₀ from (replicate (i - from) v) → set t i v ≡ sets t₀ from (replicate (i + 1 - from) v)
-replicate-more t₀ t from i v h e =
-    let k : ℕ = i - from in
-    let e₁ : i + 1 - from ≡ k + 1 = omega arith in
-    let s : Stored t₀ t from i (replicate k v) = record { now-is = e; next-is = omega (arith, length-replicate k v) } in
-    stored-more s v .now-is ∙ ap (sets t₀ from) (replicate-append-replicate k 1 v ∙ ap (λ (j : ℕ). replicate j v) (sym e₁))
-
 -- ---- the leaves of a state
-module _ {A : Type 0} where
-  filter-append : (t : A → Bool) (l r : List A) → filter t (l ++ r) ≡ filter t l ++ filter t r
-  filter-append t [] r = refl
-  filter-append t (x ∷ l) r = go (t x) (filter-append t l r)
-    where
-      go : (b : Bool) → filter t (l ++ r) ≡ filter t l ++ filter t r → cond b (x ∷ filter t (l ++ r)) (filter t (l ++ r)) ≡ cond b (x ∷ filter t l) (filter t l) ++ filter t r
-      go true e = ap (λ (z : List A). x ∷ z) e
-      go false e = e
-
-  filter-all : (t : A → Bool) (l : List A) → ((x : A) → List·Memᴰ x l → t x ≡ true) → filter t l ≡ l
-  filter-all t [] h = refl
-  filter-all t (x ∷ l) h = rw (h x (List·Memᴰ·head refl)) (ap (λ (z : List A). x ∷ z) (filter-all t l (λ y m. h y (List·Memᴰ·tail m))))
-
-  filter-none : (t : A → Bool) (l : List A) → ((x : A) → List·Memᴰ x l → t x ≡ false) → filter t l ≡ []
-  filter-none t [] h = refl
-  filter-none t (x ∷ l) h = rw (h x (List·Memᴰ·head refl)) (filter-none t l (λ y m. h y (List·Memᴰ·tail m)))
-
 module _ (p : Policy) (v : ℕ) where
   leaves-next : (n : ℕ) → leavesBelow p v (n + 1) ≡ leavesBelow p v n ++ filter (isLeaf (forest p) p v) (n ∷ [])
   unfolding leavesBelow
@@ -436,23 +380,6 @@ module _ (p : Policy) (sources₀ leaves₀ : List ℕ) where
         go u i (no z) = getD-set-other starts (v + 1) u next 0 z ∙ r .starts-are u (omega arith)
 
 -- ---- the tables at the end
-drop-replicate : (k n x : ℕ) → drop k (replicate n x) ≡ replicate (n - k) x
-drop-replicate zero n x = let e : n ≡ n - 0 = omega arith in ap (λ (j : ℕ). replicate j x) e
-drop-replicate (suc k) zero x = let e : 0 ≡ 0 - suc k = omega arith in ap (λ (j : ℕ). replicate j x) e
-drop-replicate (suc k) (suc n) x = let e : n - k ≡ suc n - suc k = omega arith in drop-replicate k n x ∙ ap (λ (j : ℕ). replicate j x) e
-
-sets-padded : (t xs : List ℕ) → t ≡ zeros t → length xs ≤ length t → sets t 0 xs ≡ padded (length t) xs
-unfolding zeros padded
-sets-padded t xs z h =
-    let e : 0 + length xs ≡ length xs = omega arith in
-    let l : 0 + length xs ≤ length t = omega arith in
-    sets-eq xs t 0 l ∙ ap (λ (n : ℕ). xs ++ drop n t) e ∙ ap (λ (r : List ℕ). xs ++ drop (length xs) r) z ∙ ap (λ (r : List ℕ). xs ++ r) (drop-replicate (length xs) (length t) 0)
-
-leb-min : (a b c : ℕ) → leb a b && leb a c ≡ leb a (min b c)
-leb-min a b c =
-    bool-ext (leb a b && leb a c) (leb a (min b c)) (λ t. le-leb a (min b c) (omega (arith, le-true a b (and-l (leb a b) (leb a c) t), le-true a c (and-r (leb a b) (leb a c) t))))
-    (λ t. let l = le-true a (min b c) t in both (leb a b) (leb a c) (le-leb a b (omega arith)) (le-leb a c (omega arith)))
-
 module _ (p : Policy) (sources₀ leaves₀ : List ℕ) where
   pub placing-all : (sources leaves starts : List ℕ) (v at : ℕ) → Placing p sources₀ leaves₀ sources leaves starts v at → p .states ≤ v
       → length sources₀ ≡ length leaves₀ → sources₀ ≡ zeros sources₀ → leaves₀ ≡ zeros leaves₀

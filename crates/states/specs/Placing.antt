@@ -1,12 +1,11 @@
 -- What the stage that writes the built states hands over: the masks that it reads, the states over the first policy states, the leaves of one state, and the tables
 -- at its end.
-use Prim.Native.Nat.{ℕ, _+_, _≤_, _<_}
+use Prim.Native.Nat.{ℕ, _≤_, _<_}
 use mathlib.Core.Path.{_≡_}
 use mathlib.Core.Bool.{Bool, true}
 use mathlib.Core.List.{List, map}
 use lib.Dec.{leb}
 use lib.ListN.{length, getD}
-use lib.Seq.{sets}
 use Rattle.lists.specs.Lists.{filter, flat, below}
 use Rattle.tables.specs.Tables.{padded}
 use Rattle.policy.specs.declared.Policy.{Policy}
@@ -33,11 +32,6 @@ module _ (p : Policy) where
   -- the leaves of the states over v
   unfoldable pub leavesOver : ℕ → List ℕ
   leavesOver v = orElse 65535 (leaves (forest p) p v)
-
--- t is t₀ with xs written from `at` on, as far as it has places; `next` is the place after them
-pub record Stored (t₀ t : List ℕ) (at next : ℕ) (xs : List ℕ) : Type 0 where
-  pub now-is : t ≡ sets t₀ at xs
-  pub next-is : next ≡ at + length xs
 
 -- the state tables at the end: whether the built states fit, how many there are, where those over each policy state begin; the tables hold them where they fit
 pub record Filled (p : Policy) (sources₀ leaves₀ sources leaves : List ℕ) (fits : Bool) (count : ℕ) (starts : List ℕ) : Type 0 where

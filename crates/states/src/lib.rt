@@ -5,13 +5,13 @@ ghost use mathlib.Core.Bool.{true};
 ghost use Prim.Native.Nat.{_+_, _-_, _≤_, _<_};
 ghost use lib.ListN.{length, set, replicate};
 ghost use lib.Seq.{sets};
-ghost use Rattle.tables.specs.Tables.{zeros};
+ghost use Rattle.tables.specs.Tables.{zeros, Stored};
 ghost use Rattle.policy.specs.Policies.{legal};
 ghost use Rattle.graph.specs.Cycles.{contains};
 ghost use Rattle.forest.specs.Forest.{forest};
 ghost use Rattle.automaton.specs.Automaton.{isLeaf, built, start};
 ghost use Rattle.automaton.specs.Stages.{Ends, Starts};
-ghost use Rattle.states.specs.Placing.{MaskColumn, leavesBelow, leavesOver, Stored, Filled};
+ghost use Rattle.states.specs.Placing.{MaskColumn, leavesBelow, leavesOver, Filled};
 
 // Whether an edge of m leaves state v. The edges that leave v stand side by side.
 pub fn contains_state(p: Policy, v: usize, m: u64) -> bool

@@ -14,6 +14,7 @@ use lib.ListN.{length, getD, take, drop, set, length-append, length-set, length-
 use lib.Seq.{sets, length-sets, getD-append-add, getD-set-same, getD-set-other, take-suc, take-all, getD-take, length-take-le}
 use Rattle.lists.specs.Lists.{Distinct, flat}
 use Rattle.lists.proofs.Lists.{getD-mem}
+use Rattle.tables.proofs.Stores.{sets-append, sets-first, sets-head}
 use Rattle.policy.specs.declared.Policy.{Policy}
 use Rattle.policy.specs.Policies.{edges, accepting}
 use Rattle.graph.proofs.Cycles.{cycle-lt}
@@ -29,7 +30,7 @@ use Rattle.candidates.proofs.Candidates.{candidate-cycle, judged-distinct, chil
 use Rattle.candidates.proofs.LargerFirst.{larger-first}
 use Rattle.forest.proofs.Levels.{levels-some, levels-child}
 use Rattle.trees.proofs.Subtrees.{length-parents, parents-moved, parents-few, row-none-masks, row-none-parents, row-more-masks, row-more-parents, length-row, tree-masks, tree-parents}
-use Rattle.trees.proofs.Stores.{sets-append, sets-first, sets-head, part-sets, part-at}
+use Rattle.trees.proofs.Stores.{part-sets, part-at}
 
 -- ---- the positions found stay
 pub found-again : {l : List ℕ} {x : ℕ} {ks ks′ : List ℕ} {n : ℕ} → ChildrenFound l x ks n → take n ks′ ≡ take n ks → ChildrenFound l x ks′ n

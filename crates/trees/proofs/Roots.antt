@@ -4,15 +4,16 @@ use native.Mathlib.Omega.{arith}
 use native.Mathlib.Decide.{decLt}
 use native.Mathlib.Nat.{mul-le-mul-right}
 use native.Mathlib.Numerals.{add-one}
-use mathlib.Core.Path.{_≡_, refl, sym, ap, _∙_, subst}
+use mathlib.Core.Path.{_≡_, sym, ap, _∙_, subst}
 use mathlib.Core.Logic.{_⊎_, inl, inr, _≢_}
 use mathlib.Core.Bool.{Bool, true, false, true≢false}
-use mathlib.Core.List.{List, [], _∷_, _++_, List·Memᴰ, List·Memᴰ·head, List·Memᴰ·tail}
+use mathlib.Core.List.{List, [], _∷_, _++_, List·Memᴰ}
 use lib.ListN.{length, getD, take, length-map, List·getD-eq-default}
 use lib.Seq.{sets, take-all}
 use Rattle.lists.specs.Lists.{filter, firstOr, Distinct}
 use Rattle.lists.proofs.Bools.{test, neqb}
-use Rattle.lists.proofs.Lists.{getD-mem}
+use Rattle.lists.proofs.Lists.{getD-mem, first-at}
+use Rattle.lists.proofs.Filters.{filter-all}
 use Rattle.policy.specs.declared.Policy.{Policy}
 use Rattle.policy.specs.Policies.{accepting, legal}
 use Rattle.graph.proofs.Cycles.{cycle-some}
@@ -31,17 +32,9 @@ use Rattle.trees.proofs.Subtrees.{tree-masks, forest-masks, forest-pare
 use Rattle.trees.proofs.Growing.{Row, row-none, row-more, row-over}
 
 -- ---- the next of some siblings in order
-filter-whole : (t : ℕ → Bool) (l : List ℕ) → ((x : ℕ) → List·Memᴰ x l → t x ≡ true) → filter t l ≡ l
-filter-whole t [] h = refl
-filter-whole t (x ∷ l) h = rw (h x (List·Memᴰ·head refl)) (ap {B = List ℕ} (λ z. x ∷ z) (filter-whole t l (λ y k. h y (List·Memᴰ·tail k))))
-
-first-at : (l : List ℕ) → firstOr 0 l ≡ getD l 0 0
-first-at [] = refl
-first-at (x ∷ l) = refl
-
 after-at : (l : List ℕ) → Ordered l → (j : ℕ) → j < length l → firstOr 0 (filter (before (getD l j 0)) l) ≡ getD l (suc j) 0
 after-at [] o j h = absurd (omega arith)
-after-at (x ∷ l) o zero h = rw (before-irreflexive x) (ap (firstOr 0) (filter-whole (before x) l (o .0)) ∙ first-at l)
+after-at (x ∷ l) o zero h = rw (before-irreflexive x) (ap (firstOr 0) (filter-all (before x) l (o .0)) ∙ first-at 0 l)
 after-at (x ∷ l) o (suc j) h = rw (back (test (before (getD l j 0) x))) (after-at l (o .1) j (omega arith))
   where
     back : (before (getD l j 0) x ≡ true) ⊎ (before (getD l j 0) x ≡ false) → before (getD l j 0) x ≡ false
@@ -54,7 +47,7 @@ next-at l o j h z = rw (neqb (getD l j 0) 0 z) (after-at l o j h ∙ ap (λ (i :
 
 next-first : (l : List ℕ) → nextIn 0 l ≡ getD l 0 0
 unfolding nextIn
-next-first l = first-at l
+next-first l = first-at 0 l
 
 nodes-many : (p : Policy) → length (nodeMasks p) ≡ length (forest p)
 unfolding nodeMasks

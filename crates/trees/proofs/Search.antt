@@ -6,13 +6,15 @@ use native.Mathlib.Decide.{ℕ-discrete}
 use native.Mathlib.Numerals.{add-one}
 use mathlib.Core.Path.{_≡_, refl, sym, ap, ap₂, _∙_, subst}
 use mathlib.Core.Logic.{_⊎_, inl, inr, _≢_}
-use mathlib.Core.Bool.{Bool, true, false, not, _||_, cond, true≢false}
+use mathlib.Core.Bool.{Bool, true, false, not, cond, true≢false}
 use mathlib.Core.List.{List, [], _∷_, _++_, append-assoc, List·Memᴰ, List·Memᴰ·head, List·Memᴰ·tail, List·Memᴰ·cases-cons, List·Memᴰ·not-nil, List·Memᴰ·append-cases, List·Memᴰ·eq-of-singleton, Memᴰ·cast}
 use lib.ListN.{length, getD, take, drop, set, length-map, length-set}
 use lib.Seq.{getD-set-same, getD-set-other, take-suc, take-all, drop-cons, set-split, drop-set-lt, take-suc-set, length-take-le, getD-take}
 use Rattle.lists.specs.Lists.{any, filter, Distinct}
 use Rattle.lists.proofs.Bools.{test, ≡eqb, and-l, and-r, both, not-true}
 use Rattle.lists.proofs.Lists.{any-some, none-any, filter-mem, mem-filter, getD-mem, map-mem}
+use Rattle.lists.proofs.Distinct.{distinct-filter}
+use Rattle.lists.proofs.Tests.{any-more, any-at}
 use Rattle.masks.specs.Masks.{inside, properly}
 use Rattle.masks.proofs.Bits.{inside-refl}
 use Rattle.forest.specs.Forest.{before, place, inOrder, largest}
@@ -20,27 +22,10 @@ use Rattle.forest.specs.Laws.{Ordered}
 use Rattle.candidates.specs.Siblings.{childrenIn, LargerFirst}
 use Rattle.trees.specs.Search.{masksAt, Positions, carried, outside, kept, ChildrenFound}
 use Rattle.forest.proofs.Order.{place-mem, mem-place, place-ordered, order-mem, mem-order, ordered-same}
-use Rattle.candidates.proofs.Distinct.{distinct-filter, distinct-ordered, distinct-largest}
+use Rattle.candidates.proofs.Distinct.{distinct-ordered, distinct-largest}
 use Rattle.forest.proofs.Largest.{kept-largest, largest-kept}
 
 -- ---- whether m lies inside none of those kept
-any-more : (t : ℕ → Bool) (xs : List ℕ) (x : ℕ) → any t xs ≡ false → t x ≡ false → any t (xs ++ (x ∷ [])) ≡ false
-any-more t [] x a b = rw b refl
-any-more t (y ∷ xs) x a b = go (test (t y)) (any-more t xs x)
-  where
-    go : (t y ≡ true) ⊎ (t y ≡ false) → (any t xs ≡ false → t x ≡ false → any t (xs ++ (x ∷ [])) ≡ false) → t y || any t (xs ++ (x ∷ [])) ≡ false
-    go (inl u) ih = absurd (true≢false (rw u at a))
-    go (inr u) ih = rw u (ih (rw u at a) b)
-
-any-last : (t : ℕ → Bool) (xs : List ℕ) (j : ℕ) → j < length xs → t (getD xs j 0) ≡ true → any t xs ≡ true
-any-last t [] j h u = absurd (omega arith)
-any-last t (x ∷ xs) zero h u = rw u refl
-any-last t (x ∷ xs) (suc j) h u = go (t x) (any-last t xs j (omega arith) u)
-  where
-    go : (b : Bool) → any t xs ≡ true → b || any t xs ≡ true
-    go true r = refl
-    go false r = r
-
 not-properly : (a b : ℕ) → inside a b ≡ false → properly a b ≡ false
 unfolding properly
 not-properly a b f = rw f refl
@@ -70,7 +55,7 @@ module _ (l : List ℕ) where
   unfolding outside
   outside-not ks n m j h k t =
       let long : length (take n ks) ≡ n = length-take-le n ks h in
-      ap not (any-last (inside m) (masksAt l (take n ks)) j (omega (arith, length-map (take n ks) (λ (k : ℕ). getD l k 0)))
+      ap not (any-at (inside m) (masksAt l (take n ks)) j 0 (omega (arith, length-map (take n ks) (λ (k : ℕ). getD l k 0)))
       (ap (inside m) (getD-masks (take n ks) j (omega arith) ∙ ap (λ (i : ℕ). getD l i 0) (getD-take n ks j 0 k)) ∙ t))
 
   pub outside-is : (ks : List ℕ) (n m j : ℕ) → j ≡ n → any (inside m) (masksAt l (take j ks)) ≡ false → outside l ks n m ≡ true

@@ -1,38 +1,15 @@
 -- Runs of stores: what they leave as it was, what they leave, and one run after the other. Assumes nothing.
 use Prim.Native.Nat.{ℕ, zero, suc, _+_, _-_, _≤_, _<_}
 use native.Mathlib.Omega.{arith}
-use native.Mathlib.Nat.{add-zero, add-suc, suc-add}
 use native.Mathlib.Numerals.{add-one}
 use mathlib.Core.Path.{_≡_, refl, sym, ap, ap₂, _∙_}
 use mathlib.Core.List.{List, [], _∷_, _++_, append-assoc}
 use lib.ListN.{length, getD, take, drop, set, length-drop, length-map}
-use lib.Seq.{set-set, set-comm, sets, length-sets, sets-eq, take-suc, take-set-le, take-at, drop-at, drop-set-add, getD-set-other, getD-take, getD-drop, length-take-le, take-all}
+use lib.Seq.{sets, length-sets, sets-eq, take-suc, take-set-le, take-at, drop-at, drop-set-add, getD-take, getD-drop, length-take-le, take-all}
+use Rattle.tables.proofs.Stores.{sets-append, sets-before}
 use Rattle.trees.specs.Stores.{part, moved}
 
--- ---- one run after the other
-pub sets-append : (xs ys l : List ℕ) (i : ℕ) → sets l i (xs ++ ys) ≡ sets (sets l i xs) (i + length xs) ys
-sets-append [] ys l i = ap (λ (k : ℕ). sets l k ys) (sym (add-zero i))
-sets-append (x ∷ xs) ys l i =
-    sets-append xs ys (set l i x) (suc i) ∙ ap (λ (k : ℕ). sets (sets (set l i x) (suc i) xs) k ys) (suc-add i (length xs) ∙ sym (add-suc i (length xs)))
-
--- the first is stored after the others
-pub sets-first : (x : ℕ) (xs l : List ℕ) (i : ℕ) → sets (set l i x) (i + 1) xs ≡ sets l i (x ∷ xs)
-sets-first x xs l i = ap (λ (k : ℕ). sets (set l i x) k xs) (add-one i)
-
--- a store before them
-set-sets : (xs l : List ℕ) (i k y : ℕ) → k < i → set (sets l i xs) k y ≡ sets (set l k y) i xs
-set-sets [] l i k y h = refl
-set-sets (x ∷ xs) l i k y h = set-sets xs (set l i x) (suc i) k y (omega arith) ∙ ap (λ (t : List ℕ). sets t (suc i) xs) (set-comm l i k x y (λ e. omega arith))
-
--- the first stored again
-pub sets-head : (x y : ℕ) (xs l : List ℕ) (i : ℕ) → set (sets l i (x ∷ xs)) i y ≡ sets l i (y ∷ xs)
-sets-head x y xs l i = set-sets xs (set l i x) (suc i) i y (omega arith) ∙ ap (λ (t : List ℕ). sets t (suc i) xs) (set-set l i x y)
-
 -- ---- what is left as it was
-sets-before : (xs l : List ℕ) (i k : ℕ) → k < i → getD (sets l i xs) k 0 ≡ getD l k 0
-sets-before [] l i k h = refl
-sets-before (x ∷ xs) l i k h = sets-before xs (set l i x) (suc i) k (omega arith) ∙ getD-set-other l i k x 0 (λ e. omega arith)
-
 part-set : (s k : ℕ) (l : List ℕ) (i x : ℕ) → k + s ≤ i → part s k (set l i x) ≡ part s k l
 part-set s k l i x h =
     let e : k + (i - k) ≡ i = omega arith in
@@ -79,7 +56,7 @@ module _ {xs t₀ : List ℕ} {at : ℕ} {t : List ℕ} {j : ℕ} (v : Copying x
   -- what stands before is still there to be read
   pub copying-read : (s from : ℕ) → from + s ≤ at → j < s → getD t (from + j) 0 ≡ getD (part s from t₀) j 0
   copying-read s from h k =
-      ap (λ (u : List ℕ). getD u (from + j) 0) (v .is) ∙ sets-before (take j xs) t₀ at (from + j) (omega arith) ∙ sym (getD-take s (drop from t₀) j 0 k ∙ getD-drop from t₀ j 0)
+      ap (λ (u : List ℕ). getD u (from + j) 0) (v .is) ∙ sets-before (take j xs) t₀ at (from + j) 0 (omega arith) ∙ sym (getD-take s (drop from t₀) j 0 k ∙ getD-drop from t₀ j 0)
 
 pub getD-moved : (d : ℕ) (l : List ℕ) (j : ℕ) → j < length l → getD (moved d l) j 0 ≡ getD l j 0 + d
 unfolding moved

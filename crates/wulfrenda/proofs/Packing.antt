@@ -1,14 +1,15 @@
 -- The laws of the record of a policy: the policy of a policy's record is that policy, the zero policy's record is all zero, and a record is filled by three stores.
 -- Assumes nothing.
-use Prim.Native.Nat.{ℕ, _+_, _≤_, _<_}
+use Prim.Native.Nat.{ℕ, _+_, _<_}
 use native.Mathlib.Omega.{arith}
 use mathlib.Core.Path.{_≡_, refl, sym, ap, ap₂, _∙_}
 use mathlib.Core.Bool.{Bool, true, false}
 use mathlib.Core.List.{List, [], _∷_, _++_, map, append-assoc}
 use lib.ListN.{length, getD, take, replicate, length-append, length-map, List·getD-append, List·getD-map}
-use lib.Seq.{sets, sets-eq, length-sets, length-take-le, take-all, take-at, ext-getD, getD-append-add}
+use lib.Seq.{sets, length-sets, take-all, ext-getD, getD-append-add}
 use Rattle.lists.specs.Lists.{below}
 use Rattle.lists.proofs.Lists.{length-below, getD-map-below}
+use Rattle.tables.proofs.Stores.{front-more}
 use Rattle.policy.specs.declared.Policy.{Policy}
 use Rattle.reading.specs.Reading.{zeroPolicy, counted}
 use Rattle.wulfrenda.specs.Records.{flag, isSet, bytesAt, flagsAt, policyOf, recordOf}
@@ -75,12 +76,6 @@ unfolding recordOf zeroPolicy counted
 zero-record = refl
 
 -- ---- to a record
-front-more : (t vs : List ℕ) (i n : ℕ) → length vs ≡ n → i + n ≤ length t → take (i + n) (sets t i vs) ≡ take i t ++ vs
-front-more t vs i n e h =
-    let l : i + length vs ≤ length t = omega arith in
-    rw (sets-eq vs t i l)
-    (take-at (take i t ++ vs) _ (i + n) (length-append (take i t) vs ∙ omega (arith, length-take-le i t (omega arith))))
-
 -- the counts stand in the first four places of t, and three stores do the rest
 pub stores : (p : Policy) → Sized p → (t u v w : List ℕ) → length t ≡ 388 → take 4 t ≡ p .states ∷ p .letters ∷ p .colours ∷ p .initial ∷ []
     → u ≡ sets t 4 (p .target) → v ≡ sets u 68 (p .colour) → w ≡ sets v 132 (map flag (p .family)) → w ≡ recordOf p

@@ -1,7 +1,7 @@
 -- `fill_built` meets its contract. Assumes nothing.
 use mathlib.Core.Path.{refl, sym}
-use Rattle.lists.proofs.Bools.{not-true}
-use Rattle.builder.proofs.FillingLaws.{unnot, mask-column, built-few, states-are, rows-fit, built-whole, built-none}
+use Rattle.lists.proofs.Bools.{not-true, unnot}
+use Rattle.builder.proofs.FillingLaws.{mask-column, built-few, states-are, rows-fit, built-whole, built-none}
 use borrow.Author.Needs.{needs}
 use Rattle.builder.proofs.fill_built.Statement.{statement}
 use Rattle.builder.proofs.fill_built.Tie as tie

@@ -1,7 +1,7 @@
 -- `is_times` meets its contract. Assumes nothing.
 use native.Mathlib.Omega.{arith}
 use borrow.Author.Needs.{needs}
-use Rattle.builder.proofs.FillingLaws.{times-fits, times-is}
+use Rattle.lists.proofs.Numbers.{times-fits, times-is}
 use Rattle.builder.proofs.is_times.Statement.{statement}
 use Rattle.builder.proofs.is_times.Tie as tie
 

@@ -3,7 +3,8 @@ use Prim.Native.Nat.{ℕ}
 use mathlib.Core.Path.{ap, _∙_}
 use lib.Bits.{bitAnd}
 use borrow.Author.Needs.{needs}
-use Rattle.candidates.proofs.Covered.{own-few, open-by-mask}
+use Rattle.graph.proofs.CodeLaws.{row-few}
+use Rattle.candidates.proofs.Covered.{open-by-mask}
 use Rattle.candidates.proofs.is_open.Statement.{statement}
 use Rattle.candidates.proofs.is_open.Tie as tie
 
@@ -11,7 +12,7 @@ cast-letters : tie.Need-cast-letters
 cast-letters c = search needs
 
 own-edges-requires : tie.Need-own-edges-requires
-own-edges-requires c κs = let s = c .before in own-few (s .args .p) (s .pre .0) (s .args .v) (s .pre .1)
+own-edges-requires c κs = let s = c .before in row-few (s .args .p) (s .pre .0) (s .args .v) (s .pre .1)
 
 both-requires : tie.Need-both-requires
 both-requires c κs = search needs

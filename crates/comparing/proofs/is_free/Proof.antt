@@ -8,8 +8,8 @@ use mathlib.Core.Bool.{true}
 use borrow.Author.Needs.{needs}
 use borrow.Author.Tests.{not-true, not-false}
 use Rattle.lists.specs.Lists.{all, below}
+use Rattle.lists.proofs.Tests.{all-more, all-not}
 use Rattle.comparing.specs.Pairs.{pairEdges, freeAt, isFree}
-use Rattle.comparing.proofs.Tests.{all-more, all-not}
 use Rattle.comparing.proofs.Suspects.{pair-edges-by}
 use Rattle.comparing.proofs.is_free.Statement.{statement}
 use Rattle.comparing.proofs.is_free.Tie as tie

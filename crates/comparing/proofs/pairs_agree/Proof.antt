@@ -8,10 +8,11 @@ use mathlib.Core.List.{List}
 use lib.ListN.{length, getD, length-replicate}
 use borrow.Author.Tests.{not-true, not-false}
 use Rattle.lists.specs.Lists.{all, below}
+use Rattle.lists.proofs.Tests.{all-more, all-not}
+use Rattle.lists.proofs.Numbers.{set-byte}
 use Rattle.policy.specs.Policies.{inFamily}
 use Rattle.policy.proofs.Laws.{legal-counts}
 use Rattle.comparing.specs.Pairs.{setAgrees, pairsAgree}
-use Rattle.comparing.proofs.Tests.{all-more, all-not, sets-few}
 use Rattle.comparing.proofs.pairs_agree.Statement.{statement}
 use Rattle.comparing.proofs.pairs_agree.Tie as tie
 
@@ -38,7 +39,7 @@ within : (c : tie.In-loop Inv-loop μ-loop) → c .before .loop .c < 2 ^ c .befo
 within c = omega (arith, c .before .before .sets .ensures, c .loop-test .taken)
 
 few : (c : tie.In-loop Inv-loop μ-loop) → c .before .loop .c < 256
-few c = let s = c .before .before .before .before .before in sets-few (s .args .p .colours) (c .before .loop .c) (legal-counts (s .args .p) (s .pre .0 .legal-p) .colours-few) (within c)
+few c = let s = c .before .before .before .before .before in set-byte (s .args .p .colours) (c .before .loop .c) (legal-counts (s .args .p) (s .pre .0 .legal-p) .colours-few) (within c)
 
 element-copy-out-verdict : tie.Need-element-copy-out-verdict Inv-loop μ-loop
 element-copy-out-verdict c = few c

@@ -10,10 +10,11 @@ use lib.ListN.{length}
 use borrow.Author.Needs.{needs}
 use borrow.Author.Tests.{not-true, not-false}
 use Rattle.lists.specs.Lists.{all, below}
+use Rattle.lists.proofs.Tests.{all-more, all-not}
+use Rattle.lists.proofs.Numbers.{set-byte}
 use Rattle.policy.specs.Policies.{coloursOf}
 use Rattle.policy.proofs.Laws.{legal-counts}
 use Rattle.comparing.specs.Pairs.{suspect, pairAgrees, setAgrees, suspectBy}
-use Rattle.comparing.proofs.Tests.{all-more, all-not, sets-few}
 use Rattle.comparing.proofs.Suspects.{edges-p, colours-p, missing-agrees, clear-agrees, suspect-agrees, suspect-by}
 use Rattle.comparing.proofs.set_agrees.Statement.{statement}
 use Rattle.comparing.proofs.set_agrees.Tie as tie
@@ -57,7 +58,7 @@ within : (c : tie.In-loop Inv-loop μ-loop) → c .before .loop .d < 2 ^ c .befo
 within c = omega (arith, c .before .before .sets .ensures, c .loop-test .taken)
 
 few : (c : tie.In-loop Inv-loop μ-loop) → c .before .loop .d < 256
-few c = let s = c .before .before .before .before .before .before .before in sets-few (s .args .q .colours) (c .before .loop .d) (legal-counts (s .args .q) (s .pre .0 .comparable .legal-q) .colours-few) (within c)
+few c = let s = c .before .before .before .before .before .before .before in set-byte (s .args .q .colours) (c .before .loop .d) (legal-counts (s .args .q) (s .pre .0 .comparable .legal-q) .colours-few) (within c)
 
 -- what is asked of the pair
 suspected : (c : tie.After-is-suspect Inv-loop μ-loop) → let a = c .before .before .before .before .before .before .before .before .args in c .is-suspect .result ≡ suspect (a .p) (a .q) (a .c) (c .before .before .loop .d)

@@ -4,8 +4,9 @@ use native.Mathlib.Omega.{arith}
 use mathlib.Core.Path.{refl, subst}
 use lib.ListN.{length}
 use borrow.Author.Tests.{lt-ltb, le-ltb}
+use Rattle.lists.proofs.Numbers.{row-lt}
 use Rattle.running.specs.Running.{rowStates}
-use Rattle.running.proofs.Laws.{shaped-facts, row-lt}
+use Rattle.running.proofs.Laws.{shaped-facts}
 use Rattle.judging.proofs.Rows.{seen-dangles, seen-moves}
 use Rattle.judging.proofs.seen_with.Statement.{statement}
 use Rattle.judging.proofs.seen_with.Tie as tie

@@ -7,9 +7,10 @@ use mathlib.Core.Logic.{⊎-elim}
 use borrow.Author.Needs.{needs}
 use lib.Pow.{pow-mono}
 use Rattle.lists.specs.Lists.{all, below}
+use Rattle.lists.proofs.Tests.{all-turn}
 use Rattle.masks.proofs.Bits.{shl-one}
 use Rattle.policy.specs.Policies.{inFamily, legalSet}
-use Rattle.policy.proofs.Tests.{all-turn, legal-set-outside, legal-sets-within}
+use Rattle.policy.proofs.Tests.{legal-set-outside, legal-sets-within}
 use Rattle.policy.proofs.has_legal_sets.Statement.{statement}
 use Rattle.policy.proofs.has_legal_sets.Tie as tie
 

@@ -2,9 +2,9 @@
 -- Assumes nothing.
 use native.Mathlib.Omega.{arith}
 use borrow.Author.Needs.{needs}
+use Rattle.lists.proofs.Numbers.{product-lt}
 use Rattle.policy.specs.Policies.{legalCounts}
 use Rattle.reading.specs.Reading.{counted}
-use Rattle.reading.proofs.Questions.{product-lt}
 use Rattle.reading.proofs.counts_fit.Statement.{statement}
 use Rattle.reading.proofs.counts_fit.Tie as tie
 

@@ -2,8 +2,8 @@
 -- Assumes nothing.
 use native.Mathlib.Omega.{arith}
 use borrow.Author.Needs.{needs}
+use Rattle.lists.proofs.Numbers.{product-lt}
 use Rattle.policy.specs.Policies.{edgeOf}
-use Rattle.reading.proofs.Questions.{product-lt}
 use Rattle.reading.proofs.edge_of.Statement.{statement}
 use Rattle.reading.proofs.edge_of.Tie as tie
 

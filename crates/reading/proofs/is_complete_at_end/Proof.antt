@@ -3,9 +3,9 @@
 use native.Mathlib.Omega.{arith}
 use mathlib.Core.Path.{sym, ap}
 use borrow.Author.Needs.{needs}
+use Rattle.lists.proofs.Numbers.{product-lt}
 use Rattle.policy.specs.Policies.{edges}
 use Rattle.reading.specs.Reading.{completeAtEnd}
-use Rattle.reading.proofs.Questions.{product-lt}
 use Rattle.reading.proofs.is_complete_at_end.Statement.{statement}
 use Rattle.reading.proofs.is_complete_at_end.Tie as tie
 

@@ -3,8 +3,10 @@ use mathlib.Core.Path.{_≡_, refl, _∙_, subst}
 use mathlib.Core.Logic.{⊎-elim, inl, inr}
 use Prim.Native.Nat.{ℕ, _+_, _-_, _≤_}
 use native.Mathlib.Omega.{arith}
-use Rattle.states.specs.Placing.{Stored, leavesBelow}
-use Rattle.states.proofs.StateLaws.{stored-length, leaves-none, leaves-turn}
+use Rattle.tables.proofs.Stores.{stored-length}
+use Rattle.tables.specs.Tables.{Stored}
+use Rattle.states.specs.Placing.{leavesBelow}
+use Rattle.states.proofs.StateLaws.{leaves-none, leaves-turn}
 use Rattle.states.proofs.fill_leaves.Statement.{statement}
 use Rattle.states.proofs.fill_leaves.Tie as tie
 

@@ -5,8 +5,8 @@ use native.Mathlib.Nat.{le-antisymm}
 use native.Mathlib.Omega.{arith}
 use lib.ListN.{length, replicate}
 use lib.Seq.{sets, length-sets}
-use Rattle.states.proofs.StateLaws.{replicate-none, replicate-more}
 use borrow.Author.Needs.{needs}
+use Rattle.tables.proofs.Stores.{replicate-none, replicate-more}
 use Rattle.states.proofs.fill_sources.Statement.{statement}
 use Rattle.states.proofs.fill_sources.Tie as tie
 

@@ -2,8 +2,9 @@
 use Prim.Native.Nat.{_-_}
 use native.Mathlib.Omega.{arith}
 use Rattle.policy.proofs.Laws.{legal-counts}
-use Rattle.states.proofs.StateLaws.{stored-length, Placing, placing-none, placing-more, placing-all}
+use Rattle.states.proofs.StateLaws.{Placing, placing-none, placing-more, placing-all}
 use borrow.Author.Needs.{needs}
+use Rattle.tables.proofs.Stores.{stored-length}
 use Rattle.states.proofs.fill_states.Statement.{statement}
 use Rattle.states.proofs.fill_states.Tie as tie
 

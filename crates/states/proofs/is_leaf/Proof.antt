@@ -1,10 +1,10 @@
 -- `states::is_leaf` meets its contract. The invariant: j is a child of n, or the end of n, and no child passed contains v. Assumes nothing.
-use mathlib.Core.Path.{_≡_, refl, sym, subst}
-use mathlib.Core.Bool.{Bool, true, false, not, true≢false}
+use mathlib.Core.Path.{_≡_, sym, subst}
+use mathlib.Core.Bool.{true, false}
 use Prim.Native.Nat.{ℕ, _-_, _<_}
 use native.Mathlib.Omega.{arith}
 use lib.ListN.{length, getD}
-use Rattle.lists.proofs.Bools.{not-true}
+use Rattle.lists.proofs.Bools.{not-true, unnot}
 use Rattle.forest.specs.Forest.{forest}
 use Rattle.forest.proofs.Forest.{forest-laws}
 use Rattle.automaton.specs.Stages.{endOf}
@@ -109,10 +109,6 @@ loop-again c =
           (hop-next p (forest p) (forest-laws p (s .pre .0)) (s .args .v) (s .args .n) (s .pre .4) j (l .loop .inv .1) (before-end (c .before .before .before .before))
           (column-contains p (s .args .masks .now) (s .pre .1) (s .args .v) j (c .before .before .contains-state2 .result) false (inside (c .before .before .before .before)) (c .before .before .contains-state2 .ensures) (c .before .if2 .left))),
     )
-
-unnot : (b : Bool) → not b ≡ false → b ≡ true
-unnot true e = refl
-unnot false e = absurd (true≢false e)
 
 returns-3 : tie.Need-returns-3 Inv-loop μ-loop
 returns-3 c =

@@ -6,8 +6,9 @@ use mathlib.Core.Path.{_≡_, refl, subst}
 use mathlib.Core.Bool.{true}
 use lib.ListN.{length}
 use borrow.Author.Needs.{needs}
+use Rattle.lists.proofs.Numbers.{row-lt}
 use Rattle.running.specs.Running.{shaped, rowStates}
-use Rattle.running.proofs.Laws.{Shaped, shaped-facts, row-lt, states-shaped, states-unshaped}
+use Rattle.running.proofs.Laws.{Shaped, shaped-facts, states-shaped, states-unshaped}
 use Rattle.running.proofs.Steps.{refusal-8, refusal-11, refusal-12, refusal-13, refusal-none, reads-refused, reads-moved}
 use Rattle.running.proofs.Run.read.Statement.{statement}
 use Rattle.running.proofs.Run.read.Tie as tie
