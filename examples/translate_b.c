@@ -28,7 +28,7 @@ static void print_or_dash(uint16_t n) {
 int main(void) {
     uint8_t record[WULFRENDA_RECORD_BYTES];
     size_t offset;
-    uint8_t number = wulfrenda_read(B, sizeof B, record, &offset);
+    uint8_t number = wulfrenda_read(B, sizeof B, record, sizeof record, &offset);
     if (number != WULFRENDA_OK) {
         printf("refused %u %zu\n", number, offset);
         return 1;
@@ -36,11 +36,12 @@ int main(void) {
 
     uint64_t masks[PLACES];
     uint16_t parents[PLACES], leaves[PLACES], targets[PLACES * WULFRENDA_MAX_LETTERS];
-    uint8_t ranks[PLACES], sources[PLACES], priorities[PLACES * WULFRENDA_MAX_LETTERS];
+    uint8_t node_priorities[PLACES], sources[PLACES], priorities[PLACES * WULFRENDA_MAX_LETTERS];
     uint16_t counts[3];
     unsigned letters = record[1];
     size_t rows = PLACES * letters;
-    number = wulfrenda_translate(record, masks, PLACES, parents, PLACES, ranks, PLACES, sources, PLACES, leaves, PLACES, targets, rows, priorities, rows, counts);
+    number = wulfrenda_translate(record, sizeof record, masks, PLACES, parents, PLACES, node_priorities, PLACES, sources, PLACES, leaves, PLACES, targets,
+                                 rows, priorities, rows, counts);
     if (number != WULFRENDA_OK) {
         printf("refused %u\n", number);
         return 1;
@@ -50,7 +51,7 @@ int main(void) {
     for (unsigned n = 0; n < counts[0]; n++) {
         printf("n %u %" PRIu64, n, masks[n]);
         print_or_dash(parents[n]);
-        printf(" %u\n", ranks[n]);
+        printf(" %u\n", node_priorities[n]);
     }
     for (unsigned s = 0; s < counts[1]; s++) {
         printf("s %u %u", s, sources[s]);

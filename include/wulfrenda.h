@@ -23,6 +23,13 @@
 extern "C" {
 #endif
 
+/* ---- version
+ *
+ * This file's: major times 1,000,000 plus minor times 1,000 plus patch, here 2.0.0. wulfrenda_version gives the archive's. A record of another length or a
+ * call with other arguments is another major version; other macros and calls are another minor one.
+ */
+#define WULFRENDA_VERSION 2000000
+
 /* ---- limits */
 
 #define WULFRENDA_MAX_STATES 16
@@ -38,7 +45,8 @@ extern "C" {
 
 /* ---- a policy's record
  *
- * A policy crosses as 388 bytes:
+ * A policy crosses as 388 bytes, lent with their number. Another number is refused with 7 and nothing of them is read or written, since
+ * another version's record may be longer or shorter:
  *
  *   byte 0          states, 1 to 16
  *   byte 1          letters, 1 to 8
@@ -78,6 +86,9 @@ extern "C" {
 
 /* ---- the calls */
 
+/* The archive's version, as WULFRENDA_VERSION says it. Never refuses. */
+uint32_t wulfrenda_version(void);
+
 /*
  * The colour set at a position of the fixed order of the 256 colour sets: falling number of members, then ascending mask; from 255 at
  * position 0 to 0 at position 255. Never refuses.
@@ -89,19 +100,19 @@ uint8_t wulfrenda_colour_set(uint8_t position);
  * (colour set), 0x00 end. Shape comes first, the others in any order, and reading stops after the end command.
  *
  *   bytes, bytes_length   the command bytes, and whatever follows them
- *   record                388 bytes: the policy
+ *   record, record_length the policy's record; the length is WULFRENDA_RECORD_BYTES
  *   offset                where what follows the end command begins
  *
- * For each command: 1, 2, 1 (operands), 3, 4, 5, 6. After a refusal all of record is 0, and *offset is where the refused command begins
- * (bytes_length, if there is none).
+ * 7 if record_length is another: record is unchanged and *offset is 0. Then for each command: 1, 2, 1 (operands), 3, 4, 5, 6. After one of
+ * these refusals all of record is 0, and *offset is where the refused command begins (bytes_length, if there is none).
  */
-uint8_t wulfrenda_read(const uint8_t *bytes, size_t bytes_length, uint8_t record[WULFRENDA_RECORD_BYTES], size_t *offset);
+uint8_t wulfrenda_read(const uint8_t *bytes, size_t bytes_length, uint8_t *record, size_t record_length, size_t *offset);
 
 /*
  * Translates a policy: the forest of its cycles, and the parity automaton. Row = built state times letters plus letter. Only the first
  * 65,535 places of node and state tables count.
  *
- *   record           the policy
+ *   record           the policy's record, with its length
  *   node_masks       of each node: its edges, bit e for edge e
  *   node_parents     its parent; WULFRENDA_NONE for a root
  *   node_priorities  its priority; the node accepts exactly if it is even
@@ -116,7 +127,7 @@ uint8_t wulfrenda_read(const uint8_t *bytes, size_t bytes_length, uint8_t record
  * After a success places past the result hold 0. After 7 and 8 the seven tables are unchanged; after 9 and 10 every place of all seven is 0.
  * After any refusal the three counts are 0.
  */
-uint8_t wulfrenda_translate(const uint8_t record[WULFRENDA_RECORD_BYTES],
+uint8_t wulfrenda_translate(const uint8_t *record, size_t record_length,
                             uint64_t *node_masks, size_t node_masks_length,
                             uint16_t *node_parents, size_t node_parents_length,
                             uint8_t *node_priorities, size_t node_priorities_length,
@@ -132,12 +143,12 @@ uint8_t wulfrenda_translate(const uint8_t record[WULFRENDA_RECORD_BYTES],
  *   bytes, bytes_length   as for wulfrenda_read
  *   the seven tables      as for wulfrenda_translate
  *   counts                as for wulfrenda_translate
- *   offset                as for wulfrenda_read
+ *   offset                as for wulfrenda_read; 0 after 8, 9 and 10
  *
  * The number of letters, by which the row tables are longer and which wulfrenda_run asks for, is the shape command's: bytes[2].
  *
  * The questions of wulfrenda_read, then 8, 9, 10: a policy that was read is legal. After 1 to 6 and 8 the seven tables are unchanged; after 9 and 10
- * every place of all seven is 0. After any refusal the three counts are 0. After 8, 9 and 10 *offset is where what follows the end command begins.
+ * every place of all seven is 0. After any refusal the three counts are 0.
  */
 uint8_t wulfrenda_translate_bytes(const uint8_t *bytes, size_t bytes_length,
                                   uint64_t *node_masks, size_t node_masks_length,
@@ -170,18 +181,18 @@ uint8_t wulfrenda_run(uint8_t letters,
  * Judges a policy from a state, over a stem and then a loop repeated without end. A colour recurs if, after every number of rounds, some
  * later round meets it.
  *
- *   record                the policy
+ *   record, record_length the policy's record
  *   state                 the policy state begun in
  *   stem, stem_length     the letters before the loop
- *   cycle, cycle_length   the letters of the loop
+ *   loop, loop_length     the letters of the loop
  *   colours               the set of the colours that recur
  *   accepted              1 if that set is in the family, else 0
  *
  * 7, 11, 14, 12. After a refusal *colours and *accepted are 0.
  */
-uint8_t wulfrenda_judge_policy(const uint8_t record[WULFRENDA_RECORD_BYTES], uint8_t state,
+uint8_t wulfrenda_judge_policy(const uint8_t *record, size_t record_length, uint8_t state,
                                const uint8_t *stem, size_t stem_length,
-                               const uint8_t *cycle, size_t cycle_length,
+                               const uint8_t *loop, size_t loop_length,
                                uint8_t *colours, uint8_t *accepted);
 
 /*
@@ -195,14 +206,16 @@ uint8_t wulfrenda_judge_rows(uint8_t letters,
                              const uint8_t *row_priorities, size_t row_priorities_length,
                              uint16_t state,
                              const uint8_t *stem, size_t stem_length,
-                             const uint8_t *cycle, size_t cycle_length,
+                             const uint8_t *loop, size_t loop_length,
                              uint8_t *least);
 
 /*
- * Compares two policies over one graph: *same is 1 if every cycle, reached or not, has the same verdict in both, else 0. Colours and initial
+ * Compares two policies, by their records, over one graph: *same is 1 if every cycle, reached or not, has the same verdict in both, else 0. Colours and initial
  * state may differ. 7 of either, 15. After a refusal *same is 0.
  */
-uint8_t wulfrenda_compare(const uint8_t first[WULFRENDA_RECORD_BYTES], const uint8_t second[WULFRENDA_RECORD_BYTES], uint8_t *same);
+uint8_t wulfrenda_compare(const uint8_t *first, size_t first_length,
+                          const uint8_t *second, size_t second_length,
+                          uint8_t *same);
 
 #ifdef __cplusplus
 }

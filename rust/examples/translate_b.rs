@@ -25,7 +25,7 @@ fn main() -> Result<(), Box<dyn std::error::Error>> {
     let (policy, _rest) = Policy::read(&B)?;
     let letters = usize::from(policy.letters());
     let mut masks = [0; 16];
-    let (mut parents, mut ranks) = ([0; 16], [0; 16]);
+    let (mut parents, mut node_priorities) = ([0; 16], [0; 16]);
     let (mut sources, mut leaves) = ([0; 16], [0; 16]);
     let (mut targets, mut priorities) = ([0; 16 * 8], [0; 16 * 8]);
     let counts = translate(
@@ -33,7 +33,7 @@ fn main() -> Result<(), Box<dyn std::error::Error>> {
         Tables {
             node_masks: &mut masks,
             node_parents: &mut parents,
-            node_priorities: &mut ranks,
+            node_priorities: &mut node_priorities,
             state_sources: &mut sources,
             state_leaves: &mut leaves,
             row_targets: &mut targets[..16 * letters],
@@ -42,7 +42,8 @@ fn main() -> Result<(), Box<dyn std::error::Error>> {
     )?;
     println!("nodes {} states {}", counts.nodes, counts.states);
     for n in 0..usize::from(counts.nodes) {
-        println!("n {n} {} {} {}", masks[n], or_dash(parents[n]), ranks[n]);
+        let parent = or_dash(parents[n]);
+        println!("n {n} {} {parent} {}", masks[n], node_priorities[n]);
     }
     for s in 0..usize::from(counts.states) {
         println!("s {s} {} {}", sources[s], or_dash(leaves[s]));

@@ -1,17 +1,21 @@
-//! The functions of the static library, as `include/wulfrenda.h` declares them. A slice crosses as a pointer and a number of elements.
+//! The functions of the static library, as `include/wulfrenda.h` declares them. A slice crosses as a pointer and a number of elements. What the header calls `loop` is `period` here.
 
 extern "C" {
+    pub fn wulfrenda_version() -> u32;
+
     pub fn wulfrenda_colour_set(position: u8) -> u8;
 
     pub fn wulfrenda_read(
         bytes: *const u8,
         bytes_len: usize,
         record: *mut u8,
+        record_len: usize,
         offset: *mut usize,
     ) -> u8;
 
     pub fn wulfrenda_translate(
         record: *const u8,
+        record_len: usize,
         node_masks: *mut u64,
         node_masks_len: usize,
         node_parents: *mut u16,
@@ -63,11 +67,12 @@ extern "C" {
 
     pub fn wulfrenda_judge_policy(
         record: *const u8,
+        record_len: usize,
         state: u8,
         stem: *const u8,
         stem_len: usize,
-        cycle: *const u8,
-        cycle_len: usize,
+        period: *const u8,
+        period_len: usize,
         colours: *mut u8,
         accepted: *mut u8,
     ) -> u8;
@@ -81,10 +86,16 @@ extern "C" {
         state: u16,
         stem: *const u8,
         stem_len: usize,
-        cycle: *const u8,
-        cycle_len: usize,
+        period: *const u8,
+        period_len: usize,
         least: *mut u8,
     ) -> u8;
 
-    pub fn wulfrenda_compare(first: *const u8, second: *const u8, same: *mut u8) -> u8;
+    pub fn wulfrenda_compare(
+        first: *const u8,
+        first_len: usize,
+        second: *const u8,
+        second_len: usize,
+        same: *mut u8,
+    ) -> u8;
 }

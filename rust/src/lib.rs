@@ -26,6 +26,9 @@ pub use refusal::{ReadError, Refusal};
 /// What stands in the tables for no node: the parent of a root, the leaf of a state in no cycle.
 pub const NONE: u16 = 65_535;
 
+/// The version that this layer is built for: major times 1,000,000 plus minor times 1,000 plus patch. [`version`] gives the archive's.
+pub const VERSION: u32 = 2_000_000;
+
 /// Stack enough for any call.
 pub const STACK_BYTES: usize = 262_144;
 
@@ -68,6 +71,7 @@ pub fn translate(policy: &Policy, tables: Tables<'_>) -> Result<Counts, Refusal>
     let number = unsafe {
         ffi::wulfrenda_translate(
             policy.record().as_ptr(),
+            policy.record().len(),
             tables.node_masks.as_mut_ptr(),
             tables.node_masks.len(),
             tables.node_parents.as_mut_ptr(),
@@ -94,8 +98,7 @@ pub fn translate(policy: &Policy, tables: Tables<'_>) -> Result<Counts, Refusal>
 }
 
 /// [`Policy::read`] and [`translate`] in one call: the tables of the policy that command bytes give, and the bytes that follow its end command. Refused with 1 to 6 as
-/// in reading, the tables unchanged, and with 8, 9 or 10 as in translating; the offset is then where what follows the end command begins. The number of letters is the shape
-/// command's, `bytes[2]`.
+/// in reading, the tables unchanged, and with 8, 9 or 10 as in translating; the offset is then 0. The number of letters is the shape command's, `bytes[2]`.
 pub fn translate_bytes<'a>(
     bytes: &'a [u8],
     tables: Tables<'_>,
@@ -189,12 +192,12 @@ pub struct Verdict {
     pub accepted: bool,
 }
 
-/// Judges a policy from a state, over a stem and then a loop repeated without end. Refused with 7, 11, 14 or 12.
+/// Judges a policy from a state, over a stem and then a loop, the period, repeated without end. Refused with 7, 11, 14 or 12.
 pub fn judge_policy(
     policy: &Policy,
     state: u8,
     stem: &[u8],
-    cycle: &[u8],
+    period: &[u8],
 ) -> Result<Verdict, Refusal> {
     let mut colours = 0;
     let mut accepted = 0;
@@ -202,11 +205,12 @@ pub fn judge_policy(
     let number = unsafe {
         ffi::wulfrenda_judge_policy(
             policy.record().as_ptr(),
+            policy.record().len(),
             state,
             stem.as_ptr(),
             stem.len(),
-            cycle.as_ptr(),
-            cycle.len(),
+            period.as_ptr(),
+            period.len(),
             &mut colours,
             &mut accepted,
         )
@@ -217,8 +221,8 @@ pub fn judge_policy(
     })
 }
 
-/// The least priority that recurs over rows from a state, over a stem and then a loop repeated without end. Refused with 8, 11, 14, 12 or 13.
-pub fn judge_rows(rows: &Rows<'_>, state: u16, stem: &[u8], cycle: &[u8]) -> Result<u8, Refusal> {
+/// The least priority that recurs over rows from a state, over a stem and then a loop, the period, repeated without end. Refused with 8, 11, 14, 12 or 13.
+pub fn judge_rows(rows: &Rows<'_>, state: u16, stem: &[u8], period: &[u8]) -> Result<u8, Refusal> {
     let mut least = 0;
     // SAFETY: each pointer is that of a slice, with its length, or of a local.
     let number = unsafe {
@@ -231,8 +235,8 @@ pub fn judge_rows(rows: &Rows<'_>, state: u16, stem: &[u8], cycle: &[u8]) -> Res
             state,
             stem.as_ptr(),
             stem.len(),
-            cycle.as_ptr(),
-            cycle.len(),
+            period.as_ptr(),
+            period.len(),
             &mut least,
         )
     };
@@ -244,9 +248,21 @@ pub fn compare(first: &Policy, second: &Policy) -> Result<bool, Refusal> {
     let mut same = 0;
     // SAFETY: the pointers are those of two arrays and a local.
     let number = unsafe {
-        ffi::wulfrenda_compare(first.record().as_ptr(), second.record().as_ptr(), &mut same)
+        ffi::wulfrenda_compare(
+            first.record().as_ptr(),
+            first.record().len(),
+            second.record().as_ptr(),
+            second.record().len(),
+            &mut same,
+        )
     };
     Refusal::check(number).map(|()| same != 0)
+}
+
+/// The archive's version, as [`VERSION`] says it.
+pub fn version() -> u32 {
+    // SAFETY: the function takes nothing and returns a number.
+    unsafe { ffi::wulfrenda_version() }
 }
 
 /// The colour set at a position of the fixed order: falling number of members, then ascending mask.

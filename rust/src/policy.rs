@@ -31,6 +31,7 @@ impl Policy {
                 bytes.as_ptr(),
                 bytes.len(),
                 record.as_mut_ptr(),
+                record.len(),
                 &mut offset,
             )
         };

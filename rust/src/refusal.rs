@@ -19,7 +19,7 @@ pub enum Refusal {
     Repeated = 5,
     /// 6: an edge has not been given when the end command comes.
     Incomplete = 6,
-    /// 7: a policy is not legal.
+    /// 7: a policy is not legal, or its record has another length.
     IllegalPolicy = 7,
     /// 8: the lengths of the tables do not belong together, or there are too many states or no proper number of letters.
     Lengths = 8,
@@ -104,7 +104,7 @@ impl Error for Refusal {}
 pub struct ReadError {
     /// The question that was answered "no".
     pub refusal: Refusal,
-    /// Where the refused command begins; the number of bytes, if there is none; where the policy was read and not translated, what follows it begins there.
+    /// Where the refused command begins; the number of bytes, if there is none; 0 where the policy was read and not translated.
     pub offset: usize,
 }
 
@@ -117,6 +117,9 @@ impl ReadError {
 
 impl fmt::Display for ReadError {
     fn fmt(&self, f: &mut fmt::Formatter<'_>) -> fmt::Result {
+        if self.number() > Refusal::Incomplete.number() {
+            return self.refusal.fmt(f);
+        }
         write!(
             f,
             "refused {} {}: {}",

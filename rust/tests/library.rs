@@ -1,8 +1,8 @@
 //! The known policies, the edges of the limits, what the tables hold after each refusal, runs, judgings and comparings, through the safe layer.
 
 use wulfrenda::{
-    colour_set_at, compare, judge_policy, judge_rows, translate, translate_bytes, Counts, Policy,
-    ReadError, Refusal, Rows, Run, Tables, Verdict, NONE, RECORD_LEN, STACK_BYTES,
+    colour_set_at, compare, judge_policy, judge_rows, translate, translate_bytes, version, Counts,
+    Policy, ReadError, Refusal, Rows, Run, Tables, Verdict, NONE, RECORD_LEN, STACK_BYTES, VERSION,
 };
 
 const B: [u8; 30] = [
@@ -82,6 +82,29 @@ fn counts(nodes: u16, states: u16, start: u16) -> Result<Counts, Refusal> {
         states,
         start,
     })
+}
+
+// ---- version
+
+/// What the header defines a name as.
+fn in_header(name: &str) -> usize {
+    let header = include_str!("../../include/wulfrenda.h");
+    let defines = header.lines().filter_map(|l| l.strip_prefix("#define "));
+    let mut words = defines.map(|l| l.split_whitespace());
+    let value = words.find_map(|mut w| (w.next() == Some(name)).then(|| w.next()));
+    value.flatten().unwrap().parse().unwrap()
+}
+
+#[test]
+fn header_layer_and_archive_are_of_one_version() {
+    assert_eq!(version(), VERSION);
+    assert_eq!(in_header("WULFRENDA_VERSION"), VERSION as usize);
+    let package = env!("CARGO_PKG_VERSION").split('.');
+    let number = package.fold(0, |n, part| 1000 * n + part.parse::<u32>().unwrap());
+    assert_eq!(number, VERSION);
+    assert_eq!(in_header("WULFRENDA_RECORD_BYTES"), RECORD_LEN);
+    assert_eq!(in_header("WULFRENDA_NONE"), usize::from(NONE));
+    assert_eq!(in_header("WULFRENDA_STACK_BYTES"), STACK_BYTES);
 }
 
 // ---- reading
@@ -166,14 +189,14 @@ fn policy_a() {
     assert_eq!(t.state_leaves, [2, 4, 5]);
     assert_eq!(t.row_targets, [0, 0, 1, 1, 0, 2, 1, 0, 2]);
     assert_eq!(t.row_priorities, [3, 2, 1, 3, 1, 2, 2, 1, 3]);
-    for (cycle, least) in [
+    for (period, least) in [
         (&[0u8, 1][..], 2),
         (&[1, 2], 1),
         (&[1], 2),
         (&[2], 3),
         (&[0, 2], 2),
     ] {
-        assert_eq!(judge_rows(&t.rows(3, 3), 0, &[], cycle), Ok(least));
+        assert_eq!(judge_rows(&t.rows(3, 3), 0, &[], period), Ok(least));
     }
 }
 
@@ -265,17 +288,11 @@ fn from_command_bytes_to_tables() {
         unread.clone(),
     );
     refused(unread.clone(), &[4], Refusal::UnknownCommand, 0, unread);
-    refused(whole.clone(), &bytes, Refusal::Lengths, 30, whole);
+    refused(whole.clone(), &bytes, Refusal::Lengths, 0, whole);
     let cleared = |nodes, states| Lent::filled(nodes, states, 2 * states, 0);
     let full = |nodes, states| Lent::new(nodes, states, 2 * states);
-    refused(full(2, 5), &bytes, Refusal::TooManyNodes, 30, cleared(2, 5));
-    refused(
-        full(3, 1),
-        &bytes,
-        Refusal::TooManyStates,
-        30,
-        cleared(3, 1),
-    );
+    refused(full(2, 5), &bytes, Refusal::TooManyNodes, 0, cleared(2, 5));
+    refused(full(3, 1), &bytes, Refusal::TooManyStates, 0, cleared(3, 1));
 }
 
 #[test]
@@ -401,9 +418,9 @@ fn judgings_agree() {
             })
             .collect();
         for stem in &words[..9] {
-            for cycle in &words {
-                let policy = judge_policy(&p, p.initial(), stem, cycle).unwrap();
-                let least = judge_rows(&rows, built.start, stem, cycle).unwrap();
+            for period in &words {
+                let policy = judge_policy(&p, p.initial(), stem, period).unwrap();
+                let least = judge_rows(&rows, built.start, stem, period).unwrap();
                 assert_eq!(policy.accepted, least % 2 == 0);
             }
         }
@@ -470,4 +487,9 @@ fn every_refusal_says_its_number() {
         "refused 15: the policies have different graphs"
     );
     assert_eq!(Refusal::Lengths.number(), 8);
+    let error = ReadError {
+        refusal: Refusal::Lengths,
+        offset: 0,
+    };
+    assert_eq!(error.to_string(), Refusal::Lengths.to_string());
 }

@@ -12,7 +12,7 @@ use Rattle.policy.specs.declared.Policy.{Policy}
 use Rattle.reading.specs.Reading.{readingOf as bytesReadingOf, offsetOf, numberOf as readNumberOf}
 use Rattle.builder.specs.Tables.{Tables, tables, Hold, countsOf, translationOf, tablesAfter, Translates, numberOf as translateNumberOf}
 use Rattle.running.specs.Running.{readingOf, runAfter, priorityOf, ReadsLetter, numberOf as runNumberOf}
-use Rattle.wulfrenda.specs.Records.{policyOf, firstOf}
+use Rattle.wulfrenda.specs.Records.{policyOf, firstOf, offsetAfter}
 use Rattle.builder.proofs.translate.Kinds as translate-kinds
 use Rattle.builder.proofs.translate.Reads as translate-reads
 use Rattle.running.proofs.Run.read.Kinds as read-kinds
@@ -182,7 +182,7 @@ wulfrendaTranslateBytesSays x =
     let t = wulfrendaTranslateBytesShows x in
     let read = bytesReadingOf (x .given .0 .now) .outcome in
     let q = translationOf (t .policy) (t .entry) in
-    (t .number ≡ firstOf (readNumberOf read) (translateNumberOf q)) ∷ (t .counts ≡ countsOf q) ∷ Filled t ∷ (x .left .1 .1 .1 .1 .1 .1 .1 .1 .1 .0 .now ≡ offsetOf read) ∷ []
+    (t .number ≡ firstOf (readNumberOf read) (translateNumberOf q)) ∷ (t .counts ≡ countsOf q) ∷ Filled t ∷ (x .left .1 .1 .1 .1 .1 .1 .1 .1 .1 .0 .now ≡ offsetAfter (readNumberOf read) (translateNumberOf q) (offsetOf read)) ∷ []
 
 abbrev pub readSays : Places read → List (Type 0)
 readSays x = let c = readShows x in ReadsLetter (c .letters) (c .targets) (c .priorities) (record { state = c .state }) (c .letter) (x .answer) ∷ []

@@ -1,15 +1,22 @@
 -- What translating says of a reading: after a refusal it would be question 7 that is answered no, the counts would be 0 and the tables as they were. Assumes nothing.
 use Prim.Native.Nat.{ℕ}
-use mathlib.Core.Path.{_≡_, refl, _∙_}
+use mathlib.Core.Path.{_≡_, refl, _∙_, subst}
 use mathlib.Core.Logic.{_≢_}
-use mathlib.Core.Bool.{false}
+use mathlib.Core.Bool.{false, cond}
 use mathlib.Core.List.{List, [], _∷_}
+use lib.Dec.{eqb}
 use borrow.Author.Tests.{eq-eqb, ne-eqb}
 use Rattle.policy.specs.declared.Policy.{Policy}
 use Rattle.policy.specs.Policies.{legal}
-use Rattle.builder.specs.Tables.{Tables, Hold, countsOf, translationOf, tablesAfter, tables}
-use Rattle.wulfrenda.specs.Records.{firstOf}
+use Rattle.builder.specs.declared.Translation.{Translation}
+use Rattle.builder.specs.Tables.{Tables, Hold, Translates, countsOf, translationOf, tablesAfter, tables}
+use Rattle.wulfrenda.specs.Records.{firstOf, offsetAfter}
 
+-- what translating promises of a policy it promises of an equal one
+pub same-policy : {p q : Policy} {entry exit : Tables} {answer : Translation} → p ≡ q → Translates p entry answer exit → Translates q entry answer exit
+same-policy {p} {q} {entry} {exit} {answer} e t = subst (λ (x : Policy). Translates x entry answer exit) e t
+
+-- ---- after a refused reading
 module _ (p : Policy) (m q r s l t k : List ℕ) where
   pub illegal-counts : legal p ≡ false → 0 ∷ 0 ∷ 0 ∷ [] ≡ countsOf (translationOf p (tables m q r s l t k))
   unfolding translationOf
@@ -27,11 +34,20 @@ module _ (p : Policy) (m q r s l t k : List ℕ) where
     priorities-are = refl;
   })
 
--- ---- the number returned
-pub first-refused : (a b n : ℕ) → n ≡ a → n ≢ 0 → n ≡ firstOf a b
-unfolding firstOf
-first-refused a b n e z = rw (ne-eqb a 0 (λ x. z (e ∙ x))) e
+-- ---- the number and the offset: after a refused reading, and after one that passed
+module _ (a b n o : ℕ) where
+  pub first-refused : n ≡ a → n ≢ 0 → n ≡ firstOf a b
+  unfolding firstOf
+  first-refused e z = rw (ne-eqb a 0 (λ x. z (e ∙ x))) e
 
-pub first-passed : (a b n : ℕ) → a ≡ 0 → n ≡ b → n ≡ firstOf a b
-unfolding firstOf
-first-passed a b n z e = rw (eq-eqb a 0 z) e
+  pub offset-refused : n ≡ a → n ≢ 0 → o ≡ offsetAfter a b o
+  unfolding offsetAfter
+  offset-refused e z = rw (ne-eqb a 0 (λ x. z (e ∙ x)))
+
+  pub first-passed : a ≡ 0 → n ≡ b → n ≡ firstOf a b
+  unfolding firstOf
+  first-passed z e = rw (eq-eqb a 0 z) e
+
+  pub offset-passed : a ≡ 0 → n ≡ b → cond (eqb n 0) o 0 ≡ offsetAfter a b o
+  unfolding offsetAfter
+  offset-passed z e = rw (eq-eqb a 0 z, e)

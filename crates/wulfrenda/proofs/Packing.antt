@@ -1,18 +1,21 @@
--- The laws of the record of a policy: the policy of a policy's record is that policy, the zero policy's record is all zero, and a record is filled by three stores.
--- Assumes nothing.
+-- The laws of the record of a policy: the policy of a policy's record is that policy, bytes of another length are no legal policy, the zero policy's record is all zero, and a record
+-- is filled by three stores. Assumes nothing.
 use Prim.Native.Nat.{ℕ, _+_, _<_}
 use native.Mathlib.Omega.{arith}
 use mathlib.Core.Path.{_≡_, refl, sym, ap, ap₂, _∙_}
+use mathlib.Core.Logic.{_≢_}
 use mathlib.Core.Bool.{Bool, true, false}
 use mathlib.Core.List.{List, [], _∷_, _++_, map, append-assoc}
 use lib.ListN.{length, getD, take, replicate, length-append, length-map, List·getD-append, List·getD-map}
 use lib.Seq.{sets, length-sets, take-all, ext-getD, getD-append-add}
+use borrow.Author.Tests.{eq-eqb, ne-eqb}
 use Rattle.lists.specs.Lists.{below}
 use Rattle.lists.proofs.Lists.{length-below, getD-map-below}
 use Rattle.tables.proofs.Stores.{front-more}
 use Rattle.policy.specs.declared.Policy.{Policy}
+use Rattle.policy.specs.Policies.{legal, legalCounts}
 use Rattle.reading.specs.Reading.{zeroPolicy, counted}
-use Rattle.wulfrenda.specs.Records.{flag, isSet, bytesAt, flagsAt, policyOf, recordOf}
+use Rattle.wulfrenda.specs.Records.{flag, isSet, recordLength, bytesAt, flagsAt, unpacked, policyOf, recordOf}
 
 -- the arrays of a policy have their lengths
 pub record Sized (p : Policy) : Type 0 where
@@ -21,6 +24,19 @@ pub record Sized (p : Policy) : Type 0 where
   pub sets : length (p .family) ≡ 256
 
 -- ---- from a record
+pub policy-of : (b : List ℕ) → length b ≡ recordLength → policyOf b ≡ unpacked b
+unfolding policyOf
+policy-of b e = rw (eq-eqb (length b) recordLength e)
+
+pub policy-of-other : (b : List ℕ) → length b ≢ recordLength → policyOf b ≡ zeroPolicy
+unfolding policyOf
+policy-of-other b n = rw (ne-eqb (length b) recordLength n)
+
+-- bytes of another length are refused with 7
+pub other-illegal : (b : List ℕ) → length b ≢ recordLength → legal (policyOf b) ≡ false
+unfolding zeroPolicy counted legal legalCounts
+other-illegal b n = ap legal (policy-of-other b n)
+
 module _ (front l rest : List ℕ) where
   bytes-back : (at n : ℕ) → length front ≡ at → length l ≡ n → bytesAt (front ++ l ++ rest) at n ≡ l
   unfolding bytesAt
@@ -57,10 +73,13 @@ module _ (p : Policy) (sized : Sized p) where
   head : List ℕ
   head = p .states ∷ p .letters ∷ p .colours ∷ p .initial ∷ []
 
-  -- the policy of a policy's record is that policy
-  pub policy-record : policyOf (recordOf p) ≡ p
-  unfolding policyOf recordOf head
-  policy-record =
+  pub record-long : length (recordOf p) ≡ recordLength
+  unfolding recordOf
+  record-long = simp (length-append, length-map) (omega arith)
+
+  unpacked-record : unpacked (recordOf p) ≡ p
+  unfolding unpacked recordOf head
+  unpacked-record =
       let flags : List ℕ = map flag (p .family) in
       let b : List ℕ = head ++ p .target ++ p .colour ++ flags in
       let target : bytesAt b 4 64 ≡ p .target =
@@ -70,6 +89,10 @@ module _ (p : Policy) (sized : Sized p) where
       flags-back (head ++ p .target ++ p .colour) (p .family) 132 256 (length-append (head ++ p .target) (p .colour) ∙ omega (arith, length-append head (p .target))) (sized .sets) in
       rw (target, colour, family)
 
+  -- the policy of a policy's record is that policy
+  pub policy-record : policyOf (recordOf p) ≡ p
+  policy-record = policy-of (recordOf p) record-long ∙ unpacked-record
+
 -- a refusal's record
 pub zero-record : recordOf zeroPolicy ≡ replicate 388 0
 unfolding recordOf zeroPolicy counted
@@ -77,7 +100,7 @@ zero-record = refl
 
 -- ---- to a record
 -- the counts stand in the first four places of t, and three stores do the rest
-pub stores : (p : Policy) → Sized p → (t u v w : List ℕ) → length t ≡ 388 → take 4 t ≡ p .states ∷ p .letters ∷ p .colours ∷ p .initial ∷ []
+pub stores : (p : Policy) → Sized p → (t u v w : List ℕ) → length t ≡ recordLength → take 4 t ≡ p .states ∷ p .letters ∷ p .colours ∷ p .initial ∷ []
     → u ≡ sets t 4 (p .target) → v ≡ sets u 68 (p .colour) → w ≡ sets v 132 (map flag (p .family)) → w ≡ recordOf p
 unfolding recordOf
 stores p sized t u v w long counts first second third =
@@ -89,3 +112,9 @@ stores p sized t u v w long counts first second third =
     let colour : take 132 v ≡ take 68 u ++ p .colour = ap (take 132) second ∙ front-more u (p .colour) 68 64 (sized .colours) (omega arith) in
     let family : take 388 w ≡ take 132 v ++ flags = ap (take 388) third ∙ front-more v flags 132 256 (length-map (p .family) flag ∙ sized .sets) (omega arith) in
     sym (take-all 388 w (omega arith)) ∙ family ∙ ap (λ (x : List ℕ). x ++ flags) (colour ∙ ap (λ (x : List ℕ). x ++ p .colour) (target ∙ ap (λ (x : List ℕ). x ++ p .target) counts))
+
+-- a record fills what is as long
+pub whole : (t vs : List ℕ) → length vs ≡ length t → sets t 0 vs ≡ vs
+whole t vs e =
+    let n : ℕ = 0 + length vs in
+    sym (take-all n (sets t 0 vs) (omega (arith, length-sets t 0 vs))) ∙ front-more t vs 0 (length vs) refl (omega arith)

@@ -1,12 +1,25 @@
--- A policy as 388 bytes: states, letters, colours, initial state; the targets of 64 edges; their colours; and for each of the 256 colour sets a byte that is not 0
--- exactly if the set is in the family. And what one call returns that asks the questions of two.
-use Prim.Native.Nat.{ℕ, _+_}
+-- A policy as a record of 388 bytes: states, letters, colours, initial state; the targets of 64 edges; their colours; and for each of the 256 colour sets a byte that is not 0
+-- exactly if the set is in the family. The library's version, and what one call answers that asks the questions of two.
+use Prim.Native.Nat.{ℕ, _+_, _*_}
 use mathlib.Core.Bool.{Bool, not, cond}
 use mathlib.Core.List.{List, _∷_, _++_, map}
 use lib.Dec.{eqb}
-use lib.ListN.{getD}
+use lib.ListN.{length, getD}
 use Rattle.lists.specs.Lists.{below}
 use Rattle.policy.specs.declared.Policy.{Policy}
+use Rattle.reading.specs.Reading.{zeroPolicy}
+
+-- ---- the version: major, minor, patch; another length of the record is another major version
+abbrev pub version : ℕ
+version = 2 * 1000000 + 0 * 1000 + 0
+
+-- ---- the record
+abbrev pub recordLength : ℕ
+recordLength = 388
+
+-- a list of another length is no record of this version
+abbrev pub isRecord : List ℕ → Bool
+isRecord b = eqb (length b) recordLength
 
 -- yes or no as a byte, and a byte as yes or no
 abbrev pub flag : Bool → ℕ
@@ -22,8 +35,9 @@ bytesAt b at n = map (λ i. getD b (at + i) 0) (below n)
 unfoldable pub flagsAt : List ℕ → ℕ → ℕ → List Bool
 flagsAt b at n = map (λ i. isSet (getD b (at + i) 0)) (below n)
 
-unfoldable pub policyOf : List ℕ → Policy
-policyOf b = record {
+-- the policy of a record's bytes
+unfoldable pub unpacked : List ℕ → Policy
+unpacked b = record {
   states = getD b 0 0;
   letters = getD b 1 0;
   colours = getD b 2 0;
@@ -33,9 +47,18 @@ policyOf b = record {
   family = flagsAt b 132 256;
 }
 
+-- the policy of a record; of a list of another length the zero policy, which is not legal
+unfoldable pub policyOf : List ℕ → Policy
+policyOf b = cond (isRecord b) (unpacked b) zeroPolicy
+
 unfoldable pub recordOf : Policy → List ℕ
 recordOf p = p .states ∷ p .letters ∷ p .colours ∷ p .initial ∷ (p .target ++ p .colour ++ map flag (p .family))
 
+-- ---- two calls in one
 -- of two numbers of refusals, one after the other: the first that is not 0
 unfoldable pub firstOf : ℕ → ℕ → ℕ
 firstOf first second = cond (eqb first 0) second first
+
+-- the offset: where the refused command begins, if the first of the two refused; 0 if the second did; else where what follows begins
+unfoldable pub offsetAfter : ℕ → ℕ → ℕ → ℕ
+offsetAfter first second offset = cond (eqb first 0) (cond (eqb second 0) offset 0) offset

@@ -6,6 +6,8 @@ use judging::RowsVerdict;
 use reading::Outcome;
 use running::Reading;
 ghost use mathlib.Core.Path.{_≡_};
+ghost use mathlib.Core.Bool.{cond};
+ghost use lib.Dec.{eqb};
 ghost use Rattle.reading.specs.Reading.{offsetOf, numberOf as readNumberOf};
 ghost use Rattle.builder.specs.Tables.{countsOf, numberOf as translateNumberOf};
 ghost use Rattle.running.specs.Running.{runAfter, priorityOf, numberOf as runNumberOf};
@@ -49,6 +51,13 @@ pub fn translate_counts(t: Translation) -> [u16; 3]
         Translation::Translated(nodes, states, start) => [nodes, states, start],
         Translation::Refused(_) => [0, 0, 0],
     }
+}
+
+// An offset, 0 after a refusal.
+pub fn unless_refused(number: u8, offset: usize) -> usize
+    ensures { λ r. ⌜ r ≡ cond (eqb number 0) offset 0 ⌝ }
+{
+    if number == 0 { offset } else { 0 }
 }
 
 // ---- running

@@ -1,17 +1,28 @@
-// The functions of the static library, for C and for Rust (include/wulfrenda.h). A policy crosses the boundary as a record of 388 bytes (specs/Records.antt). Each function that
-// can refuse returns document 01's number, 0 where nothing was refused, and writes what else it answers into places that the caller lends.
-pub mod answers;
-pub mod records;
+// The functions of the static library, for C and for Rust (include/wulfrenda.h). A policy crosses the boundary as a record of 388 bytes (specs/Records.antt), lent with its length;
+// bytes of another length are no policy's, and refused with 7. Each function that can refuse returns document 01's number, 0 where nothing was refused, and writes what else it answers
+// into places that the caller lends.
+mod answers;
+mod records;
 
 use running::Run;
 ghost use mathlib.Core.Path.{_≡_};
+ghost use mathlib.Core.Bool.{cond};
+ghost use Rattle.lists.specs.Questions.{ask};
 ghost use Rattle.colour_sets.specs.Order.{setAt};
 ghost use Rattle.reading.specs.Reading.{offsetOf, readingOf, numberOf as readNumberOf};
 ghost use Rattle.builder.specs.Tables.{countsOf, translationOf, tablesAfter, Hold, tables, numberOf as translateNumberOf};
 ghost use Rattle.running.specs.Running.{runAfter, priorityOf, numberOf as runNumberOf, readingOf as runReadingOf};
 ghost use Rattle.judging.specs.Judging.{policyNumberOf, policyColoursOf, policyAcceptedOf, policyVerdict, rowsNumberOf, rowsLeastOf, rowsVerdict};
 ghost use Rattle.comparing.specs.Comparing.{sameOf, comparison, numberOf as compareNumberOf};
-ghost use Rattle.wulfrenda.specs.Records.{flag, policyOf, recordOf, firstOf};
+ghost use Rattle.wulfrenda.specs.Records.{version, flag, isRecord, policyOf, recordOf, firstOf, offsetAfter};
+
+// The archive's version: major times 1,000,000 plus minor times 1,000 plus patch. The header's WULFRENDA_VERSION says which one a caller was built for.
+#[no_mangle]
+pub extern "C" fn wulfrenda_version() -> u32
+    ensures { λ r. ⌜ r ≡ version ⌝ }
+{
+    2000000
+}
 
 // The colour set at a position of the fixed order.
 #[no_mangle]
@@ -21,17 +32,22 @@ pub extern "C" fn wulfrenda_colour_set(position: u8) -> u8
     colour_sets::set_at(position)
 }
 
-// The record of the policy that the command bytes give, and where what follows the end command begins; after a refusal a record of zeros, and the offset of the refused command.
+// The record of the policy that the command bytes give, and where what follows the end command begins; after a refused reading a record of zeros, and the offset of the refused
+// command. The record's length is asked first: another one is 7, the record as it was, the offset 0.
 #[no_mangle]
-pub extern "C" fn wulfrenda_read(bytes: &[u8], packed: &mut [u8; 388], offset: &mut usize) -> u8
-    ensures number { λ r. ⌜ r ≡ readNumberOf (readingOf (now (bytes .entry)) .outcome) ⌝ }
-    ensures policy { λ _. ⌜ now (packed .exit) ≡ recordOf (readingOf (now (bytes .entry)) .policy) ⌝ }
-    ensures offset { λ _. ⌜ now (offset .exit) ≡ offsetOf (readingOf (now (bytes .entry)) .outcome) ⌝ }
+pub extern "C" fn wulfrenda_read(bytes: &[u8], packed: &mut [u8], offset: &mut usize) -> u8
+    ensures number { λ r. ⌜ r ≡ ask (isRecord (now (packed .entry))) 7 (readNumberOf (readingOf (now (bytes .entry)) .outcome)) ⌝ }
+    ensures policy { λ _. ⌜ now (packed .exit) ≡ cond (isRecord (now (packed .entry))) (recordOf (readingOf (now (bytes .entry)) .policy)) (now (packed .entry)) ⌝ }
+    ensures offset { λ _. ⌜ now (offset .exit) ≡ cond (isRecord (now (packed .entry))) (offsetOf (readingOf (now (bytes .entry)) .outcome)) 0 ⌝ }
 {
+    if packed.len() != records::LENGTH {
+        *offset = 0;
+        return 7;
+    }
     let answer = reading::read(bytes);
     let p = answer.policy;
     let outcome = answer.outcome;
-    *packed = records::record_of(p);
+    records::put_record(packed, p);
     *offset = answers::read_offset(outcome);
     answers::read_number(outcome)
 }
@@ -39,7 +55,7 @@ pub extern "C" fn wulfrenda_read(bytes: &[u8], packed: &mut [u8; 388], offset: &
 // The forest and the automaton in the seven tables; the numbers of nodes and states, and the start, in counts.
 #[no_mangle]
 pub extern "C" fn wulfrenda_translate(
-    packed: &[u8; 388],
+    packed: &[u8],
     masks: &mut [u64],
     parents: &mut [u16],
     node_priorities: &mut [u8],
@@ -69,7 +85,7 @@ pub extern "C" fn wulfrenda_translate(
 }
 
 // The two in one: the command bytes are read, and the policy that they give is translated. What was read is legal, so question 7 is not asked again; after a refused reading the policy
-// is all zero, and translating an illegal policy leaves the tables as they are and counts nothing.
+// is all zero, and translating an illegal policy leaves the tables as they are and counts nothing. The offset is 0 after a refused translation.
 #[no_mangle]
 pub extern "C" fn wulfrenda_translate_bytes(
     bytes: &[u8],
@@ -86,15 +102,16 @@ pub extern "C" fn wulfrenda_translate_bytes(
     ensures number { λ r. ⌜ r ≡ firstOf (readNumberOf (readingOf (now (bytes .entry)) .outcome)) (translateNumberOf (translationOf (readingOf (now (bytes .entry)) .policy) (tables (now (masks .entry)) (now (parents .entry)) (now («node_priorities» .entry)) (now (sources .entry)) (now (leaves .entry)) (now (targets .entry)) (now (priorities .entry))))) ⌝ }
     ensures counts { λ _. ⌜ now (counts .exit) ≡ countsOf (translationOf (readingOf (now (bytes .entry)) .policy) (tables (now (masks .entry)) (now (parents .entry)) (now («node_priorities» .entry)) (now (sources .entry)) (now (leaves .entry)) (now (targets .entry)) (now (priorities .entry)))) ⌝ }
     ensures tables { λ _. ⌜ Hold (tablesAfter (readingOf (now (bytes .entry)) .policy) (tables (now (masks .entry)) (now (parents .entry)) (now («node_priorities» .entry)) (now (sources .entry)) (now (leaves .entry)) (now (targets .entry)) (now (priorities .entry)))) (now (masks .exit)) (now (parents .exit)) (now («node_priorities» .exit)) (now (sources .exit)) (now (leaves .exit)) (now (targets .exit)) (now (priorities .exit)) ⌝ }
-    ensures offset { λ _. ⌜ now (offset .exit) ≡ offsetOf (readingOf (now (bytes .entry)) .outcome) ⌝ }
+    ensures offset { λ _. ⌜ now (offset .exit) ≡ offsetAfter (readNumberOf (readingOf (now (bytes .entry)) .outcome)) (translateNumberOf (translationOf (readingOf (now (bytes .entry)) .policy) (tables (now (masks .entry)) (now (parents .entry)) (now («node_priorities» .entry)) (now (sources .entry)) (now (leaves .entry)) (now (targets .entry)) (now (priorities .entry))))) (offsetOf (readingOf (now (bytes .entry)) .outcome)) ⌝ }
 {
     let answer = reading::read(bytes);
     let p = answer.policy;
     let outcome = answer.outcome;
-    *offset = answers::read_offset(outcome);
+    let at = answers::read_offset(outcome);
     let number = answers::read_number(outcome);
     if number != 0 {
         *counts = [0, 0, 0];
+        *offset = at;
         return number;
     }
     let t = builder::translate_legal(
@@ -108,7 +125,9 @@ pub extern "C" fn wulfrenda_translate_bytes(
         priorities,
     );
     *counts = answers::translate_counts(t);
-    answers::translate_number(t)
+    let refusal = answers::translate_number(t);
+    *offset = answers::unless_refused(refusal, at);
+    refusal
 }
 
 // A letter more: the state moves, or stays after a refusal; the priority is that met, or 0 after a refusal.
@@ -135,7 +154,7 @@ pub extern "C" fn wulfrenda_run(
 // The colours that recur on a policy from a state over the stem and then the loop without end, and whether their set is in the family.
 #[no_mangle]
 pub extern "C" fn wulfrenda_judge_policy(
-    packed: &[u8; 388],
+    packed: &[u8],
     state: u8,
     stem: &[u8],
     period: &[u8],
@@ -174,7 +193,7 @@ pub extern "C" fn wulfrenda_judge_rows(
 
 // Whether every cycle has the same verdict in both policies.
 #[no_mangle]
-pub extern "C" fn wulfrenda_compare(first: &[u8; 388], second: &[u8; 388], same: &mut u8) -> u8
+pub extern "C" fn wulfrenda_compare(first: &[u8], second: &[u8], same: &mut u8) -> u8
     ensures number { λ r. ⌜ r ≡ compareNumberOf (comparison (policyOf (now (first .entry))) (policyOf (now (second .entry)))) ⌝ }
     ensures same { λ _. ⌜ now (same .exit) ≡ flag (sameOf (comparison (policyOf (now (first .entry))) (policyOf (now (second .entry))))) ⌝ }
 {

@@ -1,11 +1,15 @@
-// A policy as a record of 388 bytes, and back.
+// A policy as a record of 388 bytes, and back. Bytes of another length are no record.
 use policy::Policy;
 ghost use mathlib.Core.Path.{_≡_};
 ghost use mathlib.Core.List.{map};
 ghost use Prim.Native.Nat.{_+_, _≤_};
 ghost use lib.ListN.{length};
 ghost use lib.Seq.{sets};
-ghost use Rattle.wulfrenda.specs.Records.{flag, bytesAt, flagsAt, policyOf, recordOf};
+ghost use Rattle.reading.specs.Reading.{zeroPolicy};
+ghost use Rattle.wulfrenda.specs.Records.{flag, recordLength, bytesAt, flagsAt, policyOf, recordOf};
+
+// How long a record is (recordLength).
+pub const LENGTH: usize = 388;
 
 // Yes or no as a byte.
 pub fn flag(b: bool) -> u8
@@ -16,8 +20,8 @@ pub fn flag(b: bool) -> u8
 
 // ---- from a record
 // 64 bytes of a record, from a place on.
-fn bytes_at(packed: &[u8; 388], at: usize) -> [u8; 64]
-    requires { ⌜ at ≤ 324 ⌝ }
+fn bytes_at(packed: &[u8], at: usize) -> [u8; 64]
+    requires { ⌜ at + 64 ≤ length (now packed) ⌝ }
     ensures { λ r. ⌜ r ≡ bytesAt (now (packed .entry)) at 64 ⌝ }
 {
     let mut bytes = [0; 64];
@@ -28,7 +32,8 @@ fn bytes_at(packed: &[u8; 388], at: usize) -> [u8; 64]
 }
 
 // The last 256 bytes of a record, each as yes or no.
-fn flags_at(packed: &[u8; 388]) -> [bool; 256]
+fn flags_at(packed: &[u8]) -> [bool; 256]
+    requires { ⌜ recordLength ≤ length (now packed) ⌝ }
     ensures { λ r. ⌜ r ≡ flagsAt (now (packed .entry)) 132 256 ⌝ }
 {
     let mut flags = [false; 256];
@@ -38,10 +43,27 @@ fn flags_at(packed: &[u8; 388]) -> [bool; 256]
     flags
 }
 
-// The policy of a record.
-pub fn policy_of(packed: &[u8; 388]) -> Policy
+fn zero_policy() -> Policy
+    ensures { λ r. ⌜ r ≡ zeroPolicy ⌝ }
+{
+    Policy {
+        states: 0,
+        letters: 0,
+        colours: 0,
+        initial: 0,
+        target: [0; 64],
+        colour: [0; 64],
+        family: [false; 256],
+    }
+}
+
+// The policy of a record; the zero policy, which is not legal, if the bytes are none.
+pub fn policy_of(packed: &[u8]) -> Policy
     ensures { λ r. ⌜ r ≡ policyOf (now (packed .entry)) ⌝ }
 {
+    if packed.len() != LENGTH {
+        return zero_policy();
+    }
     Policy {
         states: packed[0],
         letters: packed[1],
@@ -75,7 +97,7 @@ fn put_flags(packed: &mut [u8], at: usize, flags: &[bool])
 }
 
 // The record of a policy.
-pub fn record_of(p: Policy) -> [u8; 388]
+fn record_of(p: Policy) -> [u8; 388]
     ensures { λ r. ⌜ r ≡ recordOf p ⌝ }
 {
     let mut packed = [0; 388];
@@ -87,4 +109,13 @@ pub fn record_of(p: Policy) -> [u8; 388]
     put_bytes(&mut packed, 68, &p.colour);
     put_flags(&mut packed, 132, &p.family);
     packed
+}
+
+// Stores the record of a policy.
+pub fn put_record(packed: &mut [u8], p: Policy)
+    requires { ⌜ length (now packed) ≡ recordLength ⌝ }
+    ensures { λ _. ⌜ now (packed .exit) ≡ recordOf p ⌝ }
+{
+    let bytes = record_of(p);
+    put_bytes(packed, 0, &bytes);
 }

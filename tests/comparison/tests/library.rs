@@ -98,12 +98,12 @@ fn translating() {
     assert!(fitting > policies(6_000) / 2);
 }
 
-/// What becomes of command bytes in one call: the counts, or the number, and the offset.
+/// What becomes of command bytes in one call: the counts, or the number, and the offset, which is 0 where the policy was read and not translated.
 fn bytes_alike(translator: &mut Translator, bytes: &[u8], mut tables: Lent) -> u8 {
     let mut expected = tables.clone();
     let theirs = policy::read(bytes).and_then(|(p, end)| {
         let answer = expected.fill(translator, &p);
-        answer.map(|a| (counts(a), end)).map_err(|n| (n, end))
+        answer.map(|a| (counts(a), end)).map_err(|n| (n, 0))
     });
     let ours = tables.translate_bytes(bytes);
     let ours = ours

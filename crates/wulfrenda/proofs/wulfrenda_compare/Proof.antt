@@ -26,10 +26,11 @@ compare-number-requires c κs = search needs
 
 returns : tie.Need-returns
 returns c =
-    let is = c .before .before .before .compare .ensures ∙ ap₂ comparison (c .before .before .before .before .before .policy-of .ensures) (c .before .before .before .before .policy-of2 .ensures) in (
-      c .compare-number .ensures ∙ ap numberOf is,
-      c .before .flag .ensures ∙ ap flag (c .before .before .compare-same .ensures ∙ ap sameOf is),
-    )
+    let compared = c .before .before .before in
+    let is = compared .compare .ensures ∙ ap₂ comparison (compared .before .before .policy-of .ensures) (compared .before .policy-of2 .ensures) in
+    let number = c .compare-number .ensures ∙ ap numberOf is in
+    let same = c .before .flag .ensures ∙ ap flag (c .before .before .compare-same .ensures ∙ ap sameOf is) in
+    (number, same)
 
 pub wulfrenda-compare-spec : {M : Type 1} → statement M
 wulfrenda-compare-spec =

@@ -27,15 +27,14 @@ policy-number-requires c κs = search needs
 
 returns : tie.Need-returns
 returns c =
-    let args = c .before .before .before .before .before .before .before .before .args in
-    let is = c .before .before .before .before .judge-policy .ensures .answer-is
-    ∙ ap (λ (p : Policy). policyVerdict p (args .state) (args .stem .now) (args .period .now)) (c .before .before .before .before .before .policy-of .ensures) in (
-      c .policy-number .ensures ∙ ap policyNumberOf is,
-      (
-        c .before .before .before .policy-colours .ensures ∙ ap policyColoursOf is,
-        c .before .flag .ensures ∙ ap flag (c .before .before .policy-accepted .ensures ∙ ap policyAcceptedOf is),
-      ),
-    )
+    let judged = c .before .before .before .before in
+    let args = judged .before .before .before .before .before .args in
+    let is = judged .judge-policy .ensures .answer-is
+    ∙ ap (λ (p : Policy). policyVerdict p (args .state) (args .stem .now) (args .period .now)) (judged .before .policy-of .ensures) in
+    let number = c .policy-number .ensures ∙ ap policyNumberOf is in
+    let colours = c .before .before .before .policy-colours .ensures ∙ ap policyColoursOf is in
+    let accepted = c .before .flag .ensures ∙ ap flag (c .before .before .policy-accepted .ensures ∙ ap policyAcceptedOf is) in
+    (number, (colours, accepted))
 
 pub wulfrenda-judge-policy-spec : {M : Type 1} → statement M
 wulfrenda-judge-policy-spec =

@@ -17,7 +17,9 @@ rows-number-requires c κs = search needs
 returns : tie.Need-returns
 returns c =
     let is = c .before .before .judge-rows .ensures .answer-is in
-    (c .rows-number .ensures ∙ ap rowsNumberOf is, c .before .rows-least .ensures ∙ ap rowsLeastOf is)
+    let number = c .rows-number .ensures ∙ ap rowsNumberOf is in
+    let least = c .before .rows-least .ensures ∙ ap rowsLeastOf is in
+    (number, least)
 
 pub wulfrenda-judge-rows-spec : {M : Type 1} → statement M
 wulfrenda-judge-rows-spec =

@@ -1,17 +1,21 @@
--- `wulfrenda::wulfrenda_read` meets its contract: the number, the policy and the offset of the reading. Assumes nothing.
-use mathlib.Core.Path.{ap, _∙_}
+-- `wulfrenda::wulfrenda_read` meets its contract: the number, the policy and the offset of the reading, or 7 where there is no place for a record. Assumes nothing.
+use mathlib.Core.Path.{refl, ap, _∙_}
+use borrow.Author.Tests.{eq-eqb, ne-eqb}
 use Rattle.reading.specs.declared.Answer.{Answer}
 use Rattle.reading.specs.Reading.{numberOf, offsetOf}
-use Rattle.wulfrenda.specs.Records.{recordOf}
+use Rattle.wulfrenda.specs.Records.{recordLength, recordOf}
 use borrow.Author.Needs.{needs}
 use Rattle.wulfrenda.proofs.wulfrenda_read.Statement.{statement}
 use Rattle.wulfrenda.proofs.wulfrenda_read.Tie as tie
 
+returns : tie.Need-returns
+returns c = rw (ne-eqb _ recordLength (c .if1 .taken)) (refl, (refl, refl))
+
 read-requires : tie.Need-read-requires
 read-requires c κs = search needs
 
-record-of-requires : tie.Need-record-of-requires
-record-of-requires c κs = search needs
+put-record-requires : tie.Need-put-record-requires
+put-record-requires c κs = search needs
 
 read-offset-requires : tie.Need-read-offset-requires
 read-offset-requires c κs = search needs
@@ -19,17 +23,27 @@ read-offset-requires c κs = search needs
 read-number-requires : tie.Need-read-number-requires
 read-number-requires c κs = search needs
 
-returns : tie.Need-returns
-returns c =
-    let is = c .before .before .before .before .read .ensures in (
-      c .read-number .ensures ∙ ap (λ (a : Answer). numberOf (a .outcome)) is,
-      (
-        c .before .before .record-of .ensures ∙ ap (λ (a : Answer). recordOf (a .policy)) is,
-        c .before .read-offset .ensures ∙ ap (λ (a : Answer). offsetOf (a .outcome)) is,
-      ),
-    )
+same-length : tie.Need-same-length
+same-length c = search needs
+
+returns-2 : tie.Need-returns-2
+returns-2 c =
+    let stored = c .before .before .before .before in
+    let read = stored .before .before .before in
+    let is = read .read .ensures in
+    let number = c .read-number .ensures ∙ ap (λ (a : Answer). numberOf (a .outcome)) is in
+    let policy = stored .put-record .ensures ∙ ap (λ (a : Answer). recordOf (a .policy)) is in
+    let offset = c .before .read-offset .ensures ∙ ap (λ (a : Answer). offsetOf (a .outcome)) is in
+    rw (eq-eqb _ recordLength (read .before .if1 .left)) (number, (policy, offset))
 
 pub wulfrenda-read-spec : {M : Type 1} → statement M
 wulfrenda-read-spec =
     tie.close
-    (tie.spec read-requires record-of-requires read-offset-requires read-number-requires returns)
+    (tie.spec
+    returns
+    read-requires
+    put-record-requires
+    read-offset-requires
+    read-number-requires
+    same-length
+    returns-2)

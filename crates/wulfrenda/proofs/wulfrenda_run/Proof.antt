@@ -20,13 +20,11 @@ run-number-requires c κs = search needs
 
 returns : tie.Need-returns
 returns c =
-    let is = c .before .before .before .read .ensures .answer-is in (
-      c .run-number .ensures ∙ ap numberOf is,
-      (
-        c .before .before .run-state .ensures ∙ ap (λ (x : Reading). runAfter x .state) is,
-        c .before .run-priority .ensures ∙ ap priorityOf is,
-      ),
-    )
+    let is = c .before .before .before .read .ensures .answer-is in
+    let number = c .run-number .ensures ∙ ap numberOf is in
+    let state = c .before .before .run-state .ensures ∙ ap (λ (x : Reading). runAfter x .state) is in
+    let priority = c .before .run-priority .ensures ∙ ap priorityOf is in
+    (number, (state, priority))
 
 pub wulfrenda-run-spec : {M : Type 1} → statement M
 wulfrenda-run-spec =

@@ -1,7 +1,7 @@
 -- `wulfrenda::wulfrenda_translate` meets its contract: the number and the counts of the translation, and its tables. Assumes nothing.
 use mathlib.Core.Path.{ap, _∙_}
-use Rattle.policy.specs.declared.Policy.{Policy}
-use Rattle.builder.specs.Tables.{translationOf, tables, numberOf, countsOf}
+use Rattle.builder.specs.Tables.{numberOf, countsOf}
+use Rattle.wulfrenda.proofs.Bytes.{same-policy}
 use borrow.Author.Needs.{needs}
 use Rattle.wulfrenda.proofs.wulfrenda_translate.Statement.{statement}
 use Rattle.wulfrenda.proofs.wulfrenda_translate.Tie as tie
@@ -39,14 +39,20 @@ same-length-6 c = search needs
 same-length-7 : tie.Need-same-length-7
 same-length-7 c = search needs
 
+-- the call whose promise the answer hands on, and the policy that it was called with
+abbrev translated : tie.After-translate-number → tie.After-translate
+translated c = c .before .before .before .before .before .before .before .before .before .before .before .before .before .before .before .before
+
+abbrev unpacked : tie.After-translate → tie.After-policy-of
+unpacked c = c .before .before .before .before .before .before .before .before
+
 returns : tie.Need-returns
 returns c =
-    let of = c .before .before .before .before .before .before .before .before .before .before .before .before .before .before .before .before .before .before .before .before .before .before .before .before .policy-of .ensures in
-    let t = c .before .before .before .before .before .before .before .before .before .before .before .before .before .before .before .before .translate in
-    let a = c .before .before .before .before .before .before .before .before .before .before .before .before .before .before .before .before .before .before .before .before .before .before .before .before .before .before .before .before .before .before .before .before .args in
-    let before = tables (a .masks .now) (a .parents .now) (a .node-priorities .now) (a .sources .now) (a .leaves .now) (a .targets .now) (a .priorities .now) in
-    let is = t .ensures .answer-is ∙ ap (λ (p : Policy). translationOf p before) of in
-    (c .translate-number .ensures ∙ ap numberOf is, (c .before .translate-counts .ensures ∙ ap countsOf is, rw of at (t .ensures .tables-are)))
+    let call = translated c in
+    let t = same-policy (unpacked call .policy-of .ensures) (call .translate .ensures) in
+    let number = c .translate-number .ensures ∙ ap numberOf (t .answer-is) in
+    let counts = c .before .translate-counts .ensures ∙ ap countsOf (t .answer-is) in
+    (number, (counts, t .tables-are))
 
 pub wulfrenda-translate-spec : {M : Type 1} → statement M
 wulfrenda-translate-spec =

@@ -1,14 +1,41 @@
 -- `wulfrenda::wulfrenda_translate_bytes` meets its contract: after a refused reading nothing is translated, and a policy that was read is legal. Assumes nothing.
-use mathlib.Core.Path.{sym, ap, _∙_}
+use Prim.Native.Nat.{ℕ}
+use mathlib.Core.Path.{_≡_, sym, ap, _∙_}
+use mathlib.Core.Bool.{cond}
+use lib.Dec.{eqb}
 use Rattle.policy.specs.Policies.{legal}
 use Rattle.reading.specs.declared.Answer.{Answer}
-use Rattle.reading.specs.Reading.{offsetOf, numberOf as readNumberOf}
+use Rattle.reading.specs.Reading.{readingOf, offsetOf, numberOf as readNumberOf}
 use Rattle.reading.proofs.Legal.{number-legal, number-illegal}
-use Rattle.builder.specs.Tables.{translationOf, tables, countsOf, numberOf}
-use Rattle.wulfrenda.proofs.Bytes.{illegal-counts, illegal-tables, first-refused, first-passed}
+use Rattle.builder.specs.Tables.{countsOf, numberOf}
+use Rattle.wulfrenda.proofs.Bytes.{same-policy, illegal-counts, illegal-tables, first-refused, offset-refused, first-passed, offset-passed}
 use borrow.Author.Needs.{needs}
 use Rattle.wulfrenda.proofs.wulfrenda_translate_bytes.Statement.{statement}
 use Rattle.wulfrenda.proofs.wulfrenda_translate_bytes.Tie as tie
+
+-- the places that the answers look back to
+abbrev start : tie.After-read → tie.Start
+start c = c .before .before .before .before .before .before .before .before .before
+
+abbrev read : tie.After-read-number → tie.After-read
+read c = c .before .before .before
+
+abbrev asked : tie.Else1 → tie.After-read-number
+asked c = c .before
+
+abbrev passed : tie.After-translate-legal-arg7 → tie.Else1
+passed c = c .before .before .before .before .before .before .before
+
+abbrev translated : tie.After-unless-refused → tie.After-translate-legal
+translated c = c .before .before .before .before .before .before .before .before .before .before .before .before .before .before .before .before .before
+
+-- the number of the reading
+number-read : (c : tie.After-read-number) → c .read-number .result ≡ readNumberOf (readingOf (start (read c) .args .bytes .now) .outcome)
+number-read c = c .read-number .ensures ∙ ap (λ (x : Answer). readNumberOf (x .outcome)) (read c .read .ensures)
+
+-- the offset of the reading
+offset-read : (c : tie.After-read-number) → c .before .read-offset .result ≡ offsetOf (readingOf (start (read c) .args .bytes .now) .outcome)
+offset-read c = c .before .read-offset .ensures ∙ ap (λ (x : Answer). offsetOf (x .outcome)) (read c .read .ensures)
 
 read-requires : tie.Need-read-requires
 read-requires c κs = search needs
@@ -21,31 +48,30 @@ read-number-requires c κs = search needs
 
 returns : tie.Need-returns
 returns c =
-    let a = c .before .before .before .before .before .before .before .before .before .before .before .before .before .before .args in
-    let is = c .before .before .before .before .before .read .ensures in
-    let n = c .before .before .read-number .ensures ∙ ap (λ (x : Answer). readNumberOf (x .outcome)) is in
-    let illegal = number-illegal (a .bytes .now) (λ z. c .before .if1 .taken (n ∙ z)) in (
-      first-refused _ _ _ n (c .before .if1 .taken),
-      (
-        illegal-counts _ (a .masks .now) (a .parents .now) (a .node-priorities .now) (a .sources .now) (a .leaves .now) (a .targets .now) (a .priorities .now) illegal,
-        (
-          illegal-tables _ (a .masks .now) (a .parents .now) (a .node-priorities .now) (a .sources .now) (a .leaves .now) (a .targets .now) (a .priorities .now) illegal,
-          c .before .before .before .read-offset .ensures ∙ ap (λ (x : Answer). offsetOf (x .outcome)) is,
-        ),
-      ),
-    )
+    let r = c .before .before in
+    let a = start (read r) .args in
+    let n = number-read r in
+    let refused = c .before .if1 .taken in
+    let illegal = number-illegal (a .bytes .now) (λ z. refused (n ∙ z)) in
+    let number = first-refused _ _ _ 0 n refused in
+    let counts = illegal-counts _ (a .masks .now) (a .parents .now) (a .node-priorities .now) (a .sources .now) (a .leaves .now) (a .targets .now) (a .priorities .now) illegal in
+    let tables = illegal-tables _ (a .masks .now) (a .parents .now) (a .node-priorities .now) (a .sources .now) (a .leaves .now) (a .targets .now) (a .priorities .now) illegal in
+    let offset = offset-read r ∙ offset-refused _ _ _ _ n refused in
+    (number, (counts, (tables, offset)))
 
 translate-legal-requires : tie.Need-translate-legal-requires
 translate-legal-requires c κs =
-    let is = c .before .before .before .before .before .before .before .before .before .before .before .read .ensures in
-    let n = c .before .before .before .before .before .before .before .before .read-number .ensures ∙ ap (λ (x : Answer). readNumberOf (x .outcome)) is in
-    ap (λ (x : Answer). legal (x .policy)) is ∙ number-legal (c .before .before .before .before .before .before .before .before .before .before .before .before .before .before .before .before .before .before .before .before .args .bytes .now) (sym n ∙ c .before .before .before .before .before .before .before .if1 .left)
+    let r = asked (passed c) in
+    ap (λ (x : Answer). legal (x .policy)) (read r .read .ensures) ∙ number-legal (start (read r) .args .bytes .now) (sym (number-read r) ∙ passed c .if1 .left)
 
 translate-counts-requires : tie.Need-translate-counts-requires
 translate-counts-requires c κs = search needs
 
 translate-number-requires : tie.Need-translate-number-requires
 translate-number-requires c κs = search needs
+
+unless-refused-requires : tie.Need-unless-refused-requires
+unless-refused-requires c κs = search needs
 
 same-length : tie.Need-same-length
 same-length c = search needs
@@ -70,18 +96,16 @@ same-length-7 c = search needs
 
 returns-2 : tie.Need-returns-2
 returns-2 c =
-    let a = c .before .before .before .before .before .before .before .before .before .before .before .before .before .before .before .before .before .before .before .before .before .before .before .before .before .before .before .before .before .before .before .before .before .before .before .before .before .args in
-    let is = c .before .before .before .before .before .before .before .before .before .before .before .before .before .before .before .before .before .before .before .before .before .before .before .before .before .before .before .before .read .ensures in
-    let n = c .before .before .before .before .before .before .before .before .before .before .before .before .before .before .before .before .before .before .before .before .before .before .before .before .before .read-number .ensures ∙ ap (λ (x : Answer). readNumberOf (x .outcome)) is in
-    let t = c .before .before .before .before .before .before .before .before .before .before .before .before .before .before .before .before .translate-legal in
-    let before = tables (a .masks .now) (a .parents .now) (a .node-priorities .now) (a .sources .now) (a .leaves .now) (a .targets .now) (a .priorities .now) in
-    let translated = t .ensures .answer-is ∙ ap (λ (x : Answer). translationOf (x .policy) before) is in (
-      first-passed _ _ _ (sym n ∙ c .before .before .before .before .before .before .before .before .before .before .before .before .before .before .before .before .before .before .before .before .before .before .before .before .if1 .left) (c .translate-number .ensures ∙ ap numberOf translated),
-      (
-        c .before .translate-counts .ensures ∙ ap countsOf translated,
-        (rw is at (t .ensures .tables-are), c .before .before .before .before .before .before .before .before .before .before .before .before .before .before .before .before .before .before .before .before .before .before .before .before .before .before .read-offset .ensures ∙ ap (λ (x : Answer). offsetOf (x .outcome)) is),
-      ),
-    )
+    let call = translated c in
+    let passing = call .before .before .before .before .before .before .before .before in
+    let r = asked passing in
+    let t = same-policy (ap (λ (x : Answer). x .policy) (read r .read .ensures)) (call .translate-legal .ensures) in
+    let zero = sym (number-read r) ∙ passing .if1 .left in
+    let n = c .before .translate-number .ensures ∙ ap numberOf (t .answer-is) in
+    let number = first-passed _ _ _ 0 zero n in
+    let counts = c .before .before .translate-counts .ensures ∙ ap countsOf (t .answer-is) in
+    let offset = c .unless-refused .ensures ∙ ap (λ (x : ℕ). cond (eqb (c .before .translate-number .result) 0) x 0) (offset-read r) ∙ offset-passed _ _ _ _ zero n in
+    (number, (counts, (t .tables-are, offset)))
 
 pub wulfrenda-translate-bytes-spec : {M : Type 1} → statement M
 wulfrenda-translate-bytes-spec =
@@ -94,6 +118,7 @@ wulfrenda-translate-bytes-spec =
     translate-legal-requires
     translate-counts-requires
     translate-number-requires
+    unless-refused-requires
     same-length
     same-length-2
     same-length-3

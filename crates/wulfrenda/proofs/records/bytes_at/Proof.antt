@@ -21,8 +21,8 @@ loop-holds c = copied-none _ _ _ _ refl
 add-bytes : tie.Need-add-bytes Inv-loop μ-loop
 add-bytes c = omega arith
 
-element-copy-out-bytes : tie.Need-element-copy-out-bytes Inv-loop μ-loop
-element-copy-out-bytes c = omega arith
+shared-slice-read-bytes : tie.Need-shared-slice-read-bytes Inv-loop μ-loop
+shared-slice-read-bytes c = omega arith
 
 array-write-bytes : tie.Need-array-write-bytes Inv-loop μ-loop
 array-write-bytes c = omega arith
@@ -41,4 +41,4 @@ unfolding bytesAt
 returns c = copied-all _ _ _ _ _ (omega arith) (c .before .loop .inv)
 
 pub bytes-at-spec : {M : Type 1} → statement M
-bytes-at-spec = tie.close (tie.spec Inv-loop μ-loop loop-holds add-bytes element-copy-out-bytes array-write-bytes add-i loop-less loop-again returns)
+bytes-at-spec = tie.close (tie.spec Inv-loop μ-loop loop-holds add-bytes shared-slice-read-bytes array-write-bytes add-i loop-less loop-again returns)

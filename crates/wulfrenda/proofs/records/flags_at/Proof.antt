@@ -21,8 +21,8 @@ loop-holds c = copied-none _ _ _ _ refl
 add-flags : tie.Need-add-flags Inv-loop μ-loop
 add-flags c = omega arith
 
-element-copy-out-flags : tie.Need-element-copy-out-flags Inv-loop μ-loop
-element-copy-out-flags c = omega arith
+shared-slice-read-flags : tie.Need-shared-slice-read-flags Inv-loop μ-loop
+shared-slice-read-flags c = omega arith
 
 array-write-flags : tie.Need-array-write-flags Inv-loop μ-loop
 array-write-flags c = omega arith
@@ -41,4 +41,4 @@ unfolding flagsAt
 returns c = copied-all _ _ _ _ _ (omega arith) (c .before .loop .inv)
 
 pub flags-at-spec : {M : Type 1} → statement M
-flags-at-spec = tie.close (tie.spec Inv-loop μ-loop loop-holds add-flags element-copy-out-flags array-write-flags add-i loop-less loop-again returns)
+flags-at-spec = tie.close (tie.spec Inv-loop μ-loop loop-holds add-flags shared-slice-read-flags array-write-flags add-i loop-less loop-again returns)

@@ -1,21 +1,28 @@
--- `wulfrenda::records::policy_of` meets its contract: the definition, opened. Assumes nothing.
-use mathlib.Core.Path.{refl}
+-- `wulfrenda::records::policy_of` meets its contract: the definition, opened at each length. Assumes nothing.
+use mathlib.Core.Path.{refl, sym, _∙_}
 use borrow.Author.Needs.{needs}
-use Rattle.wulfrenda.specs.Records.{policyOf}
+use Rattle.wulfrenda.specs.Records.{unpacked}
+use Rattle.wulfrenda.proofs.Packing.{policy-of, policy-of-other}
 use Rattle.wulfrenda.proofs.records.policy_of.Statement.{statement}
 use Rattle.wulfrenda.proofs.records.policy_of.Tie as tie
 
-element-copy-out-t4 : tie.Need-element-copy-out-t4
-element-copy-out-t4 c = search needs
+zero-policy-requires : tie.Need-zero-policy-requires
+zero-policy-requires c κs = search needs
 
-element-copy-out-t7 : tie.Need-element-copy-out-t7
-element-copy-out-t7 c = search needs
+returns : tie.Need-returns
+returns c = c .zero-policy .ensures ∙ sym (policy-of-other _ (c .before .if1 .taken))
 
-element-copy-out-t10 : tie.Need-element-copy-out-t10
-element-copy-out-t10 c = search needs
+shared-slice-read-t5 : tie.Need-shared-slice-read-t5
+shared-slice-read-t5 c = search needs
 
-element-copy-out-t13 : tie.Need-element-copy-out-t13
-element-copy-out-t13 c = search needs
+shared-slice-read-t7 : tie.Need-shared-slice-read-t7
+shared-slice-read-t7 c = search needs
+
+shared-slice-read-t9 : tie.Need-shared-slice-read-t9
+shared-slice-read-t9 c = search needs
+
+shared-slice-read-t11 : tie.Need-shared-slice-read-t11
+shared-slice-read-t11 c = search needs
 
 bytes-at-requires : tie.Need-bytes-at-requires
 bytes-at-requires c κs = search needs
@@ -26,19 +33,25 @@ bytes-at-requires-2 c κs = search needs
 flags-at-requires : tie.Need-flags-at-requires
 flags-at-requires c κs = search needs
 
-returns : tie.Need-returns
-unfolding policyOf
-returns c = rw (c .before .before .bytes-at .ensures, c .before .bytes-at2 .ensures, c .flags-at .ensures)
+returns-2 : tie.Need-returns-2
+unfolding unpacked
+returns-2 c =
+    let target = c .before .before .bytes-at .ensures in
+    let colour = c .before .bytes-at2 .ensures in
+    let family = c .flags-at .ensures in
+    rw (policy-of _ (c .before .before .before .before .before .before .before .if1 .left), target, colour, family)
 
 pub policy-of-spec : {M : Type 1} → statement M
 policy-of-spec =
     tie.close
     (tie.spec
-    element-copy-out-t4
-    element-copy-out-t7
-    element-copy-out-t10
-    element-copy-out-t13
+    zero-policy-requires
+    returns
+    shared-slice-read-t5
+    shared-slice-read-t7
+    shared-slice-read-t9
+    shared-slice-read-t11
     bytes-at-requires
     bytes-at-requires-2
     flags-at-requires
-    returns)
+    returns-2)
