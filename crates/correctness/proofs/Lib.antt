@@ -9,3 +9,4 @@ pub mod Sequences
 pub mod Agreement
 pub mod Demand3
 pub mod Judgings
+pub mod Instances

@@ -2,3 +2,4 @@ pub mod Calls
 pub mod Demand3
 pub mod Known
 pub mod Judgings
+pub mod Instances
