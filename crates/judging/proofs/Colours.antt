@@ -1,29 +1,26 @@
 -- Judging a policy: what reading letters collects, and what the search for a repeat comes to; each answer of the definition. Assumes nothing.
-use Prim.Native.Nat.{ℕ, _+_, _*_, _^_, _≤_, _<_}
+use Prim.Native.Nat.{ℕ, _+_, _*_, _^_, _<_}
 use native.Mathlib.Omega.{arith}
 use mathlib.Core.Path.{_≡_, refl, sym, ap, ap₂, _∙_, subst}
-use mathlib.Core.Bool.{true, false, _&&_}
+use mathlib.Core.Bool.{true, false}
 use mathlib.Core.List.{List, [], _++_}
 use lib.Bits.{bitOr, or-zero-l}
-use lib.ListN.{length}
-use borrow.Author.Tests.{lt-ltb, le-ltb}
-use Rattle.recurrence.specs.Recurs.{iter}
-use Rattle.recurrence.specs.Runs.{after, window}
-use Rattle.recurrence.proofs.Runs.{after-keeps}
-use Rattle.recurrence.proofs.Repeats.{iter-keeps}
+use borrow.Author.Tests.{lt-ltb}
+use Rattle.recurrence.specs.declared.Search.{Search}
+use Rattle.recurrence.specs.Runs.{after, met, window}
+use Rattle.recurrence.specs.Search.{searchFrom, searchNext}
+use Rattle.recurrence.proofs.Runs.{after-keeps, through-run, through-value}
+use Rattle.recurrence.proofs.Seeking.{searchLeft, Numbered, Collects, Sought, seeking-few, seeking-within, sought-start, round-more, round-less}
 use Rattle.masks.specs.Masks.{insert}
 use Rattle.policy.specs.declared.Policy.{Policy}
-use Rattle.policy.specs.Policies.{legal, edgeOf, targetOf, colourOf, edgeColours, inFamily}
+use Rattle.policy.specs.Policies.{legal, edgeOf, targetOf, colourOf, edgeColours}
 use Rattle.policy.proofs.Laws.{legal-counts, legal-target, legal-colour, edges-le, edge-lt}
 use Rattle.running.specs.Running.{policyStep, policyMeets}
 use Rattle.running.proofs.Steps.{policy-moves, policy-within}
-use Rattle.judging.specs.declared.PolicyVerdict.the-variants.{Judged, Refused as RefusedPolicy}
 use Rattle.judging.specs.declared.Coloured.{Coloured}
-use Rattle.judging.specs.declared.Watch.{Watch}
-use Rattle.judging.specs.Judging.{inRange, setOf, recurringColours, policyVerdict}
-use Rattle.judging.specs.Rounds.{watchNext, colouredStep, colouredAfter, colouredAnew, colouredSince, colouredJoined}
-use Rattle.judging.proofs.Collect.{through-run, Held, held-join, Seeking, seeking-start, seeking-at, seeking-one, seeking-next, seeking-found, seeking-alone, seeking-end}
-use Rattle.judging.proofs.Laws.{set-append, set-same, none-of, some-of}
+use Rattle.judging.specs.Judging.{setOf, recurringColours}
+use Rattle.judging.specs.Rounds.{colouredStep, colouredAfter}
+use Rattle.judging.proofs.Laws.{set-append, set-same}
 
 abbrev coloured : ℕ → ℕ → Coloured
 coloured v c = record { state = v; colours = c }
@@ -68,68 +65,66 @@ module _ (p : Policy) where
   pub word-within : legal p ≡ true → (w : List ℕ) (m : Coloured) → m .state < p .states → colouredAfter p w m .state < p .states
   word-within ok w m h = subst (λ (v : ℕ). v < p .states) (sym (word-is w m)) (after-keeps (policyStep p) (policyMeets p) (λ v. v < p .states) (policy-within p ok) w (m .state) h)
 
-  pub rounds-within : legal p ≡ true → (loop : List ℕ) (k : ℕ) (m : Coloured) → m .state < p .states → iter (colouredAfter p loop) k m .state < p .states
-  rounds-within ok loop k m h = iter-keeps (colouredAfter p loop) (λ m. m .state < p .states) (λ m h. word-within ok loop m h) m h k
+  sets : Collects setOf bitOr
+  sets = record { same = set-same; joins = λ l r. sym (set-append l r) }
 
-  -- ---- the search for a repeat, from state v
+  -- what a list of letters adds to nothing
+  word-adds : (w : List ℕ) (v : ℕ) → colouredAfter p w (coloured v 0) .colours ≡ setOf (met (policyStep p) (policyMeets p) w v)
+  unfolding setOf
+  word-adds w v = through-value (policyStep p) (policyMeets p) (colouredStep p) (λ m. m .state) (λ m. m .colours) setOf moves adds w (coloured v 0) [] refl
+
+  -- ---- the search for a repeat, in rounds from state v
   module _ (loop : List ℕ) (v : ℕ) where
-    abbrev pub ColouredSeeking : Coloured → Watch → ℕ → Type 0
-    ColouredSeeking t w round = Seeking (policyStep p) (policyMeets p) (colouredStep p) (λ m. m .state) (λ m. m .colours) setOf moves adds loop v (λ v. v) (p .states) t w round
+    abbrev round : ℕ → ℕ
+    round = after (policyStep p) (policyMeets p) loop
 
-    pub coloured-start : (t : Coloured) → t ≡ record { state = v; colours = 0 } → ColouredSeeking t (record { kept = v; since = 0; limit = 1 }) 0
-    unfolding setOf
-    coloured-start t e =
-        seeking-start (policyStep p) (policyMeets p) (colouredStep p) (λ m. m .state) (λ m. m .colours) setOf moves adds loop v (λ v. v) (p .states) t
-        (ap (λ (m : Coloured). m .state) e) (ap (λ (m : Coloured). m .colours) e)
+    abbrev colours : ℕ → List ℕ
+    colours = met (policyStep p) (policyMeets p) loop
 
-    abbrev ColouredHeld : Coloured → ℕ → ℕ → Type 0
-    ColouredHeld t i k = Held (policyStep p) (policyMeets p) (colouredStep p) (λ m. m .state) (λ m. m .colours) setOf moves adds loop v t i k
+    abbrev pub ColoursSought : Search → Type 0
+    ColoursSought s = Sought round colours v (λ v. v) setOf (p .states) s
 
-    module _ (t : Coloured) (w : Watch) (round : ℕ) (h : ColouredSeeking t w round) where
-      pub coloured-within : legal p ≡ true → v < p .states → t .state < p .states
-      coloured-within ok l =
-          subst (λ (x : ℕ). x < p .states) (sym (seeking-at (policyStep p) (policyMeets p) (colouredStep p) (λ m. m .state) (λ m. m .colours) setOf moves adds loop v (λ v. v) (p .states) t w round h))
-          (iter-keeps (after (policyStep p) (policyMeets p) loop) (λ x. x < p .states) (λ x l. after-keeps (policyStep p) (policyMeets p) (λ v. v < p .states) (policy-within p ok) loop x l) v l round)
+    module _ (ok : legal p ≡ true) (start : v < p .states) where
+      abbrev numbered : Numbered round v (λ v. v) (p .states)
+      numbered = record {
+        decode = λ v. v;
+        decoded = λ v. refl;
+        coded = λ v. refl;
+        stays = λ y h. after-keeps (policyStep p) (policyMeets p) (λ v. v < p .states) (policy-within p ok) loop y h;
+        start = start;
+      }
 
-      -- a round by itself, and joined to what was met before it
-      module _ (one : Coloured) (e : one ≡ colouredAfter p loop (colouredAnew t)) where
-        one-held : ColouredHeld one round 1
-        unfolding setOf
-        one-held =
-            seeking-one (policyStep p) (policyMeets p) (colouredStep p) (λ m. m .state) (λ m. m .colours) setOf moves adds loop v (λ v. v) (p .states)
-            colouredAnew (λ m. refl) (λ m. refl) t w round h one e
+      pub colours-start : ColoursSought (searchFrom v 0)
+      unfolding setOf
+      colours-start = sought-start round colours v (λ v. v) setOf (p .states) numbered
 
-        joined-held : (t′ : Coloured) → t′ ≡ colouredJoined t one → ColouredHeld t′ (h .from) (w .since + 1)
-        joined-held t′ q =
-            held-join (policyStep p) (policyMeets p) (colouredStep p) (λ m. m .state) (λ m. m .colours) setOf moves adds loop v
-            bitOr (λ l r. sym (set-append l r)) t one t′ (h .from) (w .since) (h .held) (subst (λ (j : ℕ). ColouredHeld one j 1) (h .now) one-held) (ap (λ (m : Coloured). m .state) q) (ap (λ (m : Coloured). m .colours) q)
+      module _ (s : Search) (h : ColoursSought s) (going : s .found ≡ false) where
+        pub colours-within : s .state < p .states
+        colours-within = seeking-within round colours v (λ v. v) setOf (p .states) numbered s (h .seeks going)
 
-        pub coloured-alone : legal p ≡ true → v < p .states → one .state ≡ t .state → one .colours ≡ recurringColours p v [] loop
-        unfolding recurringColours window after
-        coloured-alone ok l q =
-            seeking-alone (policyStep p) (policyMeets p) (colouredStep p) (λ m. m .state) (λ m. m .colours) setOf moves adds loop v (λ v. v) (p .states)
-            set-same (λ v. v) (λ v. refl) (λ v. refl) (policy-within p ok) l t w round h one one-held q
+        pub colours-few : s .limit + s .since < 3 * p .states
+        colours-few = seeking-few round colours v (λ v. v) setOf (p .states) numbered s (h .seeks going)
 
-        module _ (t′ : Coloured) (te : t′ ≡ colouredJoined t one) where
-          pub coloured-found : legal p ≡ true → v < p .states → one .state ≡ w .kept → t′ .colours ≡ recurringColours p v [] loop
-          unfolding recurringColours window after
-          coloured-found ok l q =
-              seeking-found (policyStep p) (policyMeets p) (colouredStep p) (λ m. m .state) (λ m. m .colours) setOf moves adds loop v (λ v. v) (p .states)
-              set-same (λ v. v) (λ v. refl) (λ v. refl) (policy-within p ok) l t w round h t′ (joined-held t′ te) (ap (λ (m : Coloured). m .state) te ∙ q)
+        module _ (one : Coloured) (is : one ≡ colouredAfter p loop (coloured (s .state) 0)) where
+          ended : one .state ≡ round (s .state)
+          ended = ap (λ (m : Coloured). m .state) is ∙ word-is loop (coloured (s .state) 0)
 
-          pub coloured-next : round < p .states → (w′ : Watch) → w′ ≡ watchNext w (one .state) → (u : Coloured) → u ≡ colouredSince t′ (w′ .since) → ColouredSeeking u w′ (round + 1)
-          unfolding setOf colouredSince
-          coloured-next l w′ we u ue =
-              subst (λ (m : Coloured). ColouredSeeking m w′ (round + 1)) (sym ue)
-              (subst (λ (x : Watch). ColouredSeeking (colouredSince t′ (x .since)) x (round + 1)) (sym (we ∙ ap (λ (m : Coloured). watchNext w (m .state)) (sym te)))
-              (seeking-next (policyStep p) (policyMeets p) (colouredStep p) (λ m. m .state) (λ m. m .colours) setOf moves adds loop v (λ v. v) (p .states)
-              colouredAnew (λ m. refl) (λ m. refl) t w round h l t′ (joined-held t′ te)))
+          added : one .colours ≡ setOf (colours (s .state))
+          added = ap (λ (m : Coloured). m .colours) is ∙ word-adds loop (s .state)
 
-      pub coloured-end : p .states ≤ round → (u : Coloured) → u ≡ iter (colouredAfter p loop) (p .states) (colouredAnew t) → u .colours ≡ recurringColours p v [] loop
-      unfolding recurringColours window after setOf
-      coloured-end l u e =
-          ap (λ (m : Coloured). m .colours) e
-          ∙ seeking-end (policyStep p) (policyMeets p) (colouredStep p) (λ m. m .state) (λ m. m .colours) setOf moves adds loop v (λ v. v) (p .states) colouredAnew (λ m. refl) (λ m. refl) t w round h l .holds
+          pub colours-next : (t : Search) → t ≡ searchNext s (one .state) (one .colours) (bitOr (s .value) (one .colours)) 0 → ColoursSought t × (searchLeft (p .states) t < searchLeft (p .states) s)
+          unfolding setOf
+          colours-next t e =
+              rw e (
+                round-more round colours v (λ v. v) setOf (p .states) numbered bitOr sets s (h .seeks going) going
+                    (one .state) (one .colours) ended added .sought,
+                round-less round colours v (λ v. v) setOf (p .states) numbered bitOr sets s (h .seeks going) going
+                    (one .state) (one .colours) ended added,
+              )
+
+    pub colours-found : (s : Search) → ColoursSought s → s .found ≡ true → s .value ≡ recurringColours p v [] loop
+    unfolding recurringColours window after
+    colours-found s h e = h .recurs e
 
   module _ (v : ℕ) (stem loop : List ℕ) where
     -- the stem leads to where the rounds begin

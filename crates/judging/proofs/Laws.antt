@@ -4,7 +4,7 @@ use Prim.Native.Nat.{ℕ, _≤_, min}
 use native.Mathlib.Omega.{arith}
 use mathlib.Core.Path.{_≡_, refl, sym, _∙_}
 use mathlib.Core.Logic.{_⊎_, inl, inr, _↔_}
-use mathlib.Core.Bool.{true, false, _||_, cond, false≢true}
+use mathlib.Core.Bool.{true, false, _||_, false≢true}
 use mathlib.Core.List.{List, [], _∷_, _++_, List·Memᴰ, List·Memᴰ·head, List·Memᴰ·tail, List·Memᴰ·not-nil, List·Memᴰ·append-cases, Memᴰ·append-left, Memᴰ·append-right, Memᴰ·cast}
 use lib.Bits.{bitOr}
 use lib.Dec.{eqb, ltb}
@@ -30,14 +30,10 @@ unfolding leastOf
 least-append [] r = omega (arith, least-top r)
 least-append (x ∷ l) r = omega (arith, least-cons x (l ++ r), least-cons x l, least-append l r)
 
--- one more at the end, as the code takes it
-pub least-with : (l : List ℕ) (k least : ℕ) → least ≡ leastOf l → cond (ltb k least) k least ≡ leastOf (l ++ (k ∷ []))
+-- one more at the end
+pub least-with : (l : List ℕ) (k least : ℕ) → least ≡ leastOf l → min k least ≡ leastOf (l ++ (k ∷ []))
 unfolding leastOf
-least-with l k least e = cond-min k least ∙ omega (arith, least-append l (k ∷ []), least-cons k [], least-top l)
-
--- of two lists, as the code takes it
-pub least-join : (l r : List ℕ) → cond (ltb (leastOf r) (leastOf l)) (leastOf r) (leastOf l) ≡ leastOf (l ++ r)
-least-join l r = cond-min (leastOf r) (leastOf l) ∙ omega (arith, least-append l r)
+least-with l k least e = omega (arith, least-append l (k ∷ []), least-cons k [], least-top l)
 
 pub least-le : (l : List ℕ) (k : ℕ) → List·Memᴰ k l → leastOf l ≤ k
 least-le (x ∷ l) k (List·Memᴰ·head e) = omega (arith, least-cons x l)

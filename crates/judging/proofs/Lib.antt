@@ -1,5 +1,4 @@
 pub mod Turns
-pub mod Collect
 pub mod Laws
 pub mod Rows
 pub mod Colours

@@ -14,8 +14,8 @@ use Rattle.masks.specs.Masks.{has}
 use Rattle.recurrence.specs.Recurs.{iter, rounds}
 use Rattle.recurrence.specs.Runs.{times, after, met, Recurring, window}
 use Rattle.recurrence.proofs.Periods.{rounds-mem, mem-rounds}
-use Rattle.recurrence.proofs.Runs.{met-append, after-keeps, met-times, recurring-window, numbered-recurring}
-use Rattle.recurrence.proofs.Repeats.{iter-keeps, met-first}
+use Rattle.recurrence.proofs.Runs.{met-append, after-keeps, after-any, met-times, recurring-window, numbered-recurring}
+use Rattle.recurrence.proofs.Repeats.{iter-any, iter-keeps, met-first}
 use Rattle.policy.specs.declared.Policy.{Policy}
 use Rattle.policy.specs.Policies.{legal}
 use Rattle.running.specs.declared.Run.{Run}
@@ -24,7 +24,6 @@ use Rattle.running.specs.Running.{policyStep, policyMeets, rowOf, rowStates, sh
 use Rattle.running.proofs.Steps.{policy-within, refusal-13, refusal-none, refusal-outside, reading-moved, reading-refused, row-moves, row-within}
 use Rattle.judging.specs.Judging.{nonEmpty, inRange, leastOf, recurringColours, noState, danglingMeets, everDangling, leastRecurring}
 use Rattle.judging.specs.ReadsDangling.{ReadsDangling}
-use Rattle.judging.proofs.Collect.{after-any, iter-any}
 use Rattle.judging.proofs.Laws.{set-has, least-le, least-mem, member-some, nonEmpty-append}
 
 -- ---- the recurring colours

@@ -1,29 +1,27 @@
 -- Judging rows: what reading letters collects, and what the search for a repeat comes to; each answer of the definition. Assumes nothing.
-use Prim.Native.Nat.{ℕ, _+_, _≤_, _<_}
+use Prim.Native.Nat.{ℕ, suc, _+_, _-_, _*_, _≤_, _<_, min}
 use native.Mathlib.Omega.{arith}
-use native.Mathlib.Nat.{zero-add}
 use mathlib.Core.Path.{_≡_, refl, sym, ap, ap₂, _∙_, subst}
-use mathlib.Core.Bool.{Bool, true, false, _&&_, _||_, cond, or-true, or-false}
+use mathlib.Core.Bool.{Bool, true, false, _||_, cond, or-true, or-false, false≢true}
 use mathlib.Core.List.{List, [], _∷_, _++_, append-nil}
-use lib.Dec.{eqb, ltb}
-use lib.ListN.{length, getD}
-use borrow.Author.Tests.{lt-ltb, le-ltb}
-use Rattle.recurrence.specs.Recurs.{iter}
+use lib.Dec.{eqb}
+use lib.ListN.{getD}
+use Rattle.recurrence.specs.declared.Search.{Search}
+use Rattle.recurrence.specs.Recurs.{iter, rounds}
 use Rattle.recurrence.specs.Runs.{after, met, window}
-use Rattle.recurrence.proofs.Runs.{after-keeps}
-use Rattle.recurrence.proofs.Repeats.{iter-keeps}
+use Rattle.recurrence.specs.Search.{searchFrom, searchNext}
+use Rattle.recurrence.proofs.Runs.{after-keeps, after-any, through-run, through-value}
+use Rattle.recurrence.proofs.Repeats.{iter-any, rounds-snoc, before-first}
+use Rattle.recurrence.proofs.Seeking.{searchLeft, Numbered, Collects, Sought, seeking-few, seeking-within, sought-start, round-more, round-less}
 use Rattle.running.specs.declared.Run.{Run}
 use Rattle.running.specs.declared.Reading.{Reading}
 use Rattle.running.specs.declared.Reading.the-variants.{Moved, Refused}
 use Rattle.running.specs.Running.{rowOf, rowStates, shaped, readingOf, rowStep, rowMeets, runAfter, prioritiesOf}
 use Rattle.running.proofs.Steps.{refusal-13, refusal-none, reading-moved, reading-refused, row-within}
-use Rattle.judging.specs.declared.RowsVerdict.the-variants.{Least, Refused as RefusedRows}
 use Rattle.judging.specs.declared.Seen.{Seen}
-use Rattle.judging.specs.declared.Watch.{Watch}
-use Rattle.judging.specs.Judging.{nonEmpty, inRange, leastOf, noState, danglingMeets, everDangling, leastRecurring, rowsVerdict}
-use Rattle.judging.specs.Rounds.{watchNext, runOf, seenWith, seenStep, seenAfter, seenAnew, seenSince, seenJoined}
-use Rattle.judging.proofs.Collect.{after-any, iter-any, through-run, through-value, Held, held-none, held-next, held-join, held-rounds, Seeking, seeking-start, seeking-one, seeking-next, seeking-found, seeking-alone, seeking-end, first-back, first-all}
-use Rattle.judging.proofs.Laws.{least-with, least-join, least-same, nonEmpty-append, nonEmpty-same, none-of, some-of}
+use Rattle.judging.specs.Judging.{nonEmpty, leastOf, noState, danglingMeets, everDangling, leastRecurring}
+use Rattle.judging.specs.Rounds.{runOf, seenWith, seenStep, seenAfter}
+use Rattle.judging.proofs.Laws.{least-with, least-append, least-same, nonEmpty-append, nonEmpty-same}
 
 -- ---- one reading
 seen-run : (s : Seen) (x : Reading) → runOf (seenWith s x) ≡ runAfter x
@@ -33,6 +31,9 @@ seen-run s (Refused n r) = refl
 seen-least : (s : Seen) (x : Reading) (l : List ℕ) → s .least ≡ leastOf l → seenWith s x .least ≡ leastOf (l ++ prioritiesOf x)
 seen-least s (Moved r k) l e = least-with l k (s .least) e
 seen-least s (Refused n r) l e = e ∙ ap leastOf (sym (append-nil l))
+
+leasts : Collects leastOf min
+leasts = record { same = least-same; joins = λ l r. sym (least-append l r) }
 
 -- `b ||` for what was read before
 abbrev pub danglingIn : Bool → List ℕ → Bool
@@ -61,7 +62,7 @@ module _ (letters : ℕ) (targets priorities : List ℕ) where
         (ap (λ (b : Bool). record { state = s .state; least = s .least; dangling = b }) (sym (or-true (s .dangling))))
 
     pub seen-moves : getD targets (rowOf letters (s .state) a) 0 < rowStates letters targets priorities → (k : ℕ)
-        → k ≡ cond (ltb (getD priorities (rowOf letters (s .state) a) 0) (s .least)) (getD priorities (rowOf letters (s .state) a) 0) (s .least)
+        → k ≡ min (getD priorities (rowOf letters (s .state) a) 0) (s .least)
         → record { state = getD targets (rowOf letters (s .state) a) 0; least = k; dangling = s .dangling } ≡ seenStep letters targets priorities s a
     unfolding seenStep
     seen-moves h k e =
@@ -92,10 +93,6 @@ module _ (letters : ℕ) (targets priorities : List ℕ) where
       (sym (through-run (rowStep letters targets priorities) (rowMeets letters targets priorities) (seenStep letters targets priorities) runOf (λ s. s .least) leastOf moves adds-least w s))
       (after-keeps (rowStep letters targets priorities) (rowMeets letters targets priorities) (λ r. r .state < rowStates letters targets priorities) stays w (runOf s) h)
 
-  pub rounds-stay : (loop : List ℕ) (k : ℕ) (s : Seen) → s .state < rowStates letters targets priorities
-      → iter (seenAfter letters targets priorities loop) k s .state < rowStates letters targets priorities
-  rounds-stay loop k s h = iter-keeps (seenAfter letters targets priorities loop) (λ s. s .state < rowStates letters targets priorities) (λ s h. word-stays loop s h) s h k
-
   abbrev n : ℕ
   n = rowStates letters targets priorities
 
@@ -111,119 +108,123 @@ module _ (letters : ℕ) (targets priorities : List ℕ) where
   abbrev dangles : Run → ℕ → List ℕ
   dangles = danglingMeets letters targets priorities
 
-  -- ---- the search for a repeat, from s
-  module _ (loop : List ℕ) (s : Seen) where
-    abbrev pub LeastSeeking : Seen → Watch → ℕ → Type 0
-    LeastSeeking t w round = Seeking step meets next runOf (λ s. s .least) leastOf moves adds-least loop (runOf s) (λ r. r .state) n t w round
+  -- where a round begins
+  abbrev pub begun : ℕ → Bool → Seen
+  begun v b = record { state = v; least = 255; dangling = b }
 
-    abbrev pub DanglingHeld : Seen → ℕ → Type 0
-    DanglingHeld t round = Held step dangles next runOf (λ s. s .dangling) (danglingIn (s .dangling)) moves (adds-dangling (s .dangling)) loop (runOf s) t 0 round
+  -- ---- the search for a repeat, in rounds from the state v, after letters that read a dangling target or not
+  module _ (loop : List ℕ) (v : ℕ) (before : Bool) where
+    abbrev first : Run
+    first = record { state = v }
 
-    -- the least since the kept state was kept, and whether there was a dangling since the first round
-    pub record SeenSeeking (t : Seen) (w : Watch) (round : ℕ) : Type 0 where
-      pub least : LeastSeeking t w round
-      pub dangling : DanglingHeld t round
+    abbrev round : Run → Run
+    round = after step meets loop
 
-    dangling-same : (t u : Seen) (round : ℕ) → runOf u ≡ runOf t → u .dangling ≡ t .dangling → DanglingHeld t round → DanglingHeld u round
-    dangling-same t u round r e h = record { at = r ∙ h .at; holds = e ∙ h .holds }
+    abbrev priorities-met : Run → List ℕ
+    priorities-met = met step meets loop
 
-    since-run : (t : Seen) (k : ℕ) → runOf (seenSince t k) ≡ runOf t
-    unfolding seenSince
-    since-run t k = go (eqb k 0)
-      where
-        go : (b : Bool) → runOf (cond b (seenAnew t) t) ≡ runOf t
-        go true = refl
-        go false = refl
+    -- all rows with a dangling target that the first k rounds read
+    abbrev danglingFirst : ℕ → List ℕ
+    danglingFirst k = rounds (after step dangles loop) (met step dangles loop) first 0 k
 
-    since-dangling : (t : Seen) (k : ℕ) → seenSince t k .dangling ≡ t .dangling
-    unfolding seenSince
-    since-dangling t k = go (eqb k 0)
-      where
-        go : (b : Bool) → cond b (seenAnew t) t .dangling ≡ t .dangling
-        go true = refl
-        go false = refl
+    abbrev pub LeastSought : Search → Type 0
+    LeastSought t = Sought round priorities-met first (λ r. r .state) leastOf n t
 
-    pub seen-start : (t : Seen) → t ≡ seenAnew s → SeenSeeking t (record { kept = s .state; since = 0; limit = 1 }) 0
-    unfolding leastOf iter
-    seen-start t e = record {
-      least = seeking-start step meets next runOf (λ s. s .least) leastOf moves adds-least loop (runOf s) (λ r. r .state) n t (ap runOf e) (ap (λ (s : Seen). s .least) e);
-      dangling = held-none step dangles next runOf (λ s. s .dangling) (danglingIn (s .dangling)) moves (adds-dangling (s .dangling)) loop (runOf s) t 0 (ap runOf e) (ap (λ (s : Seen). s .dangling) e ∙ sym (or-false (s .dangling)));
-    }
+    -- the least, and whether there was a dangling target since the first round: the search has run as many rounds as its limit and its rounds since make, less one
+    pub record SeenSought (t : Search) (b : Bool) : Type 0 where
+      pub least : LeastSought t
+      pub so-far : t .found ≡ false → (k : ℕ) → t .limit + t .since ≡ suc k → b ≡ danglingIn before (danglingFirst k)
+      pub ever : t .found ≡ true → b ≡ before || everDangling letters targets priorities first [] loop
 
-    abbrev LeastHeld : Seen → ℕ → ℕ → Type 0
-    LeastHeld t i k = Held step meets next runOf (λ s. s .least) leastOf moves adds-least loop (runOf s) t i k
+    module _ (start : v < n) where
+      keeps : {B : Type 0} (m : Run → ℕ → List B) (r : Run) → r .state < n → after step m loop r .state < n
+      keeps m r h = after-keeps step m (λ r. r .state < n) stays loop r h
 
-    module _ (t : Seen) (w : Watch) (round : ℕ) (h : SeenSeeking t w round) where
-      pub seeking-stays : s .state < rowStates letters targets priorities → t .state < rowStates letters targets priorities
-      seeking-stays l =
-          subst (λ (x : Run). x .state < n) (sym (h .dangling .at))
-          (iter-keeps (after step dangles loop) (λ r. r .state < n) (λ r l. after-keeps step dangles (λ r. r .state < n) stays loop r l) (runOf s) l (0 + round))
+      abbrev numbered : {B : Type 0} (m : Run → ℕ → List B) → Numbered (after step m loop) first (λ r. r .state) n
+      numbered m = record { decode = λ c. record { state = c }; decoded = λ r. refl; coded = λ c. refl; stays = keeps m; start = start }
 
-      -- a round by itself, and joined to what was met before it
-      module _ (one : Seen) (e : one ≡ seenAfter letters targets priorities loop (seenAnew t)) where
-        one-least : LeastHeld one round 1
-        unfolding leastOf
-        one-least = seeking-one step meets next runOf (λ s. s .least) leastOf moves adds-least loop (runOf s) (λ r. r .state) n seenAnew (λ m. refl) (λ m. refl) t w round (h .least) one e
+      pub seen-start : SeenSought (searchFrom v 255) before
+      unfolding leastOf rounds
+      seen-start = record {
+        least = sought-start round priorities-met first (λ r. r .state) leastOf n (numbered meets);
+        so-far = λ e k q. none k q;
+        ever = λ e. absurd (false≢true e);
+      }
+        where
+          none : (k : ℕ) → 1 ≡ suc k → before ≡ danglingIn before (danglingFirst k)
+          none k q = let e : 0 ≡ k = omega (arith, q) in subst (λ (j : ℕ). before ≡ danglingIn before (danglingFirst j)) e (sym (or-false before))
 
-        one-dangling : DanglingHeld one (round + 1)
-        one-dangling = held-next step dangles next runOf (λ s. s .dangling) (danglingIn (s .dangling)) moves (adds-dangling (s .dangling)) loop (runOf s) (seenAnew t) one 0 round (dangling-same t (seenAnew t) round refl refl (h .dangling)) e
+      module _ (t : Search) (b : Bool) (h : SeenSought t b) (going : t .found ≡ false) where
+        pub seen-within : t .state < n
+        seen-within = seeking-within round priorities-met first (λ r. r .state) leastOf n (numbered meets) t (h .least .seeks going)
 
-        -- back where round i began
-        dangling-back : s .state < rowStates letters targets priorities → (i : ℕ) → i ≤ round → one .state ≡ iter (after step dangles loop) i (runOf s) .state
-            → one .dangling ≡ s .dangling || everDangling letters targets priorities (runOf s) [] loop
-        unfolding everDangling after met
-        dangling-back l i le q =
-            first-back step dangles next runOf (λ s. s .dangling) (danglingIn (s .dangling)) moves (adds-dangling (s .dangling)) loop (runOf s) (λ r. r .state) n
-            (λ l r same. ap (λ (b : Bool). s .dangling || b) (nonEmpty-same l r same)) (λ n. record { state = n }) (λ r. refl) (λ n. refl) stays l one (round + 1) one-dangling i (omega arith) q
+        pub seen-few : t .limit + t .since < 3 * n
+        seen-few = seeking-few round priorities-met first (λ r. r .state) leastOf n (numbered meets) t (h .least .seeks going)
 
-        pub seen-alone : s .state < rowStates letters targets priorities → one .state ≡ t .state
-            → (one .least ≡ leastRecurring letters targets priorities (runOf s) [] loop) × (one .dangling ≡ s .dangling || everDangling letters targets priorities (runOf s) [] loop)
-        unfolding leastRecurring window after
-        seen-alone l q = (
-          seeking-alone step meets next runOf (λ s. s .least) leastOf moves adds-least loop (runOf s) (λ r. r .state) n
-              least-same (λ n. record { state = n }) (λ r. refl) (λ n. refl) stays l t w round (h .least) one one-least q,
-          dangling-back l round (omega arith) (q ∙ ap (λ (r : Run). r .state) (h .dangling .at) ∙ ap (λ (j : ℕ). iter (after step dangles loop) j (runOf s) .state) (zero-add round)),
-        )
+        -- how many rounds were run
+        abbrev k : ℕ
+        k = h .least .seeks going .from + t .since
 
-        module _ (t′ : Seen) (te : t′ ≡ seenJoined t one) where
-          joined-least : LeastHeld t′ (h .least .from) (w .since + 1)
-          joined-least =
-              held-join step meets next runOf (λ s. s .least) leastOf moves adds-least loop (runOf s) (λ x y. cond (ltb y x) y x) least-join
-              t one t′ (h .least .from) (w .since) (h .least .held) (subst (λ (j : ℕ). LeastHeld one j 1) (h .least .now) one-least) (ap runOf te) (ap (λ (s : Seen). s .least) te)
+        rounds-are : t .limit + t .since ≡ suc k
+        rounds-are = omega (arith, h .least .seeks going .limit-is)
 
-          pub seen-found : s .state < rowStates letters targets priorities → one .state ≡ w .kept
-              → (t′ .least ≡ leastRecurring letters targets priorities (runOf s) [] loop) × (t′ .dangling ≡ s .dangling || everDangling letters targets priorities (runOf s) [] loop)
-          unfolding leastRecurring window after
-          seen-found l q = (
-            seeking-found step meets next runOf (λ s. s .least) leastOf moves adds-least loop (runOf s) (λ r. r .state) n
-                least-same (λ n. record { state = n }) (λ r. refl) (λ n. refl) stays l t w round (h .least) t′ joined-least (ap (λ (s : Seen). s .state) te ∙ q),
-            ap (λ (s : Seen). s .dangling) te
-                ∙ dangling-back l (h .least .from) (omega (arith, h .least .now))
-                (q ∙ h .least .kept ∙ ap (λ (r : Run). r .state) (iter-any (after step meets loop) (after step dangles loop) (λ x. after-any step meets dangles loop x) (h .least .from) (runOf s))),
-          )
+        here : _≡_ {A = Run} (record { state = t .state }) (iter (after step dangles loop) k first)
+        here =
+            ap (λ (c : ℕ). record { state = c }) (h .least .seeks going .state-is)
+            ∙ iter-any round (after step dangles loop) (λ r. after-any step meets dangles loop r) k first
 
-          pub seen-next : round < rowStates letters targets priorities → (w′ : Watch) → w′ ≡ watchNext w (one .state)
-              → (u : Seen) → u ≡ seenSince t′ (w′ .since) → SeenSeeking u w′ (round + 1)
-          unfolding leastOf seenSince
-          seen-next l w′ we u ue = record {
-            least = subst (λ (m : Seen). LeastSeeking m w′ (round + 1)) (sym ue)
-                (subst (λ (x : Watch). LeastSeeking (seenSince t′ (x .since)) x (round + 1)) (sym (we ∙ ap (λ (m : Seen). watchNext w (m .state)) (sym te)))
-                (seeking-next step meets next runOf (λ s. s .least) leastOf moves adds-least loop (runOf s) (λ r. r .state) n seenAnew (λ m. refl) (λ m. refl) t w round (h .least) l t′ joined-least));
-            dangling = dangling-same one u (round + 1) (ap runOf ue ∙ since-run t′ (w′ .since) ∙ ap runOf te) (ap (λ (s : Seen). s .dangling) ue ∙ since-dangling t′ (w′ .since) ∙ ap (λ (s : Seen). s .dangling) te) one-dangling;
-          }
+        module _ (one : Seen) (is : one ≡ seenAfter letters targets priorities loop (begun (t .state) b)) where
+          ended : one .state ≡ round (record { state = t .state }) .state
+          ended = ap (λ (x : Seen). x .state) is
+              ∙ ap (λ (r : Run). r .state) (through-run step meets next runOf (λ s. s .least) leastOf moves adds-least loop (begun (t .state) b))
 
-      pub seen-end : s .state < rowStates letters targets priorities → rowStates letters targets priorities ≤ round → (u : Seen) → u ≡ iter (seenAfter letters targets priorities loop) (rowStates letters targets priorities) (seenAnew t)
-          → (u .least ≡ leastRecurring letters targets priorities (runOf s) [] loop) × (u .dangling ≡ s .dangling || everDangling letters targets priorities (runOf s) [] loop)
-      unfolding leastRecurring everDangling window after met leastOf
-      seen-end lt l u e = (
-        ap (λ (m : Seen). m .least) e
-            ∙ seeking-end step meets next runOf (λ s. s .least) leastOf moves adds-least loop (runOf s) (λ r. r .state) n seenAnew (λ m. refl) (λ m. refl) t w round (h .least) l .holds,
-        ap (λ (m : Seen). m .dangling) e
-            ∙ first-all step dangles next runOf (λ s. s .dangling) (danglingIn (s .dangling)) moves (adds-dangling (s .dangling)) loop (runOf s) (λ r. r .state) n
-            (λ l r same. ap (λ (b : Bool). s .dangling || b) (nonEmpty-same l r same)) (λ n. record { state = n }) (λ r. refl) (λ n. refl) stays lt (iter (seenAfter letters targets priorities loop) n (seenAnew t)) (round + n)
-            (held-rounds step dangles next runOf (λ s. s .dangling) (danglingIn (s .dangling)) moves (adds-dangling (s .dangling)) loop (runOf s) (seenAnew t) 0 round (dangling-same t (seenAnew t) round refl refl (h .dangling)) n)
-            (omega arith),
-      )
+          added : one .least ≡ leastOf (priorities-met (record { state = t .state }))
+          unfolding leastOf
+          added = ap (λ (x : Seen). x .least) is ∙ through-value step meets next runOf (λ s. s .least) leastOf moves adds-least loop (begun (t .state) b) [] refl
+
+          dangling-so-far : one .dangling ≡ danglingIn before (danglingFirst (suc k))
+          dangling-so-far =
+              let f = after step dangles loop in
+              let out = met step dangles loop in
+              let at : 0 + k ≡ k = omega arith in
+              ap (λ (x : Seen). x .dangling) is
+              ∙ through-value step dangles next runOf (λ s. s .dangling) (danglingIn before) moves (adds-dangling before) loop (begun (t .state) b) (danglingFirst k) (h .so-far going k rounds-are)
+              ∙ ap (λ (r : Run). danglingIn before (danglingFirst k ++ out r)) (here ∙ ap (λ (j : ℕ). iter f j first) (sym at))
+              ∙ ap (danglingIn before) (sym (rounds-snoc f out first 0 k))
+
+          -- a state seen again: the rounds so far read all that any round reads
+          dangling-ever : (i : ℕ) → i < t .limit + t .since → one .state ≡ iter round i first .state
+              → one .dangling ≡ before || everDangling letters targets priorities first [] loop
+          unfolding everDangling after met iter
+          dangling-ever i l q =
+              let f = after step dangles loop in
+              let out = met step dangles loop in
+              let j = suc k - i in
+              let e : suc k ≡ i + j = omega (arith, rounds-are) in
+              let there : iter f i first ≡ iter f (i + j) first
+              = sym (iter-any round f (λ r. after-any step meets dangles loop r) i first) ∙ ap (λ (c : ℕ). record { state = c }) (sym q ∙ ended)
+              ∙ after-any step meets dangles loop (record { state = t .state }) ∙ ap f here ∙ ap (λ (x : ℕ). iter f x first) e in
+              dangling-so-far ∙ ap (λ (x : ℕ). danglingIn before (danglingFirst x)) e
+              ∙ ap (λ (b : Bool). before || b) (nonEmpty-same (danglingFirst (i + j)) (danglingFirst n)
+              (before-first f out first (λ r. r .state) (λ c. record { state = c }) (λ r. refl) (λ c. refl) n (keeps dangles) start i j (omega (arith, rounds-are)) there))
+
+          pub seen-next : (u : Search) → u ≡ searchNext t (one .state) (one .least) (min (t .value) (one .least)) 255 → SeenSought u (one .dangling) × (searchLeft n u < searchLeft n t)
+          unfolding leastOf
+          seen-next u ue =
+              let more = round-more round priorities-met first (λ r. r .state) leastOf n (numbered meets) min leasts t (h .least .seeks going) going (one .state) (one .least) ended added in
+              rw ue (
+                record {
+                  least = more .sought;
+                  so-far = λ e j q. dangling-so-far ∙ ap (λ (x : ℕ). danglingIn before (danglingFirst x)) (omega (arith, more .counted e, rounds-are, q));
+                  ever = λ e. let w = more .back e in dangling-ever (w .0) (w .1) (w .2);
+                },
+                round-less round priorities-met first (λ r. r .state) leastOf n (numbered meets) min leasts t (h .least .seeks going) going (one .state) (one .least) ended added,
+              )
+
+    pub seen-found : (t : Search) (b : Bool) → SeenSought t b → t .found ≡ true
+        → (t .value ≡ leastRecurring letters targets priorities first [] loop) × (b ≡ before || everDangling letters targets priorities first [] loop)
+    unfolding leastRecurring window after
+    seen-found t b h e = (h .least .recurs e, h .ever e)
 
   module _ (r : Run) (stem loop : List ℕ) where
     -- the stem leads to where the rounds begin

@@ -1,16 +1,14 @@
--- One turn of the loops of judging over letters and rounds. Assumes nothing.
+-- One turn of the loops of judging over a list of letters. Assumes nothing.
 use Prim.Native.Nat.{ℕ, _+_, _≤_, _<_}
-use native.Mathlib.Numerals.{add-one}
-use mathlib.Core.Path.{_≡_, refl, sym, ap, _∙_}
+use mathlib.Core.Path.{_≡_, refl, ap, _∙_}
 use mathlib.Core.Bool.{Bool, true, false, _&&_, and-true}
 use mathlib.Core.List.{List}
 use lib.Dec.{ltb}
 use lib.ListN.{length, getD, drop, drop-of-length-le}
 use Rattle.lists.proofs.Bools.{lt-true}
 use Rattle.lists.proofs.Lists.{all-each, getD-mem, drop-next}
-use Rattle.recurrence.specs.Recurs.{iter}
+use Rattle.recurrence.specs.Runs.{through}
 use Rattle.judging.specs.Judging.{inRange}
-use Rattle.judging.specs.Rounds.{through}
 
 -- ---- all letters in range
 pub range-turn : (letters : ℕ) (w : List ℕ) (i : ℕ) (b : Bool) → i < length w
@@ -31,7 +29,7 @@ pub range-at : (letters : ℕ) (w : List ℕ) → inRange letters w ≡ true →
 unfolding inRange
 range-at letters w h i l = lt-true (getD w i 0) letters (all-each (λ a. ltb a letters) w h (getD w i 0) (getD-mem w i 0 l))
 
--- ---- a word
+-- ---- what the letters lead to
 module _ {T : Type 0} (next : T → ℕ → T) (w : List ℕ) (i : ℕ) (t : T) where
   pub through-turn : i < length w → through next (drop i w) t ≡ through next (drop (i + 1) w) (next t (getD w i 0))
   unfolding through
@@ -40,8 +38,3 @@ module _ {T : Type 0} (next : T → ℕ → T) (w : List ℕ) (i : ℕ) (t : T) 
   pub through-end : length w ≤ i → through next (drop i w) t ≡ t
   unfolding through
   through-end h = ap (λ (l : List ℕ). through next l t) (drop-of-length-le w h)
-
--- ---- rounds
-pub iter-turn : {A : Type 0} (f : A → A) (s t t′ : A) (k : ℕ) → t ≡ iter f k s → t′ ≡ f t → t′ ≡ iter f (k + 1) s
-unfolding iter
-iter-turn f s t t′ k q e = e ∙ ap f q ∙ ap (λ (j : ℕ). iter f j s) (sym (add-one k))

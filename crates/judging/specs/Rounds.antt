@@ -1,52 +1,37 @@
--- What the loops of judging hold: the watch for a repeat, and what a run has come to after some letters.
-use Prim.Native.Nat.{ℕ, _+_, _*_}
-use mathlib.Core.Bool.{_||_, cond}
-use mathlib.Core.List.{List, [], _∷_}
+-- What the loops of judging hold: what a run has come to after some letters.
+use Prim.Native.Nat.{ℕ, _<_, min}
+use mathlib.Core.Path.{_≡_}
+use mathlib.Core.Bool.{true, _||_}
+use mathlib.Core.List.{List}
 use lib.Bits.{bitOr}
-use lib.Dec.{eqb, ltb}
+use lib.Dec.{eqb}
+use Rattle.recurrence.specs.Runs.{through}
 use Rattle.policy.specs.declared.Policy.{Policy}
+use Rattle.policy.specs.Policies.{legal}
 use Rattle.running.specs.declared.Run.{Run}
 use Rattle.running.specs.declared.Reading.{Reading}
 use Rattle.running.specs.declared.Reading.the-variants.{Moved, Refused}
-use Rattle.running.specs.Running.{policyStep, policyMeets, readingOf}
-use Rattle.judging.specs.declared.Watch.{Watch}
+use Rattle.running.specs.Running.{policyStep, policyMeets, rowStates, shaped, readingOf}
 use Rattle.judging.specs.declared.Seen.{Seen}
 use Rattle.judging.specs.declared.Coloured.{Coloured}
 use Rattle.judging.specs.Judging.{setOf}
 
--- what a list of letters leads to, if `next t a` is what letter a leads to
-unfoldable pub through : {T : Type 0} → (T → ℕ → T) → List ℕ → T → T
-through next [] t = t
-through next (a ∷ w) t = through next w (next t a)
-
--- ---- the watch for a repeat
--- a round more, which ended in state s
-unfoldable pub watchNext : Watch → ℕ → Watch
-watchNext w s =
-    cond (eqb (w .since + 1) (w .limit))
-    (record { kept = s; since = 0; limit = w .limit * 2 })
-    (record { kept = w .kept; since = w .since + 1; limit = w .limit })
-
 -- ---- rows
+module _ (letters : ℕ) (targets priorities : List ℕ) where
+  -- past questions 8 and 11: there are n states, and the run is in one
+  pub record OverRows (n state : ℕ) : Type 0 where
+    pub passes : shaped letters targets priorities ≡ true
+    pub count-is : n ≡ rowStates letters targets priorities
+    pub among : state < n
+
 -- the run
 abbrev pub runOf : Seen → Run
 runOf s = record { state = s .state }
 
 -- after a reading more
 abbrev pub seenWith : Seen → Reading → Seen
-seenWith s (Moved r k) = record { state = r .state; least = cond (ltb k (s .least)) k (s .least); dangling = s .dangling }
+seenWith s (Moved r k) = record { state = r .state; least = min k (s .least); dangling = s .dangling }
 seenWith s (Refused n r) = record { state = r .state; least = s .least; dangling = s .dangling || eqb n 13 }
-
--- with no priority met yet; so taken up where the kept state was kept 0 rounds ago
-abbrev pub seenAnew : Seen → Seen
-seenAnew s = record { state = s .state; least = 255; dangling = s .dangling }
-
-unfoldable pub seenSince : Seen → ℕ → Seen
-seenSince s since = cond (eqb since 0) (seenAnew s) s
-
--- what s met and a round from there with no priority met yet, at its end
-abbrev pub seenJoined : Seen → Seen → Seen
-seenJoined s one = record { state = one .state; least = cond (ltb (one .least) (s .least)) (one .least) (s .least); dangling = one .dangling }
 
 module _ (letters : ℕ) (targets priorities : List ℕ) where
   unfoldable pub seenStep : Seen → ℕ → Seen
@@ -57,18 +42,14 @@ module _ (letters : ℕ) (targets priorities : List ℕ) where
   seenAfter w = through seenStep w
 
 -- ---- policies
--- with no colour met yet; so taken up where the kept state was kept 0 rounds ago
-abbrev pub colouredAnew : Coloured → Coloured
-colouredAnew m = record { state = m .state; colours = 0 }
-
-unfoldable pub colouredSince : Coloured → ℕ → Coloured
-colouredSince m since = cond (eqb since 0) (colouredAnew m) m
-
--- what m met and a round from there with no colour met yet, at its end
-abbrev pub colouredJoined : Coloured → Coloured → Coloured
-colouredJoined m one = record { state = one .state; colours = bitOr (m .colours) (one .colours) }
-
 module _ (p : Policy) where
+  -- past questions 7 and 11, with the targets and the colours of the policy's edges lent beside it
+  pub record OverEdges (targets colours : List ℕ) (state : ℕ) : Type 0 where
+    pub legal-is : legal p ≡ true
+    pub targets-are : targets ≡ p .target
+    pub colours-are : colours ≡ p .colour
+    pub among : state < p .states
+
   -- after a letter more
   unfoldable pub colouredStep : Coloured → ℕ → Coloured
   colouredStep m a = record { state = policyStep p (m .state) a; colours = bitOr (m .colours) (setOf (policyMeets p (m .state) a)) }

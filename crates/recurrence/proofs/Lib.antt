@@ -2,3 +2,4 @@ pub mod Pigeon
 pub mod Periods
 pub mod Runs
 pub mod Repeats
+pub mod Seeking

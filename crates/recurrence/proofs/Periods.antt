@@ -5,19 +5,10 @@ use native.Mathlib.Omega.{arith}
 use native.Mathlib.Nat.{zero-add, suc-add}
 use native.Mathlib.Decide.{decLt, decLe, ℕ-discrete}
 use mathlib.Core.Path.{_≡_, refl, sym, ap, _∙_, subst}
-use mathlib.Core.Logic.{_⊎_, inl, inr, _≢_, _↔_}
-use mathlib.Core.List.{List, [], _∷_, _++_, List·Memᴰ, List·Memᴰ·head, List·Memᴰ·tail, List·Memᴰ·cases-cons, List·Memᴰ·not-nil, Memᴰ·append-left, Memᴰ·append-right, List·Memᴰ·append-cases}
-use lib.ListN.{length, getD}
-use Rattle.lists.proofs.Lists.{mem-at}
+use mathlib.Core.Logic.{_⊎_, inl, inr, _↔_}
+use mathlib.Core.List.{List, _++_, List·Memᴰ, List·Memᴰ·not-nil, Memᴰ·append-left, Memᴰ·append-right, List·Memᴰ·append-cases}
 use Rattle.recurrence.specs.Recurs.{iter, Recurs, rounds}
-use Rattle.recurrence.proofs.Pigeon.{pigeon, iter-repeats}
-
--- a sequence in a list repeats
-pub list-pigeon : {A : Type 0} (l : List A) (g : ℕ → A) → ((n : ℕ) → List·Memᴰ (g n) l) → (i : ℕ) × (j : ℕ) × (i < j) × (g i ≡ g j)
-list-pigeon {A} l g h =
-    let at : (n : ℕ) → (i : ℕ) × (i < length l) × (getD l i (g 0) ≡ g n) = λ n. mem-at l (g 0) (g n) (h n) in
-    let r = pigeon (length l) (λ n. at n .0) (λ i k. at i .1) in
-    (r .0, r .1, r .2, sym (at (r .0) .2) ∙ ap (λ (k : ℕ). getD l k (g 0)) (r .4) ∙ at (r .1) .2)
+use Rattle.recurrence.proofs.Pigeon.{iter-repeats}
 
 module _ {A B : Type 0} (f : A → A) (out : A → List B) (x : A) where
   module _ (i j : ℕ) (lt : i < j) (back : iter f i x ≡ iter f j x) where

@@ -1,8 +1,8 @@
 -- The pigeonhole principle, and its use for iterates: among S states, a run repeats within S rounds. Assumes nothing.
-use Prim.Native.Nat.{ℕ, zero, suc, _+_, _-_, _≤_, _<_}
+use Prim.Native.Nat.{ℕ, zero, suc, _-_, _≤_, _<_}
 use native.Mathlib.Omega.{arith}
 use native.Mathlib.Decide.{ℕ-discrete}
-use mathlib.Core.Path.{_≡_, refl, sym, ap, _∙_}
+use mathlib.Core.Path.{_≡_, sym, _∙_}
 use mathlib.Core.Logic.{_⊎_, inl, inr, _≢_}
 use Rattle.recurrence.specs.Recurs.{iter}
 
@@ -30,9 +30,6 @@ pigeon (suc S) g h = go (search-below g (g (suc S)) (suc S)) (pigeon S (λ i. re
   where
     v : ℕ
     v = g (suc S)
-
-    g′ : ℕ → ℕ
-    g′ i = repl (g i) (g (suc S)) (ℕ-discrete (g i) S)
 
     Found : Type 0
     Found = (i : ℕ) × (j : ℕ) × (i < j) × (j ≤ suc S) × (g i ≡ g j)

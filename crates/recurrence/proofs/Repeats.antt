@@ -18,6 +18,12 @@ unfolding iter
 iter-add f x i zero = ap (λ (z : ℕ). iter f z x) (sym (add-zero i))
 iter-add f x i (suc k) = let e : suc (i + k) ≡ i + suc k = omega arith in ap f (iter-add f x i k) ∙ ap (λ (z : ℕ). iter f z x) e
 
+-- rounds that lead to the same
+pub iter-any : {A : Type 0} (f g : A → A) → ((x : A) → f x ≡ g x) → (k : ℕ) (x : A) → iter f k x ≡ iter g k x
+unfolding iter
+iter-any f g h zero x = refl
+iter-any f g h (suc k) x = h (iter f k x) ∙ ap g (iter-any f g h k x)
+
 -- what each round keeps, rounds keep
 pub iter-keeps : {A : Type 0} (f : A → A) (P : A → Type 0) → ((y : A) → P y → P (f y)) → (x : A) → P x → (k : ℕ) → P (iter f k x)
 unfolding iter

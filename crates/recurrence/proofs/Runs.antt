@@ -5,9 +5,9 @@ use native.Mathlib.Omega.{arith}
 use native.Mathlib.Nat.{add-zero}
 use mathlib.Core.Path.{_≡_, refl, sym, ap, ap₂, _∙_, subst}
 use mathlib.Core.Logic.{_↔_}
-use mathlib.Core.List.{List, [], _∷_, _++_, append-assoc, List·Memᴰ}
+use mathlib.Core.List.{List, [], _∷_, _++_, append-nil, append-assoc, List·Memᴰ}
 use Rattle.recurrence.specs.Recurs.{iter, Recurs, rounds}
-use Rattle.recurrence.specs.Runs.{times, after, met, Recurring, window}
+use Rattle.recurrence.specs.Runs.{times, through, after, met, Recurring, window}
 use Rattle.recurrence.proofs.Periods.{recurs-within, within-recurs, rounds-mem, mem-rounds, recurs-window}
 
 module _ {S B : Type 0} (step : S → ℕ → S) (meets : S → ℕ → List B) where
@@ -60,6 +60,29 @@ module _ {S B : Type 0} (step : S → ℕ → S) (meets : S → ℕ → List B) 
         from m =
             let q = mem-rounds (after step meets loop) (met step meets loop) s i k y (subst (List·Memᴰ y) (met-times i k) m) in
             within-recurs (after step meets loop) (met step meets loop) s i (i + k) (omega arith) back y (q .0) (q .1) (q .3)
+
+-- ---- a run is the same whatever is looked for
+pub after-any : {S A B : Type 0} (step : S → ℕ → S) (m : S → ℕ → List A) (m′ : S → ℕ → List B) (w : List ℕ) (s : S) → after step m w s ≡ after step m′ w s
+unfolding after
+after-any step m m′ [] s = refl
+after-any step m m′ (a ∷ w) s = after-any step m m′ w (step s a)
+
+-- ---- a run that also collects what it meets into a value: where it leads, and what it collects
+module _ {S B T M : Type 0} (step : S → ℕ → S) (meets : S → ℕ → List B) (next : T → ℕ → T) (run : T → S) (value : T → M) (val : List B → M)
+    (moves : (t : T) (a : ℕ) → run (next t a) ≡ step (run t) a)
+    (adds : (t : T) (a : ℕ) (l : List B) → value t ≡ val l → value (next t a) ≡ val (l ++ meets (run t) a)) where
+  pub through-run : (w : List ℕ) (t : T) → run (through next w t) ≡ after step meets w (run t)
+  unfolding through after
+  through-run [] t = refl
+  through-run (a ∷ w) t = through-run w (next t a) ∙ ap (after step meets w) (moves t a)
+
+  pub through-value : (w : List ℕ) (t : T) (l : List B) → value t ≡ val l → value (through next w t) ≡ val (l ++ met step meets w (run t))
+  unfolding through met
+  through-value [] t l e = e ∙ ap val (sym (append-nil l))
+  through-value (a ∷ w) t l e =
+      through-value w (next t a) (l ++ meets (run t) a) (adds t a l e)
+      ∙ ap (λ (s : S). val ((l ++ meets (run t) a) ++ met step meets w s)) (moves t a)
+      ∙ ap val (append-assoc l (meets (run t) a) (met step meets w (step (run t) a)))
 
 -- ---- rounds among states that are numbers, or are numbered
 module _ {A B : Type 0} (f : A → A) (out : A → List B) (code : A → ℕ) (decode : ℕ → A) (decoded : (x : A) → decode (code x) ≡ x) (coded : (c : ℕ) → code (decode c) ≡ c) where

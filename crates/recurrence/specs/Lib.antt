@@ -1,2 +1,3 @@
 pub mod Recurs
 pub mod Runs
+pub mod Search

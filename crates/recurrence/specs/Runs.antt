@@ -8,6 +8,11 @@ unfoldable pub times : ℕ → List ℕ → List ℕ
 times zero loop = []
 times (suc n) loop = loop ++ times n loop
 
+-- what a list of letters leads to, if `next t a` is what letter a leads to
+unfoldable pub through : {T : Type 0} → (T → ℕ → T) → List ℕ → T → T
+through next [] t = t
+through next (a ∷ w) t = through next w (next t a)
+
 module _ {S B : Type 0} (step : S → ℕ → S) (meets : S → ℕ → List B) where
   -- the state after the letters
   unfoldable pub after : List ℕ → S → S

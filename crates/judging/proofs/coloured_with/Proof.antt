@@ -16,7 +16,7 @@ cast-e c = search needs
 
 -- the letter has an edge
 edge : (c : tie.Start) → let a = c .args in a .m .state * a .p .letters + a .letter < 64
-edge c = edge-small (c .args .p) (c .pre .0) (c .args .m .state) (c .args .letter) (c .pre .1) (c .pre .2)
+edge c = edge-small (c .args .p) (c .pre .0 .legal-is) (c .args .m .state) (c .args .letter) (c .pre .0 .among) (c .pre .1)
 
 mul-e : tie.Need-mul-e
 mul-e c = omega (arith, edge (c .before .before))
@@ -31,8 +31,8 @@ cast-t7 : tie.Need-cast-t7
 unfolding targetOf
 cast-t7 c =
     let s = c .before .before .before in
-    let low : getD (s .args .heads .now) (s .args .m .state * s .args .p .letters + s .args .letter) 0 < 16
-    = subst (λ (l : List ℕ). getD l (s .args .m .state * s .args .p .letters + s .args .letter) 0 < 16) (sym (s .pre .3)) (target-small (s .args .p) (s .pre .0) (s .args .m .state) (s .args .letter) (s .pre .1) (s .pre .2)) in
+    let low : getD (s .args .targets .now) (s .args .m .state * s .args .p .letters + s .args .letter) 0 < 16
+    = subst (λ (l : List ℕ). getD l (s .args .m .state * s .args .p .letters + s .args .letter) 0 < 16) (sym (s .pre .0 .targets-are)) (target-small (s .args .p) (s .pre .0 .legal-is) (s .args .m .state) (s .args .letter) (s .pre .0 .among) (s .pre .1)) in
     omega (arith, low)
 
 element-copy-out-set-with : tie.Need-element-copy-out-set-with
@@ -42,7 +42,7 @@ set-with-requires : tie.Need-set-with-requires
 unfolding colourOf
 set-with-requires c κs =
     let s = c .before .before .before .before in
-    subst (λ (l : List ℕ). getD l (s .args .m .state * s .args .p .letters + s .args .letter) 0 < 8) (sym (s .pre .4)) (colour-small (s .args .p) (s .pre .0) (s .args .m .state) (s .args .letter) (s .pre .1) (s .pre .2))
+    subst (λ (l : List ℕ). getD l (s .args .m .state * s .args .p .letters + s .args .letter) 0 < 8) (sym (s .pre .0 .colours-are)) (colour-small (s .args .p) (s .pre .0 .legal-is) (s .args .m .state) (s .args .letter) (s .pre .0 .among) (s .pre .1))
 
 returns : tie.Need-returns
 unfolding targetOf colourOf
@@ -50,7 +50,7 @@ returns c =
     let s = c .before .before .before .before .before in
     let a = s .args in
     let e = a .m .state * a .p .letters + a .letter in
-    coloured-moves (a .p) (a .m) (a .letter) (s .pre .2) _ _ (ap (λ (l : List ℕ). getD l e 0) (s .pre .3)) (c .set-with .ensures ∙ ap (λ (l : List ℕ). insert (a .m .colours) (getD l e 0)) (s .pre .4))
+    coloured-moves (a .p) (a .m) (a .letter) (s .pre .1) _ _ (ap (λ (l : List ℕ). getD l e 0) (s .pre .0 .targets-are)) (c .set-with .ensures ∙ ap (λ (l : List ℕ). insert (a .m .colours) (getD l e 0)) (s .pre .0 .colours-are))
 
 pub coloured-with-spec : {M : Type 1} → statement M
 coloured-with-spec =

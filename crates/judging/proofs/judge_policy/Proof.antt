@@ -1,6 +1,6 @@
 -- Each answer is the definition's by the questions that led there; what the search holds is what the definition's window holds. Assumes nothing.
 use Prim.Native.Nat.{_<_}
-use mathlib.Core.Path.{_≡_, refl, sym, ap, ap₂, _∙_, subst}
+use mathlib.Core.Path.{_≡_, refl, sym, ap₂, _∙_, subst}
 use mathlib.Core.Bool.{true, _&&_}
 use borrow.Author.Tests.{not-true, not-false}
 use Rattle.policy.specs.Policies.{legal, inFamily}
@@ -55,7 +55,7 @@ coloured-word-requires c κs =
     let d = c .before .before .before in
     let e = d .before .before .before in
     let a = e .before .before .before .before .before .before .args in
-    (ok (e .before .before), e .before .if2 .left, and-l (inRange (a .t1 .letters) (a .stem .now)) (inRange (a .t1 .letters) (a .period .now)) (range d), refl, refl)
+    (record { legal-is = ok (e .before .before); targets-are = refl; colours-are = refl; among = e .before .if2 .left }, and-l (inRange (a .t1 .letters) (a .stem .now)) (inRange (a .t1 .letters) (a .period .now)) (range d))
 
 coloured-recurring-requires : tie.Need-coloured-recurring-requires
 coloured-recurring-requires c κs =
@@ -63,11 +63,13 @@ coloured-recurring-requires c κs =
     let d = w .before .before .before .before in
     let e = d .before .before .before in
     let a = e .before .before .before .before .before .before .args in (
-      ok (e .before .before),
-      subst (λ (m : Coloured). m .state < a .t1 .states) (sym (w .coloured-word .ensures)) (word-within (a .t1) (ok (e .before .before)) (a .stem .now) _ (e .before .if2 .left)),
+      record {
+        legal-is = ok (e .before .before);
+        targets-are = refl;
+        colours-are = refl;
+        among = subst (λ (m : Coloured). m .state < a .t1 .states) (sym (w .coloured-word .ensures)) (word-within (a .t1) (ok (e .before .before)) (a .stem .now) _ (e .before .if2 .left));
+      },
       and-r (inRange (a .t1 .letters) (a .stem .now)) (inRange (a .t1 .letters) (a .period .now)) (range d),
-      refl,
-      refl,
     )
 
 cast-t13 : tie.Need-cast-t13
@@ -79,7 +81,7 @@ element-copy-out-t16 c = search needs
 returns-5 : tie.Need-returns-5
 unfolding inFamily
 returns-5 c =
-    let r = c .before .before in
+    let r = c .before in
     let f = r .before .before .before .before in
     let d = f .before .before .before .before in
     let e = d .before .before .before in

@@ -65,17 +65,19 @@ seen-word-requires : tie.Need-seen-word-requires
 seen-word-requires c κs =
     let e = c .before .before .before in
     let a = e .before .before .before .before .before .before .before .before .args in
-    (shape (e .before .before), counted (e .before .before), e .before .if2 .left, and-l (inRange (a .letters) (a .stem .now)) (inRange (a .letters) (a .period .now)) (range c))
+    (record { passes = shape (e .before .before); count-is = counted (e .before .before); among = e .before .if2 .left }, and-l (inRange (a .letters) (a .stem .now)) (inRange (a .letters) (a .period .now)) (range c))
 
 seen-recurring-requires : tie.Need-seen-recurring-requires
 seen-recurring-requires c κs =
     let d = c .before in
     let e = d .before .before .before in
     let a = e .before .before .before .before .before .before .before .before .args in (
-      shape (e .before .before),
-      counted (e .before .before),
-      subst (λ (n : ℕ). c .seen-word .result .state < n) (sym (counted (e .before .before)))
-          (subst (λ (s : Seen). s .state < rowStates (a .letters) (a .targets .now) (a .priorities .now)) (sym (c .seen-word .ensures)) (word-stays (a .letters) (a .targets .now) (a .priorities .now) (a .stem .now) _ (state (e .before)))),
+      record {
+        passes = shape (e .before .before);
+        count-is = counted (e .before .before);
+        among = subst (λ (n : ℕ). c .seen-word .result .state < n) (sym (counted (e .before .before)))
+            (subst (λ (s : Seen). s .state < rowStates (a .letters) (a .targets .now) (a .priorities .now)) (sym (c .seen-word .ensures)) (word-stays (a .letters) (a .targets .now) (a .priorities .now) (a .stem .now) _ (state (e .before))));
+      },
       and-r (inRange (a .letters) (a .stem .now)) (inRange (a .letters) (a .period .now)) (range d),
     )
 

@@ -19,7 +19,7 @@ abbrev μ-loop : tie.MeasureT-loop
 μ-loop word n letters targets priorities t₀ i₀ t i = length word - i
 
 loop-holds : tie.Need-loop-holds Inv-loop μ-loop
-loop-holds c = let d = c .before .before .before in (omega arith, subst (λ (n : ℕ). d .args .s .state < n) (d .pre .1) (d .pre .2), refl)
+loop-holds c = let d = c .before .before .before in (omega arith, subst (λ (n : ℕ). d .args .s .state < n) (d .pre .0 .count-is) (d .pre .0 .among), refl)
 
 shared-slice-read-seen-with : tie.Need-shared-slice-read-seen-with Inv-loop μ-loop
 shared-slice-read-seen-with c = omega (arith, c .before .loop-test .taken)
@@ -28,7 +28,10 @@ seen-with-requires : tie.Need-seen-with-requires Inv-loop μ-loop
 seen-with-requires c κs =
     let l = c .before .before in
     let d = l .before .before .before .before in
-    (d .pre .0, d .pre .1, subst (λ (n : ℕ). l .loop .t .state < n) (sym (d .pre .1)) (l .loop .inv .1), range-at (d .args .letters) (d .args .word .now) (d .pre .3) (l .loop .i) (c .before .loop-test .taken))
+    let h = d .pre .0 in (
+      record { passes = h .passes; count-is = h .count-is; among = subst (λ (n : ℕ). l .loop .t .state < n) (sym (h .count-is)) (l .loop .inv .1) },
+      range-at (d .args .letters) (d .args .word .now) (d .pre .1) (l .loop .i) (c .before .loop-test .taken),
+    )
 
 add-i : tie.Need-add-i Inv-loop μ-loop
 add-i c = omega arith
