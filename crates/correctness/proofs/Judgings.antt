@@ -12,7 +12,7 @@ use Rattle.lists.specs.Lists.{any, all}
 use Rattle.lists.proofs.Bools.{test, and-l, or-left, both, bool-ext}
 use Rattle.masks.specs.Masks.{has}
 use Rattle.masks.proofs.Bits.{mask-ext}
-use Rattle.recurrence.specs.Recurs.{iter}
+use Rattle.recurrence.specs.Iterates.{iter}
 use Rattle.recurrence.specs.Runs.{after, met, window}
 use Rattle.recurrence.proofs.Runs.{numbered-recurring}
 use Rattle.recurrence.proofs.Repeats.{iter-keeps}

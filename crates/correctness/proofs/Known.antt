@@ -1,7 +1,7 @@
 -- The eleven known entries hold, by computation. Assumes nothing.
 use mathlib.Core.Path.{_≡_, refl}
 use mathlib.Core.List.{map}
-use Rattle.recurrence.specs.Recurs.{iter, rounds}
+use Rattle.recurrence.specs.Iterates.{iter, rounds}
 use Rattle.recurrence.specs.Runs.{after, met, window}
 use Rattle.masks.specs.Masks.{has, insert, inside, properly, members, submasks}
 use Rattle.policy.specs.Policies.{edges, edgeOf, source, targetOf, colourOf, coloursBelow, coloursOf, inFamily, accepting}

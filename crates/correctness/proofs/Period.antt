@@ -15,8 +15,9 @@ use Rattle.lists.proofs.Lists.{any-some, some-any, below-lt, flat-mem, mem-flat
 use Rattle.masks.specs.Masks.{has, maskOf}
 use Rattle.masks.proofs.Bits.{has-high}
 use Rattle.masks.proofs.MaskOf.{mask-of-lt, has-mask-of}
-use Rattle.recurrence.specs.Recurs.{iter, Recurs}
+use Rattle.recurrence.specs.Iterates.{iter}
 use Rattle.recurrence.specs.Runs.{times, met}
+use Rattle.recurrence.proofs.Recurs.{RecursInRounds}
 use Rattle.recurrence.proofs.Pigeon.{pigeon}
 use Rattle.recurrence.proofs.Runs.{after-times, period-recurs}
 use Rattle.policy.specs.declared.Policy.{Policy}
@@ -57,10 +58,10 @@ module _ (p : Policy) (targets priorities : List ℕ) where
   -- on the loop from here a least priority and a set of colours recur, and the one is even exactly if the other is in the family
   pub record Settled (loop : List ℕ) (r : Run) (v : ℕ) : Type 0 where
     pub least : ℕ
-    pub least-recurs : Recurs (builtRun p targets priorities loop) (builtMet loop) r least
-    pub least-lowest : (k : ℕ) → Recurs (builtRun p targets priorities loop) (builtMet loop) r k → least ≤ k
+    pub least-recurs : RecursInRounds (builtRun p targets priorities loop) (builtMet loop) r least
+    pub least-lowest : (k : ℕ) → RecursInRounds (builtRun p targets priorities loop) (builtMet loop) r k → least ≤ k
     pub colours : ℕ
-    pub colours-recur : (c : ℕ) → (has colours c ≡ true) ↔ Recurs (policyRun p loop) (policyMet p loop) v c
+    pub colours-recur : (c : ℕ) → (has colours c ≡ true) ↔ RecursInRounds (policyRun p loop) (policyMet p loop) v c
     pub verdict : even least ≡ inFamily p colours
 
 module _ (p : Policy) (ok : legal p ≡ true) where
@@ -133,12 +134,12 @@ module _ (p : Policy) (ok : legal p ≡ true) where
       unfolding X
       decided = closed (stateEnd i) leaf (way .taken) taken-some path (in-good p ok (runEnd i) (stateEnd i) leaf here .1) leaf-back
 
-      priority-recurs : (k′ : ℕ) → Recurs (builtRun p targets priorities loop) (builtMet p targets priorities loop) r k′ ↔ List·Memᴰ k′ (metRun (forest p) p (way .taken) leaf)
+      priority-recurs : (k′ : ℕ) → RecursInRounds (builtRun p targets priorities loop) (builtMet p targets priorities loop) r k′ ↔ List·Memᴰ k′ (metRun (forest p) p (way .taken) leaf)
       priority-recurs k′ =
           let q = period-recurs (rowStep (p .letters) targets priorities) (rowMeets (p .letters) targets priorities) loop r i (suc k) (omega arith) back k′ in
           (λ h. subst (List·Memᴰ k′) (way .priorities-are) (q .0 h), λ m. q .1 (subst (List·Memᴰ k′) (sym (way .priorities-are)) m))
 
-      colour-recurs : (c : ℕ) → Recurs (policyRun p loop) (policyMet p loop) v c ↔ List·Memᴰ c (flat (map (edgeColours p) (way .taken)))
+      colour-recurs : (c : ℕ) → RecursInRounds (policyRun p loop) (policyMet p loop) v c ↔ List·Memᴰ c (flat (map (edgeColours p) (way .taken)))
       colour-recurs c =
           let q = period-recurs (policyStep p) (policyMeets p) loop v i (suc k) (omega arith) state-back c in
           (λ h. subst (List·Memᴰ c) (way .colours-are) (q .0 h), λ m. q .1 (subst (List·Memᴰ c) (sym (way .colours-are)) m))

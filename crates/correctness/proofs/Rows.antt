@@ -4,7 +4,8 @@ use mathlib.Core.Path.{_≡_}
 use mathlib.Core.Bool.{true}
 use mathlib.Core.List.{List}
 use lib.ListN.{length, getD}
-use Rattle.recurrence.specs.Runs.{after, Recurring}
+use Rattle.recurrence.specs.Runs.{after}
+use Rattle.recurrence.proofs.Recurs.{RecursInRun}
 use Rattle.policy.specs.declared.Policy.{Policy}
 use Rattle.automaton.specs.Automaton.{built, stateAt, rowTarget, rowPriority}
 use Rattle.running.specs.declared.Run.{Run}
@@ -28,11 +29,11 @@ module _ (p : Policy) where
   policyRun w v = after (policyStep p) (policyMeets p) w v
 
   abbrev pub RecurringColour : List ℕ → List ℕ → ℕ → ℕ → Type 0
-  RecurringColour stem loop v c = Recurring (policyStep p) (policyMeets p) stem loop v c
+  RecurringColour stem loop v c = RecursInRun (policyStep p) (policyMeets p) stem loop v c
 
 module _ (p : Policy) (targets priorities : List ℕ) where
   abbrev pub builtRun : List ℕ → Run → Run
   builtRun w r = after (rowStep (p .letters) targets priorities) (rowMeets (p .letters) targets priorities) w r
 
   abbrev pub RecurringPriority : List ℕ → List ℕ → Run → ℕ → Type 0
-  RecurringPriority stem loop r k = Recurring (rowStep (p .letters) targets priorities) (rowMeets (p .letters) targets priorities) stem loop r k
+  RecurringPriority stem loop r k = RecursInRun (rowStep (p .letters) targets priorities) (rowMeets (p .letters) targets priorities) stem loop r k

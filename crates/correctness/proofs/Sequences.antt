@@ -9,8 +9,9 @@ use mathlib.Core.List.{List, [], _∷_, List·Memᴰ, List·Memᴰ·not-nil, Mem
 use lib.Arith.{digits-mod}
 use lib.ListN.{length, getD}
 use borrow.Author.Tests.{lt-ltb, le-ltb}
-use Rattle.recurrence.specs.Recurs.{iter}
-use Rattle.recurrence.specs.Runs.{after, met, Recurring}
+use Rattle.recurrence.specs.Iterates.{iter}
+use Rattle.recurrence.specs.Runs.{after, met}
+use Rattle.recurrence.proofs.Recurs.{RecursInRun}
 use Rattle.correctness.specs.Demand3.{letterAt, Recurs}
 
 -- ---- the letters
@@ -89,10 +90,10 @@ module _ {S : Type 0} (step : S → ℕ → S) (meets : S → ℕ → List ℕ) 
       ap state e ∙ after-word step meets (letterAt stem loop) state goes loop (roundStart stem loop r) (loop-letter stem loop r) ∙ ap (after step meets loop) (round-start r)
 
   -- what the letters of round r meet is what the round meets
-  pub recurs-along : (y : ℕ) → Recurs stem loop (λ i. meets (state i) (letterAt stem loop i)) y ↔ Recurring step meets stem loop (state 0) y
+  pub recurs-along : (y : ℕ) → Recurs stem loop (λ i. meets (state i) (letterAt stem loop i)) y ↔ RecursInRun step meets stem loop (state 0) y
   recurs-along y = (to, from)
     where
-      to : Recurs stem loop (λ i. meets (state i) (letterAt stem loop i)) y → Recurring step meets stem loop (state 0) y
+      to : Recurs stem loop (λ i. meets (state i) (letterAt stem loop i)) y → RecursInRun step meets stem loop (state 0) y
       to h n =
           let q = h n in
           let j = q .2 - roundStart stem loop (q .0) in
@@ -105,7 +106,7 @@ module _ {S : Type 0} (step : S → ℕ → S) (meets : S → ℕ → List ℕ) 
                 (subst (λ (i : ℕ). List·Memᴰ y (meets (state i) (letterAt stem loop i))) e (q .4))),
           )
 
-      from : Recurring step meets stem loop (state 0) y → Recurs stem loop (λ i. meets (state i) (letterAt stem loop i)) y
+      from : RecursInRun step meets stem loop (state 0) y → Recurs stem loop (λ i. meets (state i) (letterAt stem loop i)) y
       from h n =
           let q = h n in
           let m = met-word step meets (letterAt stem loop) state goes loop (roundStart stem loop (q .0)) (loop-letter stem loop (q .0)) y (subst (λ (s : S). List·Memᴰ y (met step meets loop s)) (sym (round-start (q .0))) (q .2)) in

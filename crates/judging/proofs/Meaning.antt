@@ -11,8 +11,9 @@ use lib.ListN.{getD}
 use Rattle.lists.specs.Lists.{all}
 use Rattle.lists.proofs.Bools.{test, and-l, or-cases, eqb≡, lt-true, lt-false}
 use Rattle.masks.specs.Masks.{has}
-use Rattle.recurrence.specs.Recurs.{iter, rounds}
-use Rattle.recurrence.specs.Runs.{times, after, met, Recurring, window}
+use Rattle.recurrence.specs.Iterates.{iter, rounds}
+use Rattle.recurrence.specs.Runs.{times, after, met, window}
+use Rattle.recurrence.proofs.Recurs.{RecursInRun}
 use Rattle.recurrence.proofs.Periods.{rounds-mem, mem-rounds}
 use Rattle.recurrence.proofs.Runs.{met-append, after-keeps, after-any, met-times, recurring-window, numbered-recurring}
 use Rattle.recurrence.proofs.Repeats.{iter-any, iter-keeps, met-first}
@@ -28,7 +29,7 @@ use Rattle.judging.proofs.Laws.{set-has, least-le, least-mem, member-so
 
 -- ---- the recurring colours
 pub recurring-colours : (p : Policy) → legal p ≡ true → (v : ℕ) → v < p .states → (stem loop : List ℕ) (c : ℕ)
-    → (has (recurringColours p v stem loop) c ≡ true) ↔ Recurring (policyStep p) (policyMeets p) stem loop v c
+    → (has (recurringColours p v stem loop) c ≡ true) ↔ RecursInRun (policyStep p) (policyMeets p) stem loop v c
 unfolding recurringColours
 recurring-colours p ok v h stem loop c =
     let held = window (policyStep p) (policyMeets p) (p .states) stem loop v in
@@ -193,15 +194,15 @@ module _ (letters : ℕ) (targets priorities : List ℕ) where
 
       pub least-recurring : shaped letters targets priorities ≡ true → nonEmpty loop ≡ true → inRange letters loop ≡ true → everDangling letters targets priorities r stem loop ≡ false
           → ((i : ℕ) → getD priorities i 0 ≤ 255)
-          → Recurring (rowStep letters targets priorities) (rowMeets letters targets priorities) stem loop r (leastRecurring letters targets priorities r stem loop)
-          × ((k : ℕ) → Recurring (rowStep letters targets priorities) (rowMeets letters targets priorities) stem loop r k → leastRecurring letters targets priorities r stem loop ≤ k)
+          → RecursInRun (rowStep letters targets priorities) (rowMeets letters targets priorities) stem loop r (leastRecurring letters targets priorities r stem loop)
+          × ((k : ℕ) → RecursInRun (rowStep letters targets priorities) (rowMeets letters targets priorities) stem loop r k → leastRecurring letters targets priorities r stem loop ≤ k)
       unfolding leastRecurring window
       least-recurring ok some range none bytes = (recurs (leastOf held) .1 (least-mem held (getD priorities (one .0) 0) in-held (bytes (one .0))), λ k q. least-le held k (recurs k .0 q))
         where
           held : List ℕ
           held = window step meets states stem loop r
 
-          recurs : (k : ℕ) → Recurring step meets stem loop r k ↔ List·Memᴰ k held
+          recurs : (k : ℕ) → RecursInRun step meets stem loop r k ↔ List·Memᴰ k held
           recurs k = numbered-recurring step meets (λ r. r .state) (λ n. record { state = n }) (λ r. refl) (λ n. refl) states (row-within letters targets priorities) stem loop r h k
 
           one : (i : ℕ) × List·Memᴰ (getD priorities i 0) (met step meets loop (at states))

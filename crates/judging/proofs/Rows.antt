@@ -7,7 +7,7 @@ use mathlib.Core.List.{List, [], _∷_, _++_, append-nil}
 use lib.Dec.{eqb}
 use lib.ListN.{getD}
 use Rattle.recurrence.specs.declared.Search.{Search}
-use Rattle.recurrence.specs.Recurs.{iter, rounds}
+use Rattle.recurrence.specs.Iterates.{iter, rounds}
 use Rattle.recurrence.specs.Runs.{after, met, window}
 use Rattle.recurrence.specs.Search.{searchFrom, searchNext}
 use Rattle.recurrence.proofs.Runs.{after-keeps, after-any, through-run, through-value}

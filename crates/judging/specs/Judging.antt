@@ -8,7 +8,7 @@ use lib.Dec.{eqb, ltb}
 use Rattle.lists.specs.Lists.{all}
 use Rattle.lists.specs.Questions.{ask}
 use Rattle.masks.specs.Masks.{insert}
-use Rattle.recurrence.specs.Recurs.{rounds}
+use Rattle.recurrence.specs.Iterates.{rounds}
 use Rattle.recurrence.specs.Runs.{after, met, window}
 use Rattle.policy.specs.declared.Policy.{Policy}
 use Rattle.policy.specs.Policies.{inFamily, legal}

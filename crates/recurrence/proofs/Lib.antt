@@ -1,3 +1,4 @@
+pub mod Recurs
 pub mod Pigeon
 pub mod Periods
 pub mod Runs

@@ -7,7 +7,8 @@ use native.Mathlib.Decide.{decLt, decLe, ℕ-discrete}
 use mathlib.Core.Path.{_≡_, refl, sym, ap, _∙_, subst}
 use mathlib.Core.Logic.{_⊎_, inl, inr, _↔_}
 use mathlib.Core.List.{List, _++_, List·Memᴰ, List·Memᴰ·not-nil, Memᴰ·append-left, Memᴰ·append-right, List·Memᴰ·append-cases}
-use Rattle.recurrence.specs.Recurs.{iter, Recurs, rounds}
+use Rattle.recurrence.specs.Iterates.{iter, rounds}
+use Rattle.recurrence.proofs.Recurs.{RecursInRounds}
 use Rattle.recurrence.proofs.Pigeon.{iter-repeats}
 
 module _ {A B : Type 0} (f : A → A) (out : A → List B) (x : A) where
@@ -39,13 +40,13 @@ module _ {A B : Type 0} (f : A → A) (out : A → List B) (x : A) where
         go (yes k) ih = let q = ih k in next q (decLt (suc (q .0)) j)
         go (no k) ih = (suc r, l, omega arith, refl)
 
-    pub recurs-within : (y : B) → Recurs f out x y → (t : ℕ) × (i ≤ t) × (t < j) × List·Memᴰ y (out (iter f t x))
+    pub recurs-within : (y : B) → RecursInRounds f out x y → (t : ℕ) × (i ≤ t) × (t < j) × List·Memᴰ y (out (iter f t x))
     recurs-within y h =
         let r = h i in
         let q = within (r .0) (r .1) in
         (q .0, q .1, q .2, subst (λ (z : A). List·Memᴰ y (out z)) (q .3) (r .2))
 
-    pub within-recurs : (y : B) (t : ℕ) → i ≤ t → List·Memᴰ y (out (iter f t x)) → Recurs f out x y
+    pub within-recurs : (y : B) (t : ℕ) → i ≤ t → List·Memᴰ y (out (iter f t x)) → RecursInRounds f out x y
     within-recurs y t l m n = let q = later t l n in (q .0, q .1, subst (λ (z : A). List·Memᴰ y (out z)) (sym (q .3)) m)
 
   pub rounds-mem : (i k t : ℕ) (y : B) → i ≤ t → t < i + k → List·Memᴰ y (out (iter f t x)) → List·Memᴰ y (rounds f out x i k)
@@ -69,10 +70,10 @@ module _ {A B : Type 0} (f : A → A) (out : A → List B) (x : A) where
 
 -- ---- a run among S states
 module _ {B : Type 0} (f : ℕ → ℕ) (out : ℕ → List B) (x S : ℕ) (stays : (y : ℕ) → y < S → f y < S) (start : x < S) where
-  pub recurs-window : (y : B) → Recurs f out x y ↔ List·Memᴰ y (rounds f out x S S)
+  pub recurs-window : (y : B) → RecursInRounds f out x y ↔ List·Memᴰ y (rounds f out x S S)
   recurs-window y = go (iter-repeats f S x stays start)
     where
-      go : ((i : ℕ) × (j : ℕ) × (i < j) × (j ≤ S) × (iter f i x ≡ iter f j x)) → Recurs f out x y ↔ List·Memᴰ y (rounds f out x S S)
+      go : ((i : ℕ) × (j : ℕ) × (i < j) × (j ≤ S) × (iter f i x ≡ iter f j x)) → RecursInRounds f out x y ↔ List·Memᴰ y (rounds f out x S S)
       go r = (to, from)
         where
           i : ℕ
@@ -87,12 +88,12 @@ module _ {B : Type 0} (f : ℕ → ℕ) (out : ℕ → List B) (x S : ℕ) (stay
               let b : (S - r .0) + r .1 ≡ S + (r .1 - r .0) = omega (arith, r .2, r .3) in
               ap (λ (k : ℕ). iter f k x) a ∙ shift f out x (r .0) (r .1) (r .2) (r .4) (S - r .0) ∙ ap (λ (k : ℕ). iter f k x) b
 
-          to : Recurs f out x y → List·Memᴰ y (rounds f out x S S)
+          to : RecursInRounds f out x y → List·Memᴰ y (rounds f out x S S)
           to h =
               let q = recurs-within f out x S (S + (r .1 - r .0)) (omega (arith, r .2)) later y h in
               rounds-mem f out x S S (q .0) y (q .1) (omega (arith, q .2, r .2, r .3)) (q .3)
 
-          from : List·Memᴰ y (rounds f out x S S) → Recurs f out x y
+          from : List·Memᴰ y (rounds f out x S S) → RecursInRounds f out x y
           from m =
               let q = mem-rounds f out x S S y m in
               within-recurs f out x (r .0) (r .1) (r .2) (r .4) y (q .0) (omega (arith, q .1, r .2, r .3)) (q .3)

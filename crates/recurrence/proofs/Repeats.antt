@@ -7,7 +7,8 @@ use native.Mathlib.Decide.{decLe}
 use mathlib.Core.Path.{_≡_, refl, sym, ap, ap₂, _∙_}
 use mathlib.Core.Logic.{_↔_}
 use mathlib.Core.List.{List, _++_, append-nil, append-assoc, List·Memᴰ}
-use Rattle.recurrence.specs.Recurs.{iter, Recurs, rounds}
+use Rattle.recurrence.specs.Iterates.{iter, rounds}
+use Rattle.recurrence.proofs.Recurs.{RecursInRounds}
 use Rattle.recurrence.proofs.Pigeon.{pigeon}
 use Rattle.recurrence.proofs.Periods.{shift, recurs-within, within-recurs, rounds-mem, mem-rounds}
 use Rattle.recurrence.proofs.Runs.{numbered-window}
@@ -51,7 +52,7 @@ module _ {A B : Type 0} (f : A → A) (out : A → List B) (x : A) where
 
   module _ (i k : ℕ) (some : 0 < k) (back : iter f i x ≡ iter f (i + k) x) where
     -- what recurs is what one way round meets
-    pub recurs-period : (y : B) → Recurs f out x y ↔ List·Memᴰ y (rounds f out x i k)
+    pub recurs-period : (y : B) → RecursInRounds f out x y ↔ List·Memᴰ y (rounds f out x i k)
     recurs-period y = (
       λ h. let q = recurs-within f out x i (i + k) (omega arith) back y h in rounds-mem f out x i k (q .0) y (q .1) (q .2) (q .3),
       λ m. let q = mem-rounds f out x i k y m in within-recurs f out x i (i + k) (omega arith) back y (q .0) (q .1) (q .3),

@@ -6,8 +6,9 @@ use native.Mathlib.Nat.{add-zero}
 use mathlib.Core.Path.{_≡_, refl, sym, ap, ap₂, _∙_, subst}
 use mathlib.Core.Logic.{_↔_}
 use mathlib.Core.List.{List, [], _∷_, _++_, append-nil, append-assoc, List·Memᴰ}
-use Rattle.recurrence.specs.Recurs.{iter, Recurs, rounds}
-use Rattle.recurrence.specs.Runs.{times, through, after, met, Recurring, window}
+use Rattle.recurrence.specs.Iterates.{iter, rounds}
+use Rattle.recurrence.specs.Runs.{times, through, after, met, window}
+use Rattle.recurrence.proofs.Recurs.{RecursInRounds, RecursInRun}
 use Rattle.recurrence.proofs.Periods.{recurs-within, within-recurs, rounds-mem, mem-rounds, recurs-window}
 
 module _ {S B : Type 0} (step : S → ℕ → S) (meets : S → ℕ → List B) where
@@ -48,15 +49,15 @@ module _ {S B : Type 0} (step : S → ℕ → S) (meets : S → ℕ → List B) 
 
     -- a run that comes back after k rounds: what recurs is what they meet
     pub period-recurs : (i k : ℕ) → 0 < k → roundEnd i ≡ roundEnd (i + k)
-        → (y : B) → Recurs (after step meets loop) (met step meets loop) s y ↔ List·Memᴰ y (met step meets (times k loop) (roundEnd i))
+        → (y : B) → RecursInRounds (after step meets loop) (met step meets loop) s y ↔ List·Memᴰ y (met step meets (times k loop) (roundEnd i))
     period-recurs i k lt back y = (to, from)
       where
-        to : Recurs (after step meets loop) (met step meets loop) s y → List·Memᴰ y (met step meets (times k loop) (roundEnd i))
+        to : RecursInRounds (after step meets loop) (met step meets loop) s y → List·Memᴰ y (met step meets (times k loop) (roundEnd i))
         to h =
             let q = recurs-within (after step meets loop) (met step meets loop) s i (i + k) (omega arith) back y h in
             subst (List·Memᴰ y) (sym (met-times i k)) (rounds-mem (after step meets loop) (met step meets loop) s i k (q .0) y (q .1) (q .2) (q .3))
 
-        from : List·Memᴰ y (met step meets (times k loop) (roundEnd i)) → Recurs (after step meets loop) (met step meets loop) s y
+        from : List·Memᴰ y (met step meets (times k loop) (roundEnd i)) → RecursInRounds (after step meets loop) (met step meets loop) s y
         from m =
             let q = mem-rounds (after step meets loop) (met step meets loop) s i k y (subst (List·Memᴰ y) (met-times i k) m) in
             within-recurs (after step meets loop) (met step meets loop) s i (i + k) (omega arith) back y (q .0) (q .1) (q .3)
@@ -105,7 +106,7 @@ module _ {A B : Type 0} (f : A → A) (out : A → List B) (code : A → ℕ) (d
   rounds-coded i zero x = refl
   rounds-coded i (suc k) x = ap₂ (λ (l r : List B). l ++ r) (out-coded i x) (rounds-coded (suc i) k x)
 
-  pub numbered-window : (n : ℕ) → ((x : A) → code x < n → code (f x) < n) → (x : A) → code x < n → (y : B) → Recurs f out x y ↔ List·Memᴰ y (rounds f out x n n)
+  pub numbered-window : (n : ℕ) → ((x : A) → code x < n → code (f x) < n) → (x : A) → code x < n → (y : B) → RecursInRounds f out x y ↔ List·Memᴰ y (rounds f out x n n)
   numbered-window n stays x lt y =
       let w = recurs-window codedRound codedOut (code x) n (λ c h. stays (decode c) (subst (λ (z : ℕ). z < n) (sym (coded c)) h)) lt y in (
         λ h. subst (List·Memᴰ y) (rounds-coded n n x) (w .0 (λ m. let r = h m in (r .0, r .1, subst (List·Memᴰ y) (sym (out-coded (r .0) x)) (r .2)))),
@@ -115,7 +116,7 @@ module _ {A B : Type 0} (f : A → A) (out : A → List B) (code : A → ℕ) (d
 -- ---- runs among n states: what recurs is what the window holds
 module _ {S B : Type 0} (step : S → ℕ → S) (meets : S → ℕ → List B) (code : S → ℕ) (decode : ℕ → S) (decoded : (s : S) → decode (code s) ≡ s) (coded : (c : ℕ) → code (decode c) ≡ c)
     (n : ℕ) (stays : (s : S) (a : ℕ) → code s < n → code (step s a) < n) where
-  pub numbered-recurring : (stem loop : List ℕ) (s : S) → code s < n → (y : B) → Recurring step meets stem loop s y ↔ List·Memᴰ y (window step meets n stem loop s)
+  pub numbered-recurring : (stem loop : List ℕ) (s : S) → code s < n → (y : B) → RecursInRun step meets stem loop s y ↔ List·Memᴰ y (window step meets n stem loop s)
   unfolding window
   numbered-recurring stem loop s lt y =
       numbered-window (after step meets loop) (met step meets loop) code decode decoded coded n (λ s h. kept loop s h) (after step meets stem s) (kept stem s lt) y
@@ -124,5 +125,5 @@ module _ {S B : Type 0} (step : S → ℕ → S) (meets : S → ℕ → List B) 
       kept w s h = after-keeps step meets (λ s. code s < n) stays w s h
 
 module _ {B : Type 0} (step : ℕ → ℕ → ℕ) (meets : ℕ → ℕ → List B) (n : ℕ) (stays : (s a : ℕ) → s < n → step s a < n) where
-  pub recurring-window : (stem loop : List ℕ) (s : ℕ) → s < n → (y : B) → Recurring step meets stem loop s y ↔ List·Memᴰ y (window step meets n stem loop s)
+  pub recurring-window : (stem loop : List ℕ) (s : ℕ) → s < n → (y : B) → RecursInRun step meets stem loop s y ↔ List·Memᴰ y (window step meets n stem loop s)
   recurring-window stem loop s lt y = numbered-recurring step meets (λ s. s) (λ c. c) (λ s. refl) (λ c. refl) n stays stem loop s lt y

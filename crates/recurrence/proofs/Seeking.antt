@@ -12,7 +12,7 @@ use lib.Dec.{eqb}
 use borrow.Author.Tests.{eqb-false}
 use Rattle.lists.proofs.Bools.{test, eqb≡}
 use Rattle.recurrence.specs.declared.Search.{Search}
-use Rattle.recurrence.specs.Recurs.{iter, rounds}
+use Rattle.recurrence.specs.Iterates.{iter, rounds}
 use Rattle.recurrence.specs.Search.{searchFrom, searchNext}
 use Rattle.recurrence.proofs.Repeats.{iter-keeps, rounds-snoc, back-later, repeats, period-window}
 

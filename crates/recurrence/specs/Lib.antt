@@ -1,3 +1,3 @@
-pub mod Recurs
+pub mod Iterates
 pub mod Runs
 pub mod Search

@@ -1,7 +1,7 @@
 -- A run over a list of letters, and over a stem and then rounds without end. `step s a` is the state after letter a, `meets s a` what reading a meets.
 use Prim.Native.Nat.{ℕ, zero, suc}
 use mathlib.Core.List.{List, [], _∷_, _++_}
-use Rattle.recurrence.specs.Recurs.{Recurs, rounds}
+use Rattle.recurrence.specs.Iterates.{rounds}
 
 -- n readings of the loop, one after the other
 unfoldable pub times : ℕ → List ℕ → List ℕ
@@ -23,10 +23,6 @@ module _ {S B : Type 0} (step : S → ℕ → S) (meets : S → ℕ → List B) 
   unfoldable pub met : List ℕ → S → List B
   met [] s = []
   met (a ∷ w) s = meets s a ++ met w (step s a)
-
-  -- y recurs in the run from s over the stem and then the loop without end; a round is one reading of the loop
-  abbrev pub Recurring : List ℕ → List ℕ → S → B → Type 0
-  Recurring stem loop s y = Recurs (after loop) (met loop) (after stem s) y
 
   -- what the rounds n to 2 n - 1 meet. Among n states, this is what recurs
   unfoldable pub window : ℕ → List ℕ → List ℕ → S → List B
