@@ -1,4 +1,4 @@
--- Judging a policy: what reading letters collects, and what the search for a repeat comes to; each answer of the definition. Assumes nothing.
+-- Judging a policy: what reading letters collects, and that the search for a repeat finds the colours that recur. Assumes nothing.
 use Prim.Native.Nat.{ℕ, _+_, _*_, _^_, _<_}
 use native.Mathlib.Omega.{arith}
 use mathlib.Core.Path.{_≡_, refl, sym, ap, ap₂, _∙_, subst}

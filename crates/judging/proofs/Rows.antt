@@ -1,4 +1,4 @@
--- Judging rows: what reading letters collects, and what the search for a repeat comes to; each answer of the definition. Assumes nothing.
+-- Judging rows: what reading letters collects, and that the search for a repeat finds the least priority that recurs and reads every row that any round reads. Assumes nothing.
 use Prim.Native.Nat.{ℕ, suc, _+_, _-_, _*_, _≤_, _<_, min}
 use native.Mathlib.Omega.{arith}
 use mathlib.Core.Path.{_≡_, refl, sym, ap, ap₂, _∙_, subst}
@@ -130,7 +130,7 @@ module _ (letters : ℕ) (targets priorities : List ℕ) where
     abbrev pub LeastSought : Search → Type 0
     LeastSought t = Sought round priorities-met first (λ r. r .state) leastOf n t
 
-    -- the least, and whether there was a dangling target since the first round: the search has run as many rounds as its limit and its rounds since make, less one
+    -- the least since the kept state, and whether any round read a dangling target; t .limit + t .since counts the rounds run, and one more
     pub record SeenSought (t : Search) (b : Bool) : Type 0 where
       pub least : LeastSought t
       pub so-far : t .found ≡ false → (k : ℕ) → t .limit + t .since ≡ suc k → b ≡ danglingIn before (danglingFirst k)

@@ -92,7 +92,7 @@ fn seen_word(
     t
 }
 
-// The least priority that recurs in the rounds from here, among n states, and whether any round reads a row whose target is no state. The search runs a round at a time.
+// The least priority that recurs in the rounds from here, among n states, and whether the run ever reads a row whose target is no state.
 fn seen_recurring(
     s: Seen,
     period: &[u8],
@@ -205,7 +205,7 @@ fn coloured_word<'a>(
     t
 }
 
-// The colours that recur in the rounds from a state. The search runs a round at a time.
+// The colours that recur in the rounds from a state.
 fn coloured_recurring<'a>(
     p: Policy,
     targets: &'a [u8; 64],

@@ -3,8 +3,8 @@ ghost use mathlib.Core.Path.{_≡_};
 ghost use Prim.Native.Nat.{_<_};
 ghost use Rattle.recurrence.specs.Search.{searchFrom, searchNext};
 
-// The search for a repeat in the states in which rounds end (Brent's cycle finding): one state is kept, and every later one is compared with it. After 1, 2, 4, .. rounds it
-// gives way to the present one, so that at last a state is kept that recurs, for long enough to see it again.
+// The search for a repeat among the states in which rounds end (Brent's cycle finding): one state is kept, and every later one is compared with it. It gives way to the present
+// one after 1, 2, 4, .. rounds, so that at last a state is kept that recurs, and for long enough to be seen again. No table of the states seen is needed.
 pub struct Search {
     // the state in which the next round begins
     pub state: usize,

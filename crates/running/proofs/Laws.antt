@@ -1,4 +1,4 @@
--- Question 8 of running: its five answers, the number of states that they give, and that a state and a letter have a row. Assumes nothing.
+-- Question 8 of running: its five answers, and the number of states that they give. Assumes nothing.
 use Prim.Native.Nat.{ℕ, _/_, _%_, _≤_, _<_}
 use native.Mathlib.Omega.{arith}
 use mathlib.Core.Path.{_≡_, refl}
