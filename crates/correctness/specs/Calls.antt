@@ -1,5 +1,5 @@
 -- The calls that demand 3 speaks of. What is known of a call is what the contract in the source promises of it, and nothing else: what the prover exports of the function. Here stand the
--- calls over these exports, what the places of a call show, and what each of the five contracts says. proofs/Calls.antt has that the contracts say exactly this, and ask nothing.
+-- calls over these exports, what the places of a call show, and what each of the five contracts says.
 use Prim.Native.Nat.{ℕ}
 use mathlib.Core.Path.{_≡_}
 use mathlib.Core.List.{List, [], _∷_}
@@ -79,6 +79,7 @@ abbrev pub wulfrenda-run : Function
 wulfrenda-run = record { lifetimes = 4; parameters = wulfrenda-run-kinds.ps; result = wulfrenda-run-kinds.r; asked = wulfrenda-run-reads.Asked; learnt = wulfrenda-run-reads.Learnt }
 
 -- ---- what a call of translating shows
+-- Parameters stand in the order of the signature: `.0` is the first, `.1 .0` the second, and so on; `.now` is what stands behind a reference.
 -- the policy and the tables at entry; document 01's number (0: it succeeded), the counts (nodes, built states, start) and the tables at exit
 pub record Translating : Type 0 where
   pub policy : Policy
@@ -192,3 +193,11 @@ wulfrendaRunSays x =
     let c = wulfrendaRunShows x in
     let q = readingOf (c .letters) (c .targets) (c .priorities) (record { state = c .state }) (c .letter) in
     (c .number ≡ runNumberOf q) ∷ (c .next ≡ runAfter q .state) ∷ (c .priority ≡ priorityOf q) ∷ []
+
+-- that they say this, and no less and no more
+pub record Contracts : Type 1 where
+  pub translate-says : Contract translate translateSays
+  pub read-says : Contract read readSays
+  pub wulfrenda-translate-says : Contract wulfrenda-translate wulfrendaTranslateSays
+  pub wulfrenda-translate-bytes-says : Contract wulfrenda-translate-bytes wulfrendaTranslateBytesSays
+  pub wulfrenda-run-says : Contract wulfrenda-run wulfrendaRunSays
