@@ -7,11 +7,12 @@ use lib.Dec.{ltb}
 use lib.ListN.{length, getD, take}
 use Rattle.lists.specs.Lists.{any}
 use denote.Ref.{RefT}
-use Rattle.masks.specs.Masks.{has, insert, inside, properly, members, submasks}
+use Rattle.masks.specs.Masks.{has, insert, inside, properly, members, submasks, setOf}
 use Rattle.tables.specs.Tables.{padded, zeros}
 use Rattle.policy.specs.declared.Policy.{Policy}
-use Rattle.policy.specs.Policies.{edges, edgeOf, source, targetOf, colourOf, coloursBelow, coloursOf, inFamily, accepting, legalCounts, legalEdge, legalSet, legal}
-use Rattle.reading.specs.Reading.{counted, zeroPolicy, withEdge, withSet, operandCount, commandAt, isShape, isEnd, operandsThere, inPlace, withinLimits, firstTime, allGiven, completeAtEnd, emptyDraft, after, nextOffset, refusedAt, readUpTo, readMost, readingFrom, readingOf as bytesReadingOf, refusalOf as readRefusalOf, offsetOf, numberOf as readNumberOf}
+use Rattle.policy.specs.Policies.{edges, edgeOf, source, targetOf, colourOf, edgeColours, coloursOf, inFamily, accepting, countsFit, legalCounts, legalEdge, legalEdges, legalSet, legalFamily, legalGraph, legal}
+use Rattle.policy.specs.Making.{counted, zeroPolicy, withEdge, withSet, withTables}
+use Rattle.reading.specs.Reading.{operandCount, commandAt, isShape, isEnd, operandsThere, inPlace, withinLimits, firstTime, allGiven, completeAtEnd, emptyDraft, after, nextOffset, refusedAt, readUpTo, readMost, readingFrom, readingOf as bytesReadingOf, refusalOf as readRefusalOf, offsetOf, numberOf as readNumberOf}
 use Rattle.reading.specs.declared.Answer.{Answer}
 use Rattle.graph.specs.Cycles.{spread, closure, reach, isCycle, contains}
 use Rattle.forest.specs.Forest.{before, place, inOrder, largest, full, cyclesIn, roots, opposed, children, trees, tree, forest, priority, transientPriority, node, upFrom, chain, childOf, inRoot, nodeMasks, nodeParents, nodePriorities}
@@ -33,11 +34,11 @@ use Rattle.correctness.proofs.Demand3.{translated, wulfrenda-translated
 
 -- ---- by computation
 bytes-give : BytesGiveB
-unfolding has insert edges edgeOf inFamily legalCounts counted zeroPolicy withEdge withSet operandCount commandAt isShape isEnd operandsThere inPlace withinLimits firstTime allGiven completeAtEnd emptyDraft after nextOffset refusedAt readUpTo readMost readingFrom bytesReadingOf readRefusalOf
+unfolding has insert edges edgeOf inFamily countsFit legalCounts counted zeroPolicy withTables withEdge withSet operandCount commandAt isShape isEnd operandsThere inPlace withinLimits firstTime allGiven completeAtEnd emptyDraft after nextOffset refusedAt readUpTo readMost readingFrom bytesReadingOf readRefusalOf
 bytes-give = refl
 
 cases-hold : CasesHold cases
-unfolding has insert inside properly members submasks padded zeros edges edgeOf source targetOf colourOf coloursBelow coloursOf inFamily accepting legalCounts legalEdge legalSet legal counted zeroPolicy spread closure reach isCycle contains before place inOrder largest full cyclesIn roots opposed children trees tree forest priority transientPriority node upFrom chain childOf inRoot nodeMasks nodeParents nodePriorities places next holds kids isLeaf leaves firstLeaf statesOver builtStates deepest lead entered firstLeafBelow leafAfter priorityAfter built stateAt number start rowTarget rowPriority rowTargets rowPriorities stateSources stateLeaves node-tables.nodesFit lengthsFit nodesFit statesFit filled cleared translationOf tablesAfter
+unfolding has insert inside properly setOf members submasks padded zeros edges edgeOf source targetOf colourOf edgeColours coloursOf inFamily accepting countsFit legalCounts legalEdge legalEdges legalSet legalFamily legalGraph legal counted zeroPolicy spread closure reach isCycle contains before place inOrder largest full cyclesIn roots opposed children trees tree forest priority transientPriority node upFrom chain childOf inRoot nodeMasks nodeParents nodePriorities places next holds kids isLeaf leaves firstLeaf statesOver builtStates deepest lead entered firstLeafBelow leafAfter priorityAfter built stateAt number start rowTarget rowPriority rowTargets rowPriorities stateSources stateLeaves node-tables.nodesFit lengthsFit nodesFit statesFit filled cleared translationOf tablesAfter
 cases-hold = (refl, refl, (refl, refl, (refl, refl, (refl, refl, (refl, refl, tt)))))
 
 policy-back : policyOf (recordOf B) ≡ B

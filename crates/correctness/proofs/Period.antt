@@ -2,24 +2,21 @@
 -- path with a closed run of leaves, what recurs is what they meet, and their least priority decides as their set of colours does. Assumes nothing.
 use Prim.Native.Nat.{ℕ, zero, suc, _+_, _-_, _≤_, _<_}
 use native.Mathlib.Omega.{arith}
-use native.Mathlib.Decide.{decLt}
 use mathlib.Core.Path.{_≡_, refl, sym, ap, _∙_, subst}
 use mathlib.Core.Logic.{_↔_, _≢_}
-use mathlib.Core.Bool.{true, false≢true}
-use mathlib.Core.List.{List, [], _∷_, _++_, map, List·Memᴰ, Memᴰ·cast, Memᴰ·append-left}
-use lib.Dec.{eqb, ltb}
+use mathlib.Core.Bool.{true}
+use mathlib.Core.List.{List, [], _∷_, _++_, map, List·Memᴰ, Memᴰ·append-left}
+use lib.Dec.{ltb}
 use lib.ListN.{length}
 use Rattle.lists.specs.Lists.{any, flat, below}
-use Rattle.lists.proofs.Bools.{eqb≡, ≡eqb}
 use Rattle.lists.proofs.Lists.{any-some, some-any, below-lt, flat-mem, mem-flat}
-use Rattle.masks.specs.Masks.{has, maskOf}
-use Rattle.masks.proofs.Bits.{has-high}
-use Rattle.masks.proofs.MaskOf.{mask-of-lt, has-mask-of}
+use Rattle.masks.specs.Masks.{has, setOf}
 use Rattle.recurrence.specs.Iterates.{iter}
 use Rattle.recurrence.specs.Runs.{times, met}
 use Rattle.recurrence.proofs.Recurs.{RecursInRounds}
 use Rattle.recurrence.proofs.Pigeon.{pigeon}
 use Rattle.recurrence.proofs.Runs.{after-times, period-recurs}
+use Rattle.masks.proofs.SetOf.{set-has}
 use Rattle.policy.specs.declared.Policy.{Policy}
 use Rattle.policy.specs.Policies.{legal, edges, edgeColours, coloursOf, inFamily}
 use Rattle.policy.proofs.Laws.{legal-target, colours-some, some-colours, accepting-is}
@@ -34,18 +31,6 @@ use Rattle.running.specs.declared.Run.{Run}
 use Rattle.running.specs.Running.{policyStep, policyMeets, rowStep, rowMeets}
 use Rattle.correctness.proofs.Rows.{Rows, StandsOver, policyRun, builtRun}
 use Rattle.correctness.proofs.Joint.{In, Read, in-good, read, stands-after}
-
--- the set of the members of a list, all below n
-setOf : ℕ → List ℕ → ℕ
-setOf n es = maskOf (λ (e : ℕ). any (eqb e) es) n
-
-set-exact : (n : ℕ) (es : List ℕ) → ((e : ℕ) → List·Memᴰ e es → e < n) → (e : ℕ) → (has (setOf n es) e ≡ true) ↔ List·Memᴰ e es
-unfolding setOf
-set-exact n es low e = (go (decLt e n), λ m. has-mask-of (λ (e : ℕ). any (eqb e) es) n e (low e m) ∙ some-any (eqb e) es e m (≡eqb e e refl))
-  where
-    go : Dec (e < n) → has (maskOf (λ (e : ℕ). any (eqb e) es) n) e ≡ true → List·Memᴰ e es
-    go (yes lt) t = let r = any-some (eqb e) es (sym (has-mask-of (λ (e : ℕ). any (eqb e) es) n e lt) ∙ t) in Memᴰ·cast (eqb≡ e (r .0) (r .2)) (r .1)
-    go (no ge) t = absurd (false≢true (sym (has-high n e (maskOf (λ (e : ℕ). any (eqb e) es) n) (mask-of-lt (λ (e : ℕ). any (eqb e) es) n) (omega arith)) ∙ t))
 
 -- what the two runs meet
 abbrev pub policyMet : Policy → List ℕ → ℕ → List ℕ
@@ -66,11 +51,11 @@ module _ (p : Policy) (targets priorities : List ℕ) where
 
 module _ (p : Policy) (ok : legal p ≡ true) where
   -- the verdict on a closed run, for a list that is not empty
-  closed : (v l : ℕ) (es : List ℕ) → es ≢ [] → Path p (below (edges p)) v es v → Good (forest p) p v l → leafRun (forest p) p es l ≡ l → Least (forest p) p es l (setOf (edges p) es)
+  closed : (v l : ℕ) (es : List ℕ) → es ≢ [] → Path p (below (edges p)) v es v → Good (forest p) p v l → leafRun (forest p) p es l ≡ l → Least (forest p) p es l (setOf es)
   closed v l [] some path good back = absurd (some refl)
   closed v l (e ∷ es) some path good back =
-      closed-run p (forest p) (forest-laws p ok) (legal-target p ok) v e es l path good back (setOf (edges p) (e ∷ es))
-      (set-exact (edges p) (e ∷ es) (λ x m. below-lt (edges p) x (path-mem p (below (edges p)) v (e ∷ es) v path x m)))
+      closed-run p (forest p) (forest-laws p ok) (legal-target p ok) v e es l path good back (setOf (e ∷ es))
+      (set-has (e ∷ es))
 
   module _ (targets priorities : List ℕ) (rows : Rows p targets priorities) (loop : List ℕ) (some : any (λ (a : ℕ). ltb a (p .letters)) loop ≡ true) (r : Run) (v : ℕ) (stands : StandsOver p r v) where
     abbrev runEnd : ℕ → Run
@@ -125,7 +110,7 @@ module _ (p : Policy) (ok : legal p ≡ true) where
           way .some (some-any (λ (a : ℕ). ltb a (p .letters)) (loop ++ times k loop) (a .0) (Memᴰ·append-left (times k loop) (a .1)) (a .2))
 
       X : ℕ
-      X = setOf (edges p) (way .taken)
+      X = setOf (way .taken)
 
       taken-lt : (e : ℕ) → List·Memᴰ e (way .taken) → e < edges p
       taken-lt e m = below-lt (edges p) e (path-mem p (below (edges p)) (stateEnd i) (way .taken) (stateEnd i) path e m)
@@ -146,7 +131,7 @@ module _ (p : Policy) (ok : legal p ≡ true) where
 
       exact : (e : ℕ) → (has X e ≡ true) ↔ List·Memᴰ e (way .taken)
       unfolding X
-      exact e = set-exact (edges p) (way .taken) taken-lt e
+      exact e = set-has (way .taken) e
 
       colours-are : (c : ℕ) → (has (coloursOf p X) c ≡ true) ↔ List·Memᴰ c (flat (map (edgeColours p) (way .taken)))
       colours-are c = (

@@ -7,7 +7,8 @@ use lib.Dec.{ltb}
 use lib.ListN.{replicate}
 use Rattle.lists.specs.Lists.{any}
 use Rattle.policy.specs.declared.Policy.{Policy}
-use Rattle.reading.specs.Reading.{readingOf, zeroPolicy}
+use Rattle.policy.specs.Making.{zeroPolicy}
+use Rattle.reading.specs.Reading.{readingOf}
 use Rattle.reading.specs.declared.Outcome.the-variants.{Read}
 use Rattle.builder.specs.Tables.{Tables, tables, translationOf, tablesAfter}
 use Rattle.builder.specs.declared.Translation.{Translation}

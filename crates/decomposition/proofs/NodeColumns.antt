@@ -13,10 +13,10 @@ use lib.Seq.{take-suc, take-all, length-take-le, getD-take}
 use borrow.Author.Tests.{le-leb, lt-leb}
 use Rattle.lists.specs.Lists.{filter, below}
 use Rattle.lists.proofs.Bools.{test}
-use Rattle.lists.proofs.Lists.{length-below, flat-few}
+use Rattle.lists.proofs.Lists.{length-below, flat-few, replicate-at}
 use Rattle.tables.specs.Tables.{padded, zeros}
 use Rattle.tables.proofs.Tables.{zeros-padded, zeros-same, length-zeros, getD-padded, padded-more}
-use Rattle.tables.proofs.Stores.{sets-padded, replicate-at}
+use Rattle.tables.proofs.Stores.{sets-padded}
 use Rattle.policy.specs.declared.Policy.{Policy}
 use Rattle.policy.specs.Policies.{accepting, legal}
 use Rattle.decomposition.specs.declared.nodes.Filled.the-variants.{Nodes, TooMany}

@@ -17,13 +17,13 @@ use Rattle.lists.proofs.Bools.{test, or-cases, or-left, or-right, and-l, and-r,
 use Rattle.masks.specs.Masks.{has, insert, maskOf, members}
 use Rattle.masks.proofs.MaskOf.{mask-of-none, mask-of-in, mask-of-out, has-mask-of, mask-of-some}
 use Rattle.masks.proofs.Bits.{has-none, has-or, mask-ext}
-use Rattle.masks.proofs.Members.{insert-cases, insert-keeps, insert-adds}
+use Rattle.masks.proofs.Members.{insert-cases, insert-keeps, insert-adds, members-has, members-lt}
 use Rattle.policy.specs.declared.Policy.{Policy}
 use Rattle.policy.specs.Policies.{edges, edgeOf, source, targetOf, legal}
 use Rattle.policy.proofs.Laws.{legal-counts, edges-le, legal-target, source-edge, edge-lt, source-lt}
 use Rattle.graph.specs.Cycles.{Path, reach}
 use Rattle.graph.specs.Through.{cycleThrough, Rows, withEdge, edgeRow, edgeRows, States, joinRow, joinRows, joinedRows, mutualTo, inner, innerTo}
-use Rattle.graph.proofs.Paths.{members-has, members-lt, reach-sound, reach-complete}
+use Rattle.graph.proofs.Paths.{reach-sound, reach-complete}
 use Rattle.graph.proofs.Through.{Leads, leads-join, leads-edge, through-some, some-through}
 
 -- ---- a row joined at k

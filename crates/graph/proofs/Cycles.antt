@@ -13,11 +13,11 @@ use Rattle.lists.proofs.Bools.{test, and-l, and-r, both, or-cases, or-left, or-
 use Rattle.lists.proofs.Lists.{any-some, some-any, all-each, each-all, mem-below, below-lt}
 use Rattle.masks.specs.Masks.{has, inside, members}
 use Rattle.masks.proofs.Bits.{has-none, has-or, mask-ext, inside-all, lt-of-bits}
-use Rattle.masks.proofs.Members.{some-nonzero, bit-lt}
+use Rattle.masks.proofs.Members.{some-nonzero, bit-lt, members-has, members-lt, has-members}
 use Rattle.policy.specs.declared.Policy.{Policy}
 use Rattle.policy.specs.Policies.{edges, source, targetOf}
 use Rattle.graph.specs.Cycles.{Path, Cycle, reach, isCycle, contains}
-use Rattle.graph.proofs.Paths.{members-has, members-lt, has-members, path-join, path-mem, path-inner, path-weaken, path-after, path-before, reach-sound, reach-complete}
+use Rattle.graph.proofs.Paths.{path-join, path-mem, path-inner, path-weaken, path-after, path-before, reach-sound, reach-complete}
 
 -- each edge leads to a state
 abbrev pub Targets : Policy → Type 0

@@ -7,10 +7,8 @@ use mathlib.Core.Bool.{Bool, true, false, cond}
 use mathlib.Core.List.{List, [], _∷_, _++_, List·Memᴰ, List·Memᴰ·head, List·Memᴰ·tail, Memᴰ·cast}
 use lib.Pow.{pow-lt}
 use lib.Count.{ones, ones-le}
-use Rattle.lists.specs.Lists.{below}
 use Rattle.lists.proofs.Bools.{test, eqb≡, ≡eqb}
-use Rattle.lists.proofs.Lists.{filter-mem, mem-filter, mem-below, below-lt}
-use Rattle.masks.specs.Masks.{has, insert, members}
+use Rattle.masks.specs.Masks.{has, insert}
 use Rattle.masks.proofs.Bits.{has-pow, insert-lt, ones-inside}
 use Rattle.masks.proofs.Members.{one-member, insert-cases, insert-keeps, insert-adds}
 use Rattle.policy.specs.declared.Policy.{Policy}
@@ -18,19 +16,6 @@ use Rattle.policy.specs.Policies.{source, targetOf}
 use Rattle.graph.specs.Cycles.{Path, spread, closure, reach}
 
 -- ---- masks
--- the members of m below n are its bits below n
-pub members-has : (n m e : ℕ) → List·Memᴰ e (members n m) → has m e ≡ true
-unfolding members
-members-has n m e k = filter-mem (has m) (below n) e k .1
-
-pub members-lt : (n m e : ℕ) → List·Memᴰ e (members n m) → e < n
-unfolding members
-members-lt n m e k = below-lt n e (filter-mem (has m) (below n) e k .0)
-
-pub has-members : (n m e : ℕ) → e < n → has m e ≡ true → List·Memᴰ e (members n m)
-unfolding members
-has-members n m e l t = mem-filter (has m) (below n) e (mem-below n e l) t
-
 module _ (p : Policy) where
   -- ---- paths
   pub path-join : (es : List ℕ) (u : ℕ) (w : List ℕ) (v : ℕ) (w′ : List ℕ) (z : ℕ) → Path p es u w v → Path p es v w′ z → Path p es u (w ++ w′) z

@@ -9,12 +9,12 @@ use Rattle.lists.proofs.Bools.{and-l, and-r, both}
 use Rattle.masks.specs.Masks.{has, inside, members}
 use Rattle.masks.proofs.Bits.{inside-all, all-inside, inside-antisym}
 use Rattle.masks.proofs.MaskOf.{has-mask-of, mask-of-lt, mask-of-some}
-use Rattle.masks.proofs.Members.{some-nonzero, none-or-some}
+use Rattle.masks.proofs.Members.{some-nonzero, none-or-some, members-has, members-lt, has-members}
 use Rattle.policy.specs.declared.Policy.{Policy}
 use Rattle.policy.specs.Policies.{edges, source, targetOf}
 use Rattle.graph.specs.Cycles.{Path, reach, isCycle, contains}
 use Rattle.graph.specs.Through.{cycleThrough}
-use Rattle.graph.proofs.Paths.{members-has, members-lt, has-members, path-join, path-weaken, reach-sound, reach-complete}
+use Rattle.graph.proofs.Paths.{path-join, path-weaken, reach-sound, reach-complete}
 use Rattle.graph.proofs.Cycles.{Targets, cycle-edge, cycle-path, path-cycle, contains-some, some-contains, contains-inside}
 
 module _ (p : Policy) where

@@ -11,16 +11,16 @@ use Rattle.recurrence.specs.Runs.{after, met, window}
 use Rattle.recurrence.specs.Search.{searchFrom, searchNext}
 use Rattle.recurrence.proofs.Runs.{after-keeps, through-run, through-value}
 use Rattle.recurrence.proofs.Seeking.{searchLeft, Numbered, Collects, Sought, seeking-few, seeking-within, sought-start, round-more, round-less}
-use Rattle.masks.specs.Masks.{insert}
+use Rattle.masks.specs.Masks.{insert, setOf}
+use Rattle.masks.proofs.SetOf.{set-same, set-append}
 use Rattle.policy.specs.declared.Policy.{Policy}
 use Rattle.policy.specs.Policies.{legal, edgeOf, targetOf, colourOf, edgeColours}
 use Rattle.policy.proofs.Laws.{legal-counts, legal-target, legal-colour, edges-le, edge-lt}
 use Rattle.running.specs.Running.{policyStep, policyMeets}
 use Rattle.running.proofs.Steps.{policy-moves, policy-within}
 use Rattle.judging.specs.declared.Coloured.{Coloured}
-use Rattle.judging.specs.Judging.{setOf, recurringColours}
+use Rattle.judging.specs.Judging.{recurringColours}
 use Rattle.judging.specs.Rounds.{colouredStep, colouredAfter}
-use Rattle.judging.proofs.Laws.{set-append, set-same}
 
 abbrev coloured : ℕ → ℕ → Coloured
 coloured v c = record { state = v; colours = c }

@@ -17,6 +17,7 @@ use Rattle.recurrence.proofs.Recurs.{RecursInRun}
 use Rattle.recurrence.proofs.Periods.{rounds-mem, mem-rounds}
 use Rattle.recurrence.proofs.Runs.{met-append, after-keeps, after-any, met-times, recurring-window, numbered-recurring}
 use Rattle.recurrence.proofs.Repeats.{iter-any, iter-keeps, met-first}
+use Rattle.masks.proofs.SetOf.{set-has}
 use Rattle.policy.specs.declared.Policy.{Policy}
 use Rattle.policy.specs.Policies.{legal}
 use Rattle.running.specs.declared.Run.{Run}
@@ -25,7 +26,7 @@ use Rattle.running.specs.Running.{policyStep, policyMeets, rowOf, rowStates, sh
 use Rattle.running.proofs.Steps.{policy-within, refusal-13, refusal-none, refusal-outside, reading-moved, reading-refused, row-moves, row-within}
 use Rattle.judging.specs.Judging.{nonEmpty, inRange, leastOf, recurringColours, noState, danglingMeets, everDangling, leastRecurring}
 use Rattle.judging.specs.ReadsDangling.{ReadsDangling}
-use Rattle.judging.proofs.Laws.{set-has, least-le, least-mem, member-some, nonEmpty-append}
+use Rattle.judging.proofs.Laws.{least-le, least-mem, member-some, nonEmpty-append}
 
 -- ---- the recurring colours
 pub recurring-colours : (p : Policy) → legal p ≡ true → (v : ℕ) → v < p .states → (stem loop : List ℕ) (c : ℕ)

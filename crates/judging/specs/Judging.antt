@@ -7,7 +7,7 @@ use mathlib.Core.List.{List, [], _∷_}
 use lib.Dec.{eqb, ltb}
 use Rattle.lists.specs.Lists.{all}
 use Rattle.lists.specs.Questions.{ask}
-use Rattle.masks.specs.Masks.{insert}
+use Rattle.masks.specs.Masks.{setOf}
 use Rattle.recurrence.specs.Iterates.{rounds}
 use Rattle.recurrence.specs.Runs.{after, met, window}
 use Rattle.policy.specs.declared.Policy.{Policy}
@@ -29,11 +29,6 @@ nonEmpty (x ∷ xs) = true
 -- every letter is below the number of letters
 unfoldable pub inRange : ℕ → List ℕ → Bool
 inRange letters w = all (λ a. ltb a letters) w
-
--- the set of some colours
-unfoldable pub setOf : List ℕ → ℕ
-setOf [] = 0
-setOf (c ∷ cs) = insert (setOf cs) c
 
 -- the least of some priorities; 255 of none
 unfoldable pub leastOf : List ℕ → ℕ

@@ -6,6 +6,7 @@ use mathlib.Core.List.{List}
 use lib.Bits.{bitOr}
 use lib.Dec.{eqb}
 use Rattle.recurrence.specs.Runs.{through}
+use Rattle.masks.specs.Masks.{setOf}
 use Rattle.policy.specs.declared.Policy.{Policy}
 use Rattle.policy.specs.Policies.{legal}
 use Rattle.running.specs.declared.Run.{Run}
@@ -14,7 +15,6 @@ use Rattle.running.specs.declared.Reading.the-variants.{Moved, Refused}
 use Rattle.running.specs.Running.{policyStep, policyMeets, rowStates, shaped, readingOf}
 use Rattle.judging.specs.declared.Seen.{Seen}
 use Rattle.judging.specs.declared.Coloured.{Coloured}
-use Rattle.judging.specs.Judging.{setOf}
 
 -- ---- rows
 module _ (letters : ℕ) (targets priorities : List ℕ) where

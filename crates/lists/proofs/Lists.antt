@@ -10,7 +10,7 @@ use mathlib.Core.Logic.{_⊎_, inl, inr, _≢_}
 use mathlib.Core.Bool.{Bool, true, false, cond, true≢false, false≢true}
 use mathlib.Core.List.{List, [], _∷_, _++_, map, map-append, append-nil, append-assoc, List·Memᴰ, List·Memᴰ·head, List·Memᴰ·tail, List·Memᴰ·cases-cons, Memᴰ·append-left, Memᴰ·append-right, List·Memᴰ·append-cases, List·Memᴰ·not-nil, List·Memᴰ·eq-of-singleton}
 use lib.Arith.{digits-lt}
-use lib.ListN.{length, getD, drop, length-append, length-map, List·getD-append}
+use lib.ListN.{length, getD, drop, replicate, length-append, length-map, List·getD-append}
 use lib.Seq.{drop-cons, getD-at, getD-append-add}
 use Rattle.lists.specs.Lists.{any, all, filter, firstOr, flat, position, below, Ascending}
 use Rattle.lists.proofs.Bools.{test, and-l, and-r, or-right}
@@ -136,6 +136,12 @@ module _ {A B : Type 0} where
   pub mem-map : (f : B → A) (l : List B) (x : B) → List·Memᴰ x l → List·Memᴰ (f x) (map f l)
   mem-map f (a ∷ l) x (List·Memᴰ·head e) = List·Memᴰ·head (ap f e)
   mem-map f (a ∷ l) x (List·Memᴰ·tail m) = List·Memᴰ·tail (mem-map f l x m)
+
+-- ---- the same in every place, and past the last one too
+pub replicate-at : {A : Type 0} (n i : ℕ) (d : A) → getD (replicate n d) i d ≡ d
+replicate-at zero i d = refl
+replicate-at (suc n) zero d = refl
+replicate-at (suc n) (suc i) d = replicate-at n i d
 
 -- ---- no member, and the first one
 module _ {A : Type 0} where

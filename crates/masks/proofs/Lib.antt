@@ -1,4 +1,5 @@
 pub mod Bits
 pub mod Members
 pub mod MaskOf
+pub mod SetOf
 pub mod Submasks

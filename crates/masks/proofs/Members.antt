@@ -5,13 +5,14 @@ use native.Mathlib.Decide.{decLt}
 use mathlib.Core.Path.{_≡_, refl, sym, ap, _∙_}
 use mathlib.Core.Logic.{_⊎_, inl, inr, _≢_}
 use mathlib.Core.Bool.{true, false, true≢false, false≢true}
+use mathlib.Core.List.{List·Memᴰ}
 use lib.Count.{ones}
 use lib.Dec.{eqb}
 use lib.Pow.{pow-pos}
 use Rattle.lists.specs.Lists.{any, below}
 use Rattle.lists.proofs.Bools.{test, eqb≡, ≡eqb, or-cases, or-left, or-right, bool-ext}
-use Rattle.lists.proofs.Lists.{any-some, none-any, mem-below, below-lt}
-use Rattle.masks.specs.Masks.{has, insert}
+use Rattle.lists.proofs.Lists.{any-some, none-any, filter-mem, mem-filter, mem-below, below-lt}
+use Rattle.masks.specs.Masks.{has, insert, members}
 use Rattle.masks.proofs.Bits.{has-none, has-insert, has-high, mask-ext, mask-ext-to, ones-inside}
 
 -- ---- one more
@@ -39,6 +40,19 @@ bit-lt n m e l t = go (decLt e n)
 
 pub full-lt : (n e : ℕ) → has (2 ^ n - 1) e ≡ true → e < n
 full-lt n e t = bit-lt n (2 ^ n - 1) e (omega (arith, pow-pos n)) t
+
+-- the list of the members below n
+pub members-has : (n m e : ℕ) → List·Memᴰ e (members n m) → has m e ≡ true
+unfolding members
+members-has n m e k = filter-mem (has m) (below n) e k .1
+
+pub members-lt : (n m e : ℕ) → List·Memᴰ e (members n m) → e < n
+unfolding members
+members-lt n m e k = below-lt n e (filter-mem (has m) (below n) e k .0)
+
+pub has-members : (n m e : ℕ) → e < n → has m e ≡ true → List·Memᴰ e (members n m)
+unfolding members
+has-members n m e l t = mem-filter (has m) (below n) e (mem-below n e l) t
 
 -- ---- some or none
 -- a set with a member is not empty

@@ -31,6 +31,11 @@ unfoldable pub maskOf : (ℕ → Bool) → ℕ → ℕ
 maskOf t zero = 0
 maskOf t (suc n) = let r = maskOf t n in cond (t n) (r + 2 ^ n) r
 
+-- the set of the members of a list
+unfoldable pub setOf : List ℕ → ℕ
+setOf [] = 0
+setOf (e ∷ es) = insert (setOf es) e
+
 -- the members of m below n, ascending
 unfoldable pub members : ℕ → ℕ → List ℕ
 members n m = filter (has m) (below n)

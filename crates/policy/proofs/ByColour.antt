@@ -6,7 +6,7 @@ use native.Mathlib.Numerals.{add-one}
 use mathlib.Core.Path.{_≡_, refl, sym, ap, ap₂, _∙_, subst}
 use mathlib.Core.Logic.{_⊎_, inl, inr, _≢_}
 use mathlib.Core.Bool.{Bool, true, false, not, _&&_, cond, true≢false, false≢true, and-true}
-use mathlib.Core.List.{List, List·Memᴰ·head, List·Memᴰ·eq-of-singleton}
+use mathlib.Core.List.{List}
 use lib.Bits.{bitAnd, bitOr}
 use lib.Dec.{eqb}
 use lib.ListN.{length, getD, set, replicate, length-set}
@@ -21,7 +21,7 @@ use Rattle.masks.proofs.Members.{none-zero}
 use Rattle.policy.specs.declared.Policy.{Policy}
 use Rattle.policy.specs.Policies.{edges, colourOf, edgeColours, coloursOf, inFamily, accepting, legal}
 use Rattle.policy.specs.ByColour.{hasColour, edgesIn, byColourTo, byColour, tableEdgesTo, tableEdges, tableColoursTo, tableColours}
-use Rattle.policy.proofs.Laws.{legal-counts, legal-colour, colours-some, some-colours}
+use Rattle.policy.proofs.Laws.{legal-counts, legal-colour, edge-colour-is, is-edge-colour, colours-some, some-colours}
 
 -- ---- one turn of the loops over a table
 pub edges-none : (t : List ℕ) (c : ℕ) → tableEdgesTo t 0 c ≡ 0
@@ -210,7 +210,7 @@ module _ (p : Policy) where
 
     -- and the colours of an edge set
     pub table-colours-are : (m : ℕ) → tableColours (byColour p) m ≡ coloursOf p m
-    unfolding tableColours edgeColours
+    unfolding tableColours
     table-colours-are m = mask-ext (tableColours (byColour p) m) (coloursOf p m) (λ c. bool-ext (has (tableColours (byColour p) m) c) (has (coloursOf p m) c) (there c) (back c))
       where
         there : (c : ℕ) → has (tableColours (byColour p) m) c ≡ true → has (coloursOf p m) c ≡ true
@@ -225,7 +225,7 @@ module _ (p : Policy) where
                 (λ e t.
                 let u : has m e && has (getD (byColour p) c 0) e ≡ true = sym (has-and e m (getD (byColour p) c 0)) ∙ t in
                 let s = table-some c e (r .0) (and-r (has m e) (has (getD (byColour p) c 0) e) u) in
-                true≢false (sym (some-colours p m e c (s .0) (and-l (has m e) (has (getD (byColour p) c 0) e) u) (List·Memᴰ·head (sym (s .1)))) ∙ f))
+                true≢false (sym (some-colours p m e c (s .0) (and-l (has m e) (has (getD (byColour p) c 0) e) u) (is-edge-colour p e c (sym (s .1)))) ∙ f))
 
             go : (has (coloursOf p m) c ≡ true) ⊎ (has (coloursOf p m) c ≡ false) → has (coloursOf p m) c ≡ true
             go (inl t) = t
@@ -234,7 +234,7 @@ module _ (p : Policy) where
         back : (c : ℕ) → has (coloursOf p m) c ≡ true → has (tableColours (byColour p) m) c ≡ true
         back c h =
             let r = colours-some p m c h in
-            let is : c ≡ colourOf p (r .0) = List·Memᴰ·eq-of-singleton (r .3) in
+            let is : c ≡ colourOf p (r .0) = edge-colour-is p (r .0) c (r .3) in
             let few : c < 8 = subst (λ (x : ℕ). x < 8) (sym is) (colour-few (r .0) (r .1)) in
             some-colours-to (byColour p) 8 m c few
             (λ z.

@@ -1,22 +1,23 @@
 -- What the layers above know of a policy: the ranges of a legal one, the edge of a state and a letter, the colours and the verdict of an edge set.
 -- Assumes nothing.
-use Prim.Native.Nat.{ℕ, zero, suc, _+_, _-_, _*_, _/_, _%_, _^_, _≤_, _<_}
+use Prim.Native.Nat.{ℕ, _*_, _^_, _≤_, _<_}
 use native.Mathlib.Omega.{arith}
-use native.Mathlib.Decide.{ℕ-discrete, decLt}
 use native.Mathlib.Nat.{mul-le-mul-right, suc-mul, div-lt-iff-lt-mul}
 use mathlib.Core.Path.{_≡_, refl, sym, ap, _∙_, subst}
-use mathlib.Core.Logic.{_⊎_, inl, inr, _≢_}
-use mathlib.Core.Bool.{Bool, true, false, not, _&&_, _||_, cond, true≢false, false≢true}
-use mathlib.Core.List.{List, [], _∷_, List·Memᴰ, List·Memᴰ·head, List·Memᴰ·eq-of-singleton}
-use lib.Dec.{eqb, ltb, leb}
+use mathlib.Core.Logic.{_⊎_, inl, inr}
+use mathlib.Core.Bool.{true, false, _&&_}
+use mathlib.Core.List.{List·Memᴰ, List·Memᴰ·head, List·Memᴰ·eq-of-singleton, map}
+use lib.Dec.{ltb, leb}
 use lib.Arith.{digits-div}
-use Rattle.lists.specs.Lists.{all, below}
-use Rattle.lists.proofs.Bools.{test, and-l, and-r, or-cases, or-left, or-right, eqb≡, ≡eqb, lt-true, le-true}
-use Rattle.lists.proofs.Lists.{all-each, mem-below}
-use Rattle.masks.specs.Masks.{has, insert, inside}
-use Rattle.masks.proofs.Bits.{has-or, has-pow, has-none, lt-of-bits, inside-all, all-inside}
+use Rattle.lists.specs.Lists.{flat, below}
+use Rattle.lists.proofs.Bools.{test, and-l, and-r, both, lt-true, lt-false, le-true}
+use Rattle.lists.proofs.Lists.{all-each, mem-below, flat-mem, mem-flat}
+use Rattle.masks.specs.Masks.{has, inside, members}
+use Rattle.masks.proofs.Bits.{lt-of-bits, inside-all, all-inside}
+use Rattle.masks.proofs.Members.{members-has, members-lt, has-members}
+use Rattle.masks.proofs.SetOf.{set-has}
 use Rattle.policy.specs.declared.Policy.{Policy}
-use Rattle.policy.specs.Policies.{edges, edgeOf, source, targetOf, colourOf, edgeColours, coloursBelow, coloursOf, inFamily, accepting, legalCounts, legalEdge, legalSet, legal}
+use Rattle.policy.specs.Policies.{edges, edgeOf, source, targetOf, colourOf, edgeColours, coloursOf, inFamily, accepting, countsFit, legalCounts, legalEdge, legalEdges, legalFamily, legalGraph, legal}
 
 -- the counts of a legal policy
 pub record Counts (p : Policy) : Type 0 where
@@ -31,68 +32,82 @@ pub record Counts (p : Policy) : Type 0 where
 
 module _ (p : Policy) where
   pub counts : legalCounts p ≡ true → Counts p
-  unfolding legalCounts
-  counts h = record {
-    states-some = le-true 1 (p .states) g1;
-    states-few = le-true (p .states) 16 (and-r (leb 1 (p .states)) (leb (p .states) 16) g2);
-    letters-some = le-true 1 (p .letters) (and-r (leb 1 (p .states) && leb (p .states) 16) (leb 1 (p .letters)) g3);
-    letters-few = le-true (p .letters) 8 (and-r (leb 1 (p .states) && leb (p .states) 16 && leb 1 (p .letters)) (leb (p .letters) 8) g4);
-    colours-some = le-true 1 (p .colours) (and-r (leb 1 (p .states) && leb (p .states) 16 && leb 1 (p .letters) && leb (p .letters) 8) (leb 1 (p .colours)) g5);
-    colours-few = le-true (p .colours) 8 (and-r (leb 1 (p .states) && leb (p .states) 16 && leb 1 (p .letters) && leb (p .letters) 8 && leb 1 (p .colours)) (leb (p .colours) 8) g6);
-    edges-few = le-true (p .states * p .letters) 64 (and-r (leb 1 (p .states) && leb (p .states) 16 && leb 1 (p .letters) && leb (p .letters) 8 && leb 1 (p .colours) && leb (p .colours) 8) (leb (p .states * p .letters) 64) g7);
-    initial-lt = lt-true (p .initial) (p .states) (and-r (leb 1 (p .states) && leb (p .states) 16 && leb 1 (p .letters) && leb (p .letters) 8 && leb 1 (p .colours) && leb (p .colours) 8 && leb (p .states * p .letters) 64) (ltb (p .initial) (p .states)) h);
-  }
-    where
-      g7 : leb 1 (p .states) && leb (p .states) 16 && leb 1 (p .letters) && leb (p .letters) 8 && leb 1 (p .colours) && leb (p .colours) 8 && leb (p .states * p .letters) 64 ≡ true
-      g7 = and-l (leb 1 (p .states) && leb (p .states) 16 && leb 1 (p .letters) && leb (p .letters) 8 && leb 1 (p .colours) && leb (p .colours) 8 && leb (p .states * p .letters) 64) (ltb (p .initial) (p .states)) h
+  unfolding legalCounts countsFit
+  counts h =
+      let s = p .states in
+      let l = p .letters in
+      let k = p .colours in
+      let t1 = leb 1 s in
+      let t2 = t1 && leb s 16 in
+      let t3 = t2 && leb 1 l in
+      let t4 = t3 && leb l 8 in
+      let t5 = t4 && leb 1 k in
+      let t6 = t5 && leb k 8 in
+      let t7 = t6 && leb (s * l) 64 in
+      let h7 = and-l t7 (ltb (p .initial) s) h in
+      let h6 = and-l t6 (leb (s * l) 64) h7 in
+      let h5 = and-l t5 (leb k 8) h6 in
+      let h4 = and-l t4 (leb 1 k) h5 in
+      let h3 = and-l t3 (leb l 8) h4 in
+      let h2 = and-l t2 (leb 1 l) h3 in
+      record {
+        states-some = le-true 1 s (and-l t1 (leb s 16) h2);
+        states-few = le-true s 16 (and-r t1 (leb s 16) h2);
+        letters-some = le-true 1 l (and-r t2 (leb 1 l) h3);
+        letters-few = le-true l 8 (and-r t3 (leb l 8) h4);
+        colours-some = le-true 1 k (and-r t4 (leb 1 k) h5);
+        colours-few = le-true k 8 (and-r t5 (leb k 8) h6);
+        edges-few = le-true (s * l) 64 (and-r t6 (leb (s * l) 64) h7);
+        initial-lt = lt-true (p .initial) s (and-r t7 (ltb (p .initial) s) h);
+      }
 
-      g6 : leb 1 (p .states) && leb (p .states) 16 && leb 1 (p .letters) && leb (p .letters) 8 && leb 1 (p .colours) && leb (p .colours) 8 ≡ true
-      g6 = and-l (leb 1 (p .states) && leb (p .states) 16 && leb 1 (p .letters) && leb (p .letters) 8 && leb 1 (p .colours) && leb (p .colours) 8) (leb (p .states * p .letters) 64) g7
+  -- ---- the parts of a legal policy
+  pub legal-graph : legal p ≡ true → legalGraph p ≡ true
+  unfolding legal
+  legal-graph h = and-l (legalGraph p) (legalFamily p) h
 
-      g5 : leb 1 (p .states) && leb (p .states) 16 && leb 1 (p .letters) && leb (p .letters) 8 && leb 1 (p .colours) ≡ true
-      g5 = and-l (leb 1 (p .states) && leb (p .states) 16 && leb 1 (p .letters) && leb (p .letters) 8 && leb 1 (p .colours)) (leb (p .colours) 8) g6
+  pub graph-parts : legalGraph p ≡ true → (legalCounts p ≡ true) × (legalEdges p ≡ true)
+  unfolding legalGraph
+  graph-parts h = (and-l (legalCounts p) (legalEdges p) h, and-r (legalCounts p) (legalEdges p) h)
 
-      g4 : leb 1 (p .states) && leb (p .states) 16 && leb 1 (p .letters) && leb (p .letters) 8 ≡ true
-      g4 = and-l (leb 1 (p .states) && leb (p .states) 16 && leb 1 (p .letters) && leb (p .letters) 8) (leb 1 (p .colours)) g5
+  pub legal-parts : legal p ≡ true → (legalCounts p ≡ true) × (legalEdges p ≡ true) × (legalFamily p ≡ true)
+  unfolding legal
+  legal-parts h = let g = graph-parts (legal-graph h) in (g .0, g .1, and-r (legalGraph p) (legalFamily p) h)
 
-      g3 : leb 1 (p .states) && leb (p .states) 16 && leb 1 (p .letters) ≡ true
-      g3 = and-l (leb 1 (p .states) && leb (p .states) 16 && leb 1 (p .letters)) (leb (p .letters) 8) g4
+  pub parts-legal : legalCounts p ≡ true → legalEdges p ≡ true → legalFamily p ≡ true → legal p ≡ true
+  unfolding legal legalGraph
+  parts-legal c e f = both (legalCounts p && legalEdges p) (legalFamily p) (both (legalCounts p) (legalEdges p) c e) f
 
-      g2 : leb 1 (p .states) && leb (p .states) 16 ≡ true
-      g2 = and-l (leb 1 (p .states) && leb (p .states) 16) (leb 1 (p .letters)) g3
-
-      g1 : leb 1 (p .states) ≡ true
-      g1 = and-l (leb 1 (p .states)) (leb (p .states) 16) g2
+  pub graph-counts : legalGraph p ≡ true → Counts p
+  graph-counts h = counts (graph-parts h .0)
 
   pub legal-counts : legal p ≡ true → Counts p
-  unfolding legal
-  legal-counts h = counts (and-l (legalCounts p) (all (legalEdge p) (below 64)) (and-l (legalCounts p && all (legalEdge p) (below 64)) (all (legalSet p) (below 256)) h))
-
-  legal-edge : legal p ≡ true → (e : ℕ) → e < 64 → legalEdge p e ≡ true
-  unfolding legal
-  legal-edge h e l = all-each (legalEdge p) (below 64) (and-r (legalCounts p) (all (legalEdge p) (below 64)) (and-l (legalCounts p && all (legalEdge p) (below 64)) (all (legalSet p) (below 256)) h)) e (mem-below 64 e l)
-
-  legal-set : legal p ≡ true → (s : ℕ) → s < 256 → legalSet p s ≡ true
-  unfolding legal
-  legal-set h s l = all-each (legalSet p) (below 256) (and-r (legalCounts p && all (legalEdge p) (below 64)) (all (legalSet p) (below 256)) h) s (mem-below 256 s l)
+  legal-counts h = graph-counts (legal-graph h)
 
   pub edges-le : legal p ≡ true → edges p ≤ 64
   unfolding edges
   edges-le h = legal-counts h .edges-few
 
-  within-edge : legal p ≡ true → (e : ℕ) → e < edges p → ltb (targetOf p e) (p .states) && ltb (colourOf p e) (p .colours) ≡ true
-  unfolding legalEdge
-  within-edge h e l = go (test (ltb e (edges p))) (legal-edge h e (omega (arith, edges-le h)))
+  -- ---- the targets and the colours
+  within-edge : legalGraph p ≡ true → (e : ℕ) → e < edges p → ltb (targetOf p e) (p .states) && ltb (colourOf p e) (p .colours) ≡ true
+  unfolding edges legalEdges legalEdge
+  within-edge h e l = go (test (ltb e (edges p))) (all-each (legalEdge p) (below 64) (graph-parts h .1) e (mem-below 64 e (omega (arith, graph-counts h .edges-few))))
     where
       go : (ltb e (edges p) ≡ true) ⊎ (ltb e (edges p) ≡ false) → legalEdge p e ≡ true → ltb (targetOf p e) (p .states) && ltb (colourOf p e) (p .colours) ≡ true
       go (inl t) q = rw t at q
-      go (inr f) q = absurd (omega (arith, Rattle.lists.proofs.Bools.lt-false e (edges p) f))
+      go (inr f) q = absurd (omega (arith, lt-false e (edges p) f))
+
+  pub graph-target : legalGraph p ≡ true → (e : ℕ) → e < edges p → targetOf p e < p .states
+  graph-target h e l = lt-true (targetOf p e) (p .states) (and-l (ltb (targetOf p e) (p .states)) _ (within-edge h e l))
+
+  pub graph-colour : legalGraph p ≡ true → (e : ℕ) → e < edges p → colourOf p e < p .colours
+  graph-colour h e l = lt-true (colourOf p e) (p .colours) (and-r (ltb (targetOf p e) (p .states)) _ (within-edge h e l))
 
   pub legal-target : legal p ≡ true → (e : ℕ) → e < edges p → targetOf p e < p .states
-  legal-target h e l = lt-true (targetOf p e) (p .states) (and-l (ltb (targetOf p e) (p .states)) _ (within-edge h e l))
+  legal-target h = graph-target (legal-graph h)
 
   pub legal-colour : legal p ≡ true → (e : ℕ) → e < edges p → colourOf p e < p .colours
-  legal-colour h e l = lt-true (colourOf p e) (p .colours) (and-r (ltb (targetOf p e) (p .states)) _ (within-edge h e l))
+  legal-colour h = graph-colour (legal-graph h)
 
   -- ---- the edge of a state and a letter
   pub source-edge : legal p ≡ true → (v a : ℕ) → a < p .letters → source p (edgeOf p v a) ≡ v
@@ -107,53 +122,32 @@ module _ (p : Policy) where
   unfolding source edges
   source-lt h e l = div-lt-iff-lt-mul (legal-counts h .letters-some) .1 l
 
-  -- ---- the colours of an edge set
-  pub edge-colours-lt : legal p ≡ true → (e c : ℕ) → e < edges p → List·Memᴰ c (edgeColours p e) → c < p .colours
+  -- ---- the colours of an edge
+  pub edge-colour-is : (e c : ℕ) → List·Memᴰ c (edgeColours p e) → c ≡ colourOf p e
   unfolding edgeColours
-  edge-colours-lt h e c l m = subst (λ (x : ℕ). x < p .colours) (sym (List·Memᴰ·eq-of-singleton m)) (legal-colour h e l)
+  edge-colour-is e c m = List·Memᴰ·eq-of-singleton m
 
-  below-some : (n m c : ℕ) → has (coloursBelow p n m) c ≡ true → (e : ℕ) × (e < n) × (has m e ≡ true) × List·Memᴰ c (edgeColours p e)
-  unfolding coloursBelow edgeColours insert
-  below-some zero m c t = absurd (false≢true (sym (has-none c) ∙ t))
-  below-some (suc n) m c t = go (test (has m n)) (below-some n m c)
-    where
-      Some : ℕ → Type 0
-      Some k = (e : ℕ) × (e < k) × (has m e ≡ true) × List·Memᴰ c (edgeColours p e)
+  pub is-edge-colour : (e c : ℕ) → c ≡ colourOf p e → List·Memᴰ c (edgeColours p e)
+  unfolding edgeColours
+  is-edge-colour e c q = List·Memᴰ·head q
 
-      up : Some n → Some (suc n)
-      up r = (r .0, omega (arith, r .1), r .2, r .3)
+  -- every edge has a colour, so that a non-empty edge set has one
+  pub edge-coloured : (e : ℕ) → (c : ℕ) × List·Memᴰ c (edgeColours p e)
+  edge-coloured e = (colourOf p e, is-edge-colour e (colourOf p e) refl)
 
-      new : has m n ≡ true → (has (coloursBelow p n m) c ≡ true → Some n) → (has (coloursBelow p n m) c ≡ true) ⊎ (has (2 ^ colourOf p n) c ≡ true) → Some (suc n)
-      new h ih (inl k) = up (ih k)
-      new h ih (inr k) = (n, omega arith, h, List·Memᴰ·head (sym (eqb≡ (colourOf p n) c (sym (has-pow (colourOf p n) c) ∙ k))))
+  pub edge-colours-lt : legal p ≡ true → (e c : ℕ) → e < edges p → List·Memᴰ c (edgeColours p e) → c < p .colours
+  edge-colours-lt h e c l m = subst (λ (x : ℕ). x < p .colours) (sym (edge-colour-is e c m)) (legal-colour h e l)
 
-      go : (has m n ≡ true) ⊎ (has m n ≡ false) → (has (coloursBelow p n m) c ≡ true → Some n) → Some (suc n)
-      go (inl h) ih = new h ih (or-cases (has (coloursBelow p n m) c) (has (2 ^ colourOf p n) c) (sym (has-or c (coloursBelow p n m) (2 ^ colourOf p n)) ∙ (rw h at t)))
-      go (inr h) ih = up (ih (rw h at t))
-
-  some-below : (n m e c : ℕ) → e < n → has m e ≡ true → List·Memᴰ c (edgeColours p e) → has (coloursBelow p n m) c ≡ true
-  unfolding coloursBelow edgeColours insert
-  some-below zero m e c l t k = absurd (omega arith)
-  some-below (suc n) m e c l t k = go (ℕ-discrete e n) (test (has m n)) (some-below n m e c)
-    where
-      is : c ≡ colourOf p e
-      is = List·Memᴰ·eq-of-singleton k
-
-      go : Dec (e ≡ n) → (has m n ≡ true) ⊎ (has m n ≡ false) → (e < n → has m e ≡ true → List·Memᴰ c (edgeColours p e) → has (coloursBelow p n m) c ≡ true) → has (coloursBelow p (suc n) m) c ≡ true
-      go (yes q) (inl h) ih =
-          rw h (has-or c (coloursBelow p n m) (2 ^ colourOf p n) ∙ or-right (has (coloursBelow p n m) c) (has (2 ^ colourOf p n) c) (has-pow (colourOf p n) c ∙ ≡eqb (colourOf p n) c (sym (is ∙ ap (colourOf p) q))))
-      go (yes q) (inr h) ih = absurd (true≢false (sym t ∙ ap (has m) q ∙ h))
-      go (no q) (inl h) ih = rw h (has-or c (coloursBelow p n m) (2 ^ colourOf p n) ∙ or-left (has (coloursBelow p n m) c) (has (2 ^ colourOf p n) c) (ih (omega arith) t k))
-      go (no q) (inr h) ih = rw h (ih (omega arith) t k)
-
-  -- c is a colour of m exactly if some edge of m has it
+  -- ---- the colours of an edge set: c is one exactly if some edge of m has it
   pub colours-some : (m c : ℕ) → has (coloursOf p m) c ≡ true → (e : ℕ) × (e < edges p) × (has m e ≡ true) × List·Memᴰ c (edgeColours p e)
   unfolding coloursOf
-  colours-some m c t = below-some (edges p) m c t
+  colours-some m c t =
+      let r = flat-mem (edgeColours p) (members (edges p) m) c (set-has (flat (map (edgeColours p) (members (edges p) m))) c .0 t) in
+      (r .0, members-lt (edges p) m (r .0) (r .1), members-has (edges p) m (r .0) (r .1), r .2)
 
   pub some-colours : (m e c : ℕ) → e < edges p → has m e ≡ true → List·Memᴰ c (edgeColours p e) → has (coloursOf p m) c ≡ true
   unfolding coloursOf
-  some-colours m e c l t k = some-below (edges p) m e c l t k
+  some-colours m e c l t k = set-has (flat (map (edgeColours p) (members (edges p) m))) c .1 (mem-flat (edgeColours p) (members (edges p) m) e c (has-members (edges p) m e l t) k)
 
   pub colours-up : (a b : ℕ) → inside a b ≡ true → inside (coloursOf p a) (coloursOf p b) ≡ true
   colours-up a b i = all-inside (coloursOf p a) (coloursOf p b) (λ c t. let r = colours-some a c t in some-colours b (r .0) c (r .1) (inside-all a b i (r .0) (r .2)) (r .3))
@@ -168,8 +162,3 @@ module _ (p : Policy) where
 
   pub accepting-colours : (a b : ℕ) → coloursOf p a ≡ coloursOf p b → accepting p a ≡ accepting p b
   accepting-colours a b e = accepting-is a ∙ ap (inFamily p) e ∙ sym (accepting-is b)
-
-  -- every edge has a colour, so that a non-empty edge set has one
-  pub edge-coloured : (e : ℕ) → (c : ℕ) × List·Memᴰ c (edgeColours p e)
-  unfolding edgeColours
-  edge-coloured e = (colourOf p e, List·Memᴰ·head refl)

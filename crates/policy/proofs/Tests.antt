@@ -11,7 +11,7 @@ use Rattle.lists.specs.Lists.{all, below}
 use Rattle.lists.proofs.Tests.{all-snoc}
 use Rattle.lists.proofs.Numbers.{below-one}
 use Rattle.policy.specs.declared.Policy.{Policy}
-use Rattle.policy.specs.Policies.{edges, targetOf, colourOf, inFamily, legalCounts, legalEdge, legalSet, legal}
+use Rattle.policy.specs.Policies.{edges, targetOf, colourOf, inFamily, legalCounts, legalEdge, legalEdges, legalSet, legalFamily, legalGraph, legal}
 
 module _ (p : Policy) where
   -- ---- the parts of the test for a legal policy
@@ -47,10 +47,19 @@ module _ (p : Policy) where
       let up : suc (n - 1) ≡ n = omega arith in
       sym (sets-to (n - 1) (omega arith)) ∙ ap (λ (k : ℕ). all (legalSet p) (below k)) up
 
+  -- ---- the test that is made of them
+  pub graph-uncounted : legalCounts p ≡ false → legalGraph p ≡ false
+  unfolding legalGraph
+  graph-uncounted f = rw f
+
+  pub graph-counted : legalCounts p ≡ true → legalEdges p ≡ legalGraph p
+  unfolding legalGraph
+  graph-counted t = ap (λ (x : Bool). x && legalEdges p) (sym t)
+
   pub legal-uncounted : legalCounts p ≡ false → legal p ≡ false
   unfolding legal
-  legal-uncounted f = rw f
+  legal-uncounted f = ap (λ (x : Bool). x && legalFamily p) (graph-uncounted f)
 
-  pub legal-counted : legalCounts p ≡ true → (a b : Bool) → a ≡ all (legalEdge p) (below 64) → b ≡ all (legalSet p) (below 256) → a && b ≡ legal p
+  pub legal-counted : legalCounts p ≡ true → (a b : Bool) → a ≡ legalEdges p → b ≡ legalFamily p → a && b ≡ legal p
   unfolding legal
-  legal-counted t a b q r = ap₂ _&&_ q r ∙ ap (λ (x : Bool). x && all (legalEdge p) (below 64) && all (legalSet p) (below 256)) (sym t)
+  legal-counted t a b q r = ap₂ _&&_ (q ∙ graph-counted t) r

@@ -1,2 +1,3 @@
 pub mod Policies
+pub mod Making
 pub mod ByColour

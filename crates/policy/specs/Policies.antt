@@ -1,12 +1,17 @@
 -- A policy (document 01, "A policy"): its edges, the colours and the verdict of an edge set, and which records are legal.
-use Prim.Native.Nat.{ℕ, zero, suc, _+_, _*_, _/_, _^_}
-use mathlib.Core.Bool.{Bool, true, false, not, _&&_, _||_, cond}
-use mathlib.Core.List.{List, [], _∷_}
+use Prim.Native.Nat.{ℕ, _+_, _*_, _/_, _^_}
+use mathlib.Core.Bool.{Bool, false, not, _&&_, _||_, cond}
+use mathlib.Core.List.{List, [], _∷_, map}
 use lib.Dec.{eqb, ltb, leb}
 use lib.ListN.{getD}
-use Rattle.lists.specs.Lists.{all, below}
-use Rattle.masks.specs.Masks.{has, insert}
+use Rattle.lists.specs.Lists.{all, flat, below}
+use Rattle.masks.specs.Masks.{members, setOf}
 use Rattle.policy.specs.declared.Policy.{Policy}
+
+-- states 1 to 16, letters 1 to 8, colours 1 to 8, states times letters at most 64, one initial state
+unfoldable pub countsFit : ℕ → ℕ → ℕ → ℕ → Bool
+countsFit states letters colours initial =
+    leb 1 states && leb states 16 && leb 1 letters && leb letters 8 && leb 1 colours && leb colours 8 && leb (states * letters) 64 && ltb initial states
 
 module _ (p : Policy) where
   -- ---- edges
@@ -31,14 +36,9 @@ module _ (p : Policy) where
   edgeColours e = colourOf e ∷ []
 
   -- ---- edge sets
-  -- the colours of the edges of m below n
-  unfoldable pub coloursBelow : ℕ → ℕ → ℕ
-  coloursBelow zero m = 0
-  coloursBelow (suc n) m = let r = coloursBelow n m in cond (has m n) (insert r (colourOf n)) r
-
   -- the set of the colours of an edge set
   unfoldable pub coloursOf : ℕ → ℕ
-  coloursOf m = coloursBelow edges m
+  coloursOf m = setOf (flat (map edgeColours (members edges m)))
 
   -- a colour set is in the family
   unfoldable pub inFamily : ℕ → Bool
@@ -49,19 +49,26 @@ module _ (p : Policy) where
   accepting m = inFamily (coloursOf m)
 
   -- ---- limits
-  -- states 1 to 16, letters 1 to 8, colours 1 to 8, states times letters at most 64, one initial state
   unfoldable pub legalCounts : Bool
-  legalCounts =
-      leb 1 (p .states) && leb (p .states) 16 && leb 1 (p .letters) && leb (p .letters) 8 && leb 1 (p .colours) && leb (p .colours) 8
-      && leb (p .states * p .letters) 64 && ltb (p .initial) (p .states)
+  legalCounts = countsFit (p .states) (p .letters) (p .colours) (p .initial)
 
   -- an edge leads to a state and has a colour; past the last edge both are 0
   unfoldable pub legalEdge : ℕ → Bool
   legalEdge e = cond (ltb e edges) (ltb (targetOf e) (p .states) && ltb (colourOf e) (p .colours)) (eqb (targetOf e) 0 && eqb (colourOf e) 0)
 
+  unfoldable pub legalEdges : Bool
+  legalEdges = all legalEdge (below 64)
+
   -- no member of the family is empty or outside the colours
   unfoldable pub legalSet : ℕ → Bool
   legalSet s = not (inFamily s) || (ltb 0 s && ltb s (2 ^ p .colours))
 
+  unfoldable pub legalFamily : Bool
+  legalFamily = all legalSet (below 256)
+
+  -- all but the family
+  unfoldable pub legalGraph : Bool
+  legalGraph = legalCounts && legalEdges
+
   unfoldable pub legal : Bool
-  legal = legalCounts && all legalEdge (below 64) && all legalSet (below 256)
+  legal = legalGraph && legalFamily

@@ -3,9 +3,9 @@
 ghost use mathlib.Core.Path.{_≡_};
 ghost use Prim.Native.Nat.{_≤_};
 ghost use mathlib.Core.Bool.{true};
-ghost use Rattle.lists.specs.Lists.{all, below};
 ghost use Rattle.policy.specs.ByColour.{byColour, tableEdges, tableColours};
-ghost use Rattle.policy.specs.Policies.{edges, accepting, legalCounts, legalEdge, legalSet, legal};
+ghost use Rattle.policy.specs.Making.{counted};
+ghost use Rattle.policy.specs.Policies.{accepting, countsFit, edges, legal, legalCounts, legalEdges, legalFamily, legalGraph};
 
 pub struct Policy {
     pub states: u8,
@@ -73,26 +73,50 @@ pub fn accepts(p: Policy, by: &[u64; 8], family: &[bool; 256], m: u64) -> bool
     family[c]
 }
 
+// ---- making a policy
+
+// The policy of these counts, with edges and family all zero.
+pub fn counted(states: u8, letters: u8, colours: u8, initial: u8) -> Policy
+    ensures { λ r. ⌜ r ≡ counted states letters colours initial ⌝ }
+{
+    Policy {
+        states,
+        letters,
+        colours,
+        initial,
+        target: [0; 64],
+        colour: [0; 64],
+        family: [false; 256],
+    }
+}
+
 // ---- legal policies
 
-// Whether the counts are within the limits.
+// Whether counts are within the limits.
+pub fn counts_fit(states: u8, letters: u8, colours: u8, initial: u8) -> bool
+    ensures { λ r. ⌜ r ≡ countsFit states letters colours initial ⌝ }
+{
+    let edges = states as usize * letters as usize;
+    (1 <= states)
+        & (states <= 16)
+        & (1 <= letters)
+        & (letters <= 8)
+        & (1 <= colours)
+        & (colours <= 8)
+        & (edges <= 64)
+        & (initial < states)
+}
+
 fn has_legal_counts(p: Policy) -> bool
     ensures { λ r. ⌜ r ≡ legalCounts p ⌝ }
 {
-    (1 <= p.states)
-        & (p.states <= 16)
-        & (1 <= p.letters)
-        & (p.letters <= 8)
-        & (1 <= p.colours)
-        & (p.colours <= 8)
-        & (edges(p) <= 64)
-        & (p.initial < p.states)
+    counts_fit(p.states, p.letters, p.colours, p.initial)
 }
 
 // Whether every edge leads to a state and has a colour, and every entry past the last edge is 0. Numbers of one byte throughout, so that many edges are looked at together.
 fn has_legal_edges(p: Policy) -> bool
     requires { ⌜ edges p ≤ 64 ⌝ }
-    ensures { λ r. ⌜ r ≡ all (legalEdge p) (below 64) ⌝ }
+    ensures { λ r. ⌜ r ≡ legalEdges p ⌝ }
 {
     let n = edges(p) as u8;
     let mut b = true;
@@ -105,9 +129,9 @@ fn has_legal_edges(p: Policy) -> bool
 }
 
 // Whether the family has neither the empty set nor one outside the colours. In two parts, so that what is looked at together was written together.
-fn has_legal_sets(p: Policy) -> bool
+fn has_legal_family(p: Policy) -> bool
     requires { ⌜ p .colours ≤ 8 ⌝ }
-    ensures { λ r. ⌜ r ≡ all (legalSet p) (below 256) ⌝ }
+    ensures { λ r. ⌜ r ≡ legalFamily p ⌝ }
 {
     let top: usize = 1 << p.colours;
     let mut b = !p.family[0];
@@ -121,12 +145,22 @@ fn has_legal_sets(p: Policy) -> bool
     b
 }
 
-// Whether a policy is legal.
+// Whether a policy is legal but for its family.
+pub fn is_legal_graph(p: Policy) -> bool
+    ensures { λ r. ⌜ r ≡ legalGraph p ⌝ }
+{
+    if has_legal_counts(p) {
+        return has_legal_edges(p);
+    }
+    false
+}
+
+// Whether a policy is legal. The edges and the family are looked at without a branch between them.
 pub fn is_legal(p: Policy) -> bool
     ensures { λ r. ⌜ r ≡ legal p ⌝ }
 {
     if has_legal_counts(p) {
-        return has_legal_edges(p) & has_legal_sets(p);
+        return has_legal_edges(p) & has_legal_family(p);
     }
     false
 }

@@ -13,15 +13,16 @@ use borrow.Author.Tests.{eqb-true, eq-eqb, ne-eqb}
 use Rattle.lists.proofs.Bools.{test}
 use Rattle.masks.specs.Masks.{insert}
 use Rattle.policy.specs.declared.Policy.{Policy}
-use Rattle.policy.specs.Policies.{edgeOf}
+use Rattle.policy.specs.Policies.{edgeOf, legalCounts}
 use Rattle.policy.proofs.Laws.{counts}
+use Rattle.policy.specs.Making.{counted, zeroPolicy, withEdge, withSet, withTables}
 use Rattle.reading.specs.declared.Draft.{Draft}
 use Rattle.reading.specs.declared.Answer.{Answer}
 use Rattle.reading.specs.declared.Command.{Command}
 use Rattle.reading.specs.declared.Command.the-variants.{End, Shape, Edge, Accept}
 use Rattle.reading.specs.declared.Outcome.{Outcome}
 use Rattle.reading.specs.declared.Outcome.the-variants.{Read, Refused}
-use Rattle.reading.specs.Reading.{Bounded, after, commandAt, counted, emptyDraft, isEnd, nextOffset, operandCount, partAfter, readMost, readUpTo, readingFrom, readingOf, refusalOf, refusedAt, restOf, withEdge, withSet, withinLimits, zeroPolicy}
+use Rattle.reading.specs.Reading.{Bounded, after, commandAt, emptyDraft, isEnd, nextOffset, operandCount, partAfter, readMost, readUpTo, readingFrom, readingOf, refusalOf, refusedAt, restOf, withinLimits}
 use Rattle.reading.proofs.Questions.{passed, room}
 
 module _ (b : List ℕ) where
@@ -72,7 +73,7 @@ unfolding zeroPolicy counted
 bounded-zero = record { few-edges = lit≤ tt; few-colours = lit≤ tt }
 
 pub bounded-after : (d : Draft) (c : Command) → Bounded (d .policy) → withinLimits (d .policy) c ≡ true → Bounded (after d c .policy)
-unfolding after withEdge withSet withinLimits
+unfolding after counted withTables withEdge withSet legalCounts withinLimits
 bounded-after d End h w = h
 bounded-after d (Shape states letters colours initial) h w =
     let f = counts (counted states letters colours initial) w in

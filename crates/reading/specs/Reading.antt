@@ -4,59 +4,19 @@ use Prim.Native.Nat.{ℕ, zero, suc, _+_, _-_, _*_, _^_, _≤_}
 use mathlib.Core.Bool.{Bool, true, false, not, _&&_, cond}
 use mathlib.Core.List.{List, []}
 use lib.Dec.{eqb, ltb, leb}
-use lib.ListN.{length, getD, set, drop, replicate}
+use lib.ListN.{length, getD, drop}
 use Rattle.lists.specs.Lists.{all, below}
 use Rattle.lists.specs.Questions.{ask}
 use Rattle.masks.specs.Masks.{has, insert}
 use Rattle.policy.specs.declared.Policy.{Policy}
-use Rattle.policy.specs.Policies.{edges, edgeOf, inFamily, legalCounts}
+use Rattle.policy.specs.Policies.{edges, edgeOf, inFamily, countsFit}
+use Rattle.policy.specs.Making.{counted, zeroPolicy, withEdge, withSet}
 use Rattle.reading.specs.declared.Draft.{Draft}
 use Rattle.reading.specs.declared.Answer.{Answer}
 use Rattle.reading.specs.declared.Outcome.{Outcome}
 use Rattle.reading.specs.declared.Outcome.the-variants.{Read, Refused}
 use Rattle.reading.specs.declared.Command.{Command}
 use Rattle.reading.specs.declared.Command.the-variants.{End, Shape, Edge, Accept}
-
--- ---- policies
--- the policy of these counts, with edges and family all zero
-unfoldable pub counted : ℕ → ℕ → ℕ → ℕ → Policy
-counted states letters colours initial = record {
-  states = states;
-  letters = letters;
-  colours = colours;
-  initial = initial;
-  target = replicate 64 0;
-  colour = replicate 64 0;
-  family = replicate 256 false;
-}
-
--- the all-zero policy
-unfoldable pub zeroPolicy : Policy
-zeroPolicy = counted 0 0 0 0
-
--- p with a target and a colour at edge e
-unfoldable pub withEdge : Policy → ℕ → ℕ → ℕ → Policy
-withEdge p e target colour = record {
-  states = p .states;
-  letters = p .letters;
-  colours = p .colours;
-  initial = p .initial;
-  target = set (p .target) e target;
-  colour = set (p .colour) e colour;
-  family = p .family;
-}
-
--- p with a colour set in its family
-unfoldable pub withSet : Policy → ℕ → Policy
-withSet p s = record {
-  states = p .states;
-  letters = p .letters;
-  colours = p .colours;
-  initial = p .initial;
-  target = p .target;
-  colour = p .colour;
-  family = set (p .family) s true;
-}
 
 -- ---- commands
 -- 0x00 end, 0x01 shape, 0x02 edge, 0x03 accept
@@ -103,7 +63,7 @@ inPlace at c = cond (eqb at 0) (isShape c) (not (isShape c))
 -- Are the operands within the limits and the declared counts, and an accepted set non-empty?
 unfoldable pub withinLimits : Policy → Command → Bool
 withinLimits p End = true
-withinLimits p (Shape states letters colours initial) = legalCounts (counted states letters colours initial)
+withinLimits p (Shape states letters colours initial) = countsFit states letters colours initial
 withinLimits p (Edge state letter target colour) = ltb state (p .states) && ltb letter (p .letters) && ltb target (p .states) && ltb colour (p .colours)
 withinLimits p (Accept s) = ltb 0 s && ltb s (2 ^ p .colours)
 

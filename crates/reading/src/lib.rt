@@ -4,7 +4,8 @@ ghost use mathlib.Core.Bool.{true};
 ghost use Prim.Native.Nat.{_+_, _-_, _*_, _<_, _≤_, _^_};
 ghost use lib.ListN.{length};
 ghost use Rattle.policy.specs.Policies.{edgeOf, legalCounts};
-ghost use Rattle.reading.specs.Reading.{Bounded, allGiven, commandAt, commandKnown, completeAtEnd, counted, firstTime, inPlace, operandCount, operandsThere, readingOf, refusalOf, restOf, withinLimits};
+ghost use Rattle.policy.specs.Making.{counted};
+ghost use Rattle.reading.specs.Reading.{Bounded, allGiven, commandAt, commandKnown, completeAtEnd, firstTime, inPlace, operandCount, operandsThere, readingOf, refusalOf, restOf, withinLimits};
 
 // A command with its operands.
 pub enum Command {
@@ -40,20 +41,6 @@ fn wide(x: u8) -> usize
     ensures { λ r. ⌜ (r ≡ x) × (r < 256) ⌝ }
 {
     x as usize
-}
-
-fn counted_policy(states: u8, letters: u8, colours: u8, initial: u8) -> policy::Policy
-    ensures { λ r. ⌜ r ≡ counted states letters colours initial ⌝ }
-{
-    policy::Policy {
-        states,
-        letters,
-        colours,
-        initial,
-        target: [0; 64],
-        colour: [0; 64],
-        family: [false; 256],
-    }
 }
 
 // ---- commands
@@ -103,20 +90,6 @@ fn is_in_place(at: usize, c: Command) -> bool
     }
 }
 
-fn counts_fit(states: u8, letters: u8, colours: u8, initial: u8) -> bool
-    ensures { λ r. ⌜ r ≡ legalCounts (counted states letters colours initial) ⌝ }
-{
-    let edges = wide(states) * wide(letters);
-    (1 <= states)
-        & (states <= 16)
-        & (1 <= letters)
-        & (letters <= 8)
-        & (1 <= colours)
-        & (colours <= 8)
-        & (edges <= 64)
-        & (initial < states)
-}
-
 // How many colour sets there are.
 fn sets_of(colours: u8) -> usize
     requires { ⌜ colours ≤ 8 ⌝ }
@@ -132,7 +105,7 @@ fn is_within_limits(p: policy::Policy, c: Command) -> bool
     match c {
         Command::End => true,
         Command::Shape(states, letters, colours, initial) => {
-            counts_fit(states, letters, colours, initial)
+            policy::counts_fit(states, letters, colours, initial)
         }
         Command::Edge(state, letter, target, colour) => {
             (state < p.states) & (letter < p.letters) & (target < p.states) & (colour < p.colours)
@@ -221,7 +194,7 @@ fn refusal(bytes: &[u8], at: usize, d: Draft, family: &[bool; 256]) -> u8
 pub fn read(bytes: &[u8]) -> Answer
     ensures { λ r. ⌜ r ≡ readingOf (now (bytes .entry)) ⌝ }
 {
-    let none = counted_policy(0, 0, 0, 0);
+    let none = policy::counted(0, 0, 0, 0);
     let mut p = none;
     let mut given = 0;
     let mut at = 0;
@@ -243,7 +216,7 @@ pub fn read(bytes: &[u8]) -> Answer
                 };
             }
             Command::Shape(states, letters, colours, initial) => {
-                p = counted_policy(states, letters, colours, initial);
+                p = policy::counted(states, letters, colours, initial);
                 given = 0;
             }
             Command::Edge(state, letter, target, colour) => {

@@ -46,12 +46,6 @@ module _ {A : Type 0} where
   drop-replicate (suc k) zero x = let e : 0 ≡ 0 - suc k = omega arith in ap (λ (j : ℕ). replicate j x) e
   drop-replicate (suc k) (suc n) x = let e : n - k ≡ suc n - suc k = omega arith in drop-replicate k n x ∙ ap (λ (j : ℕ). replicate j x) e
 
-  -- in every place, and past the last one too
-  pub replicate-at : (n i : ℕ) (d : A) → getD (replicate n d) i d ≡ d
-  replicate-at zero i d = refl
-  replicate-at (suc n) zero d = refl
-  replicate-at (suc n) (suc i) d = replicate-at n i d
-
 -- ---- a run, and the place after it
 pub stored-none : (t : List ℕ) (at : ℕ) → Stored t t at at []
 stored-none t at = record { now-is = refl; next-is = omega arith }

@@ -13,8 +13,9 @@ use Rattle.lists.specs.Lists.{below}
 use Rattle.lists.proofs.Lists.{length-below, getD-map-below}
 use Rattle.tables.proofs.Stores.{front-more}
 use Rattle.policy.specs.declared.Policy.{Policy}
-use Rattle.policy.specs.Policies.{legal, legalCounts}
-use Rattle.reading.specs.Reading.{zeroPolicy, counted}
+use Rattle.policy.specs.Policies.{legal}
+use Rattle.policy.specs.Making.{counted, zeroPolicy}
+use Rattle.policy.proofs.Making.{zero-illegal}
 use Rattle.wulfrenda.specs.Records.{flag, isSet, recordLength, bytesAt, flagsAt, unpacked, policyOf, recordOf}
 
 -- the arrays of a policy have their lengths
@@ -34,8 +35,7 @@ policy-of-other b n = rw (ne-eqb (length b) recordLength n)
 
 -- bytes of another length are refused with 7
 pub other-illegal : (b : List ℕ) → length b ≢ recordLength → legal (policyOf b) ≡ false
-unfolding zeroPolicy counted legal legalCounts
-other-illegal b n = ap legal (policy-of-other b n)
+other-illegal b n = ap legal (policy-of-other b n) ∙ zero-illegal
 
 module _ (front l rest : List ℕ) where
   bytes-back : (at n : ℕ) → length front ≡ at → length l ≡ n → bytesAt (front ++ l ++ rest) at n ≡ l

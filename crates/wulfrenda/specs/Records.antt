@@ -7,7 +7,7 @@ use lib.Dec.{eqb}
 use lib.ListN.{length, getD}
 use Rattle.lists.specs.Lists.{below}
 use Rattle.policy.specs.declared.Policy.{Policy}
-use Rattle.reading.specs.Reading.{zeroPolicy}
+use Rattle.policy.specs.Making.{zeroPolicy}
 
 -- ---- the version: major, minor, patch; another length of the record is another major version
 abbrev pub version : ℕ

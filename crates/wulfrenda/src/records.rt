@@ -5,7 +5,6 @@ ghost use mathlib.Core.List.{map};
 ghost use Prim.Native.Nat.{_+_, _≤_};
 ghost use lib.ListN.{length};
 ghost use lib.Seq.{sets};
-ghost use Rattle.reading.specs.Reading.{zeroPolicy};
 ghost use Rattle.wulfrenda.specs.Records.{flag, recordLength, bytesAt, flagsAt, policyOf, recordOf};
 
 // How long a record is (recordLength).
@@ -43,26 +42,12 @@ fn flags_at(packed: &[u8]) -> [bool; 256]
     flags
 }
 
-fn zero_policy() -> Policy
-    ensures { λ r. ⌜ r ≡ zeroPolicy ⌝ }
-{
-    Policy {
-        states: 0,
-        letters: 0,
-        colours: 0,
-        initial: 0,
-        target: [0; 64],
-        colour: [0; 64],
-        family: [false; 256],
-    }
-}
-
 // The policy of a record; the zero policy, which is not legal, if the bytes are none.
 pub fn policy_of(packed: &[u8]) -> Policy
     ensures { λ r. ⌜ r ≡ policyOf (now (packed .entry)) ⌝ }
 {
     if packed.len() != LENGTH {
-        return zero_policy();
+        return policy::counted(0, 0, 0, 0);
     }
     Policy {
         states: packed[0],

@@ -7,7 +7,7 @@ use mathlib.Core.Logic.{⊎-elim, inl, inr}
 use borrow.Author.Needs.{needs}
 use Rattle.lists.specs.Lists.{all, below}
 use Rattle.lists.proofs.Tests.{all-turn-both}
-use Rattle.policy.specs.Policies.{edges, targetOf, colourOf, legalEdge}
+use Rattle.policy.specs.Policies.{edges, targetOf, colourOf, legalEdge, legalEdges}
 use Rattle.policy.proofs.Tests.{legal-edge-by}
 use Rattle.policy.proofs.has_legal_edges.Statement.{statement}
 use Rattle.policy.proofs.has_legal_edges.Tie as tie
@@ -60,6 +60,7 @@ loop-again c =
     )
 
 returns : tie.Need-returns Inv-loop μ-loop
+unfolding legalEdges
 returns c = cc (le-antisymm (c .before .loop .inv .0) (c .loop-test .left))
 
 pub has-legal-edges-spec : {M : Type 1} → statement M

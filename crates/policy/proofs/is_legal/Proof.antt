@@ -14,14 +14,14 @@ unfolding edges
 has-legal-edges-requires c κs =
     counts (c .before .before .args .p) (sym (c .before .has-legal-counts .ensures) ∙ c .if1 .taken) .edges-few
 
-has-legal-sets-requires : tie.Need-has-legal-sets-requires
-has-legal-sets-requires c κs =
+has-legal-family-requires : tie.Need-has-legal-family-requires
+has-legal-family-requires c κs =
     let d = c .before .before in counts (d .before .args .p) (sym (d .has-legal-counts .ensures) ∙ c .before .if1 .taken) .colours-few
 
 returns : tie.Need-returns
 returns c =
     let d = c .before .before .before in
-    legal-counted (d .before .args .p) (sym (d .has-legal-counts .ensures) ∙ c .before .before .if1 .taken) _ _ (c .before .has-legal-edges .ensures) (c .has-legal-sets .ensures)
+    legal-counted (d .before .args .p) (sym (d .has-legal-counts .ensures) ∙ c .before .before .if1 .taken) _ _ (c .before .has-legal-edges .ensures) (c .has-legal-family .ensures)
 
 returns-2 : tie.Need-returns-2
 returns-2 c = sym (legal-uncounted (c .before .before .args .p) (sym (c .before .has-legal-counts .ensures) ∙ c .if1 .left))
@@ -32,6 +32,6 @@ is-legal-spec =
     (tie.spec
     has-legal-counts-requires
     has-legal-edges-requires
-    has-legal-sets-requires
+    has-legal-family-requires
     returns
     returns-2)

@@ -6,8 +6,9 @@ use mathlib.Core.Path.{_≡_, refl, sym, ap, _∙_}
 use mathlib.Core.Logic.{⊎-elim}
 use lib.ListN.{length}
 use borrow.Author.Needs.{needs}
+use Rattle.policy.specs.Making.{withEdge, withSet, withTables}
 use Rattle.reading.specs.declared.Draft.{Draft}
-use Rattle.reading.specs.Reading.{isEnd, refusalOf, withEdge, withSet, withinLimits}
+use Rattle.reading.specs.Reading.{isEnd, refusalOf, withinLimits}
 use Rattle.reading.proofs.Questions.{passed, edge-within}
 use Rattle.reading.proofs.Turns.{Onway, onway-start, onway-refused, onway-end, onway-on, Taken, taken-shape, taken-edge, taken-accept}
 use Rattle.reading.proofs.read.Statement.{statement}
@@ -38,7 +39,7 @@ in-mask c =
 
 -- the draft after it
 taken : (c : tie.At-match-came Inv-loop μ-loop) → Taken (draft (c .before .before .before .before .before .before)) (c .before .command-at .result) (c .match .p) (c .match .given)
-unfolding withEdge withSet
+unfolding withTables withEdge withSet
 taken c =
     ⊎-elim
     (λ w. taken-shape (w .1 .given .1) (w .4 ∙ w .3 .ensures) (w .5))
@@ -54,17 +55,17 @@ onward c =
     onway-on (c .before .before .before .before .before .before .before .before .loop .inv) (accepted (c .before .before .before .before)) (c .before .before .before .command-at .ensures) (t .goes-on) (t .is) (c .operand-count .ensures)
 
 -- ---- the needs
-counted-policy-requires : tie.Need-counted-policy-requires Inv-loop μ-loop
-counted-policy-requires c κs = search needs
+counted-requires : tie.Need-counted-requires Inv-loop μ-loop
+counted-requires c κs = search needs
 
 loop-holds : tie.Need-loop-holds Inv-loop μ-loop
-loop-holds c = onway-start _ (c .counted-policy .ensures)
+loop-holds c = onway-start _ (c .counted .ensures)
 
 refusal-requires : tie.Need-refusal-requires Inv-loop μ-loop
 refusal-requires c κs = (c .before .before .loop .inv .bounded, refl)
 
 returns : tie.Need-returns Inv-loop μ-loop
-returns c = onway-refused (c .before .before .before .before .loop .inv) (c .before .refusal .ensures) (c .if1 .taken) (c .before .before .before .before .before .counted-policy .ensures)
+returns c = onway-refused (c .before .before .before .before .loop .inv) (c .before .refusal .ensures) (c .if1 .taken) (c .before .before .before .before .before .counted .ensures)
 
 command-at-requires : tie.Need-command-at-requires Inv-loop μ-loop
 command-at-requires c κs = let w = passed (accepted c) in (w .byte, w .there)
@@ -82,8 +83,8 @@ returns-2 c = onway-end (c .before .before .before .before .before .before .befo
 enum-known-states : tie.Need-enum-known-states Inv-loop μ-loop
 enum-known-states c = search needs
 
-counted-policy-requires-2 : tie.Need-counted-policy-requires-2 Inv-loop μ-loop
-counted-policy-requires-2 c κs = search needs
+counted-requires-2 : tie.Need-counted-requires-2 Inv-loop μ-loop
+counted-requires-2 c κs = search needs
 
 enum-known-state : tie.Need-enum-known-state Inv-loop μ-loop
 enum-known-state c = search needs
@@ -133,7 +134,7 @@ read-spec =
     (tie.spec
     Inv-loop
     μ-loop
-    counted-policy-requires
+    counted-requires
     loop-holds
     refusal-requires
     returns
@@ -142,7 +143,7 @@ read-spec =
     add-end
     returns-2
     enum-known-states
-    counted-policy-requires-2
+    counted-requires-2
     enum-known-state
     edge-of-requires
     element-write-p

@@ -1,16 +1,17 @@
 -- `wulfrenda::records::policy_of` meets its contract: the definition, opened at each length. Assumes nothing.
-use mathlib.Core.Path.{refl, sym, _∙_}
+use mathlib.Core.Path.{sym, _∙_}
 use borrow.Author.Needs.{needs}
+use Rattle.policy.proofs.Making.{zero-counted}
 use Rattle.wulfrenda.specs.Records.{unpacked}
 use Rattle.wulfrenda.proofs.Packing.{policy-of, policy-of-other}
 use Rattle.wulfrenda.proofs.records.policy_of.Statement.{statement}
 use Rattle.wulfrenda.proofs.records.policy_of.Tie as tie
 
-zero-policy-requires : tie.Need-zero-policy-requires
-zero-policy-requires c κs = search needs
+counted-requires : tie.Need-counted-requires
+counted-requires c κs = search needs
 
 returns : tie.Need-returns
-returns c = c .zero-policy .ensures ∙ sym (policy-of-other _ (c .before .if1 .taken))
+returns c = c .counted .ensures ∙ zero-counted ∙ sym (policy-of-other _ (c .before .if1 .taken))
 
 shared-slice-read-t5 : tie.Need-shared-slice-read-t5
 shared-slice-read-t5 c = search needs
@@ -45,7 +46,7 @@ pub policy-of-spec : {M : Type 1} → statement M
 policy-of-spec =
     tie.close
     (tie.spec
-    zero-policy-requires
+    counted-requires
     returns
     shared-slice-read-t5
     shared-slice-read-t7

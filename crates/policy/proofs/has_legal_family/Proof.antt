@@ -1,4 +1,4 @@
--- `has_legal_sets` meets its contract: b says whether every set passed is legal. The loops start past the sets of the colours, of which only the empty one is wrong. Assumes nothing.
+-- `has_legal_family` meets its contract: b says whether every set passed is legal. The loops start past the sets of the colours, of which only the empty one is wrong. Assumes nothing.
 use Prim.Native.Nat.{ℕ, _-_, _^_, _≤_}
 use native.Mathlib.Omega.{arith}
 use native.Mathlib.Nat.{le-antisymm}
@@ -9,10 +9,10 @@ use lib.Pow.{pow-mono}
 use Rattle.lists.specs.Lists.{all, below}
 use Rattle.lists.proofs.Tests.{all-turn}
 use Rattle.masks.proofs.Bits.{shl-one}
-use Rattle.policy.specs.Policies.{inFamily, legalSet}
+use Rattle.policy.specs.Policies.{inFamily, legalSet, legalFamily}
 use Rattle.policy.proofs.Tests.{legal-set-outside, legal-sets-within}
-use Rattle.policy.proofs.has_legal_sets.Statement.{statement}
-use Rattle.policy.proofs.has_legal_sets.Tie as tie
+use Rattle.policy.proofs.has_legal_family.Statement.{statement}
+use Rattle.policy.proofs.has_legal_family.Tie as tie
 
 abbrev Inv-loop : tie.InvT-loop
 Inv-loop p top b₀ from s₀ b s = (2 ^ p .colours ≤ s) × (s ≤ from) × (from ≤ 256) × (b ≡ all (legalSet p) (below s))
@@ -91,10 +91,11 @@ loop2-again c =
     (omega arith, omega arith, all-turn (legalSet p) (d .loop2 .s) _ _ (d .loop2 .inv .2) (sym (legal-set-outside p (d .loop2 .s) (d .loop2 .inv .0))))
 
 returns : tie.Need-returns Inv-loop μ-loop Inv-loop2 μ-loop2
+unfolding legalFamily
 returns c = cc (le-antisymm (c .before .loop2 .inv .1) (c .loop2-test .left))
 
-pub has-legal-sets-spec : {M : Type 1} → statement M
-has-legal-sets-spec =
+pub has-legal-family-spec : {M : Type 1} → statement M
+has-legal-family-spec =
     tie.close
     (tie.spec
     Inv-loop
