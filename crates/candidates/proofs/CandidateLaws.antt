@@ -14,23 +14,20 @@ use lib.ListN.{length, take, getD, set, length-set, length-append}
 use lib.Pow.{pow-mono, pow-pos}
 use lib.Seq.{take-suc, take-suc-set}
 use Rattle.lists.specs.Lists.{filter, flat, below}
-use Rattle.lists.proofs.Bools.{≡eqb, neqb, bool-ext, same-or-not}
-use Rattle.lists.proofs.Lists.{all-each, each-all, flat-next, none-mem}
+use Rattle.lists.proofs.Bools.{≡eqb, neqb, bool-ext, same-or-not, differs-other, differs-same}
+use Rattle.lists.proofs.Lists.{flat-next, none-mem}
 use Rattle.lists.proofs.Filters.{filter-append, filter-all, filter-none, filter-same}
+use Rattle.lists.specs.Bools.{differs}
 use Rattle.masks.specs.Masks.{has, inside}
-use Rattle.masks.proofs.Bits.{has-full, has-high, has-none, mask-ext, inside-all, inside-trans}
+use Rattle.masks.proofs.Bits.{has-high, has-none, mask-ext, inside-all, inside-trans}
 use Rattle.policy.specs.declared.Policy.{Policy}
-use Rattle.policy.specs.Policies.{edges, edgeColours, coloursOf, inFamily, accepting, legal}
+use Rattle.policy.specs.Policies.{edges, coloursOf, inFamily, accepting, legal, full}
 use Rattle.policy.specs.ByColour.{byColour, edgesIn, tableEdges, tableColours}
 use Rattle.policy.proofs.Laws.{legal-counts, some-colours, colours-up, accepting-is, edge-coloured}
-use Rattle.policy.proofs.ByColour.{edges-in-some, some-edges-in, table-edges-are, table-colours-are}
-use Rattle.graph.specs.Coloured.{coloured}
+use Rattle.policy.proofs.ByColour.{edges-in-some, some-edges-in, table-edges-are, table-colours-are, edges-in-full}
 use Rattle.graph.specs.Through.{cycleThrough}
-use Rattle.graph.proofs.Coloured.{coloured-some, some-coloured, coloured-inside}
 use Rattle.graph.proofs.Through.{through-inside}
 use Rattle.candidates.specs.declared.Counts.{Counts}
-use Rattle.forest.specs.Forest.{differs, full}
-use Rattle.forest.proofs.Children.{differs-other}
 use Rattle.candidates.specs.Candidates.{lowestIs, largestAt, largestIn, candidatesOf, coloursAt, candidates, judged, rootCandidates}
 use Rattle.candidates.specs.Listed.{single, Appended, isOpen, lowestCycle, keptIn, largestTo, judgedOf, judgedTo, Found, Finding, Put, Listing, Listed}
 use Rattle.candidates.proofs.Candidates.{lowest-some, largest-in-mem, of-mem, of-colours, of-few}
@@ -151,10 +148,6 @@ kept-out {t₀} {t} {u} {at} {next} {k} by c l i {d} a h e q eu ek = rw (eu, ek)
         ∙ append-nil (keptIn by c (take i l))
 
 -- ---- tests
-differs-same : (b a : Bool) → a ≡ b → differs b a ≡ false
-differs-same true a e = rw e
-differs-same false a e = e
-
 module _ (p : Policy) where
   -- ---- the largest cycles inside m, state by state
   largest-is : (m v x : ℕ) → x ≡ lowestCycle p m v → largestAt p m v ≡ single x
@@ -208,10 +201,10 @@ module _ (p : Policy) where
   of-inside : (c x : ℕ) → List·Memᴰ x (candidatesOf p c) → inside x (full p) ≡ true
   of-inside c x k =
       let r = largest-in-mem p m x (of-mem p c x k .0) in
-      subst (λ (y : ℕ). inside y (full p) ≡ true) (sym (r .2)) (inside-trans (cycleThrough p m (r .0)) m (full p) (through-inside p m (r .0)) (coloured-inside p (full p) c))
+      subst (λ (y : ℕ). inside y (full p) ≡ true) (sym (r .2)) (inside-trans (cycleThrough p m (r .0)) m (full p) (through-inside p m (r .0)) (edges-in-full p c))
     where
       m : ℕ
-      m = coloured p (full p) c
+      m = edgesIn p c
 
   -- a candidate's colours are exactly its colour set, so there is none where some colour of the set is on no edge
   pub candidates-none : (c d : ℕ) → d ≡ coloursOf p (full p) → inside c d ≡ false → candidatesOf p c ≡ []
@@ -225,12 +218,12 @@ module _ (p : Policy) where
   candidates-empty c z = none-mem (candidatesOf p c) off
     where
       m : ℕ
-      m = coloured p (full p) c
+      m = edgesIn p c
 
       edge : (e : ℕ) → has m e ≡ true → ⊥
       edge e h =
           let d = edge-coloured p e in
-          false≢true (sym (has-none (d .0)) ∙ ap (λ (k : ℕ). has k (d .0)) (sym z) ∙ coloured-some p (full p) c e h .2 (d .0) (d .1))
+          false≢true (sym (has-none (d .0)) ∙ ap (λ (k : ℕ). has k (d .0)) (sym z) ∙ edges-in-some p c e h .1 (d .0) (d .1))
 
       none : (x : ℕ) → inside x m ≡ true → x ≡ 0
       none x i = mask-ext x 0 (λ e. bool-ext (has x e) (has 0 e) (λ h. absurd (edge e (inside-all x m i e h))) (λ h. absurd (false≢true (sym (has-none e) ∙ h))))
@@ -240,19 +233,19 @@ module _ (p : Policy) where
           let r = largest-in-mem p m x (of-mem p c x k .0) in
           lowest-some p (r .0) x (r .3) .0 (none x (subst (λ (y : ℕ). inside y m ≡ true) (sym (r .2)) (through-inside p m (r .0))))
 
-  pub kept-candidates : legal p ≡ true → (by : List ℕ) (c m : ℕ) (l : List ℕ) → by ≡ byColour p → m ≡ coloured p (full p) c → l ≡ largestIn p m → keptIn by c l ≡ candidatesOf p c
+  pub kept-candidates : legal p ≡ true → (by : List ℕ) (c m : ℕ) (l : List ℕ) → by ≡ byColour p → m ≡ edgesIn p c → l ≡ largestIn p m → keptIn by c l ≡ candidatesOf p c
   unfolding keptIn candidatesOf
   kept-candidates lawful by c m l e q k =
       filter-same (λ (x : ℕ). eqb (tableColours by x) c) (λ (x : ℕ). eqb (coloursOf p x) c) (λ x. ap (λ (d : ℕ). eqb d c) (ap (λ (t : List ℕ). tableColours t x) e ∙ table-colours-are p lawful x)) l
       ∙ ap (filter (λ (x : ℕ). eqb (coloursOf p x) c)) (k ∙ ap (largestIn p) q)
 
   -- every edge has its colours among those on edges
-  pub all-coloured : (c : ℕ) → c ≡ coloursOf p (full p) → full p ≡ coloured p (full p) c
+  pub all-coloured : (c : ℕ) → c ≡ coloursOf p (full p) → full p ≡ edgesIn p c
   unfolding full
-  all-coloured c e = mask-ext (full p) (coloured p (full p) c) (λ f. bool-ext (has (full p) f) (has (coloured p (full p) c) f) (there f (decLt f (edges p))) (λ h. coloured-some p (full p) c f h .1))
+  all-coloured c e = mask-ext (full p) (edgesIn p c) (λ f. bool-ext (has (full p) f) (has (edgesIn p c) f) (there f (decLt f (edges p))) (inside-all (edgesIn p c) (full p) (edges-in-full p c) f))
     where
-      there : (f : ℕ) → Dec (f < edges p) → has (full p) f ≡ true → has (coloured p (full p) c) f ≡ true
-      there f (yes l) h = some-coloured p (full p) c f l h (λ d k. ap (λ (s : ℕ). has s d) e ∙ some-colours p (full p) f d l h k)
+      there : (f : ℕ) → Dec (f < edges p) → has (full p) f ≡ true → has (edgesIn p c) f ≡ true
+      there f (yes l) h = some-edges-in p c f l (λ d k. ap (λ (s : ℕ). has s d) e ∙ some-colours p (full p) f d l h k)
       there f (no n) h = absurd (true≢false (sym h ∙ has-high (edges p) f (full p) (omega (arith, pow-pos (edges p))) (omega arith)))
 
   -- ---- the candidates by verdict, colour set by colour set
@@ -366,15 +359,5 @@ module _ (p : Policy) where
   full-is n m e q = q ∙ ap (λ (k : ℕ). 2 ^ k - 1) e
 
   -- ---- the edges in some colours, by the table
-  coloured-is : (c : ℕ) → edgesIn p c ≡ coloured p (full p) c
-  unfolding full
-  coloured-is c = mask-ext (edgesIn p c) (coloured p (full p) c) (λ e. bool-ext (has (edgesIn p c) e) (has (coloured p (full p) c) e) (there e) (back e))
-    where
-      there : (e : ℕ) → has (edgesIn p c) e ≡ true → has (coloured p (full p) c) e ≡ true
-      there e h = let r = edges-in-some p c e h in some-coloured p (full p) c e (r .0) (has-full (edges p) e (r .0)) (all-each (has c) (edgeColours p e) (r .1))
-
-      back : (e : ℕ) → has (coloured p (full p) c) e ≡ true → has (edgesIn p c) e ≡ true
-      back e h = let r = coloured-some p (full p) c e h in some-edges-in p c e (r .0) (each-all (has c) (edgeColours p e) (r .2))
-
-  pub edges-are : legal p ≡ true → (t : List ℕ) (c m : ℕ) → t ≡ byColour p → m ≡ tableEdges t c → m ≡ coloured p (full p) c
-  edges-are h t c m e q = q ∙ ap (λ (l : List ℕ). tableEdges l c) e ∙ table-edges-are p h c ∙ coloured-is c
+  pub edges-are : legal p ≡ true → (t : List ℕ) (c m : ℕ) → t ≡ byColour p → m ≡ tableEdges t c → m ≡ edgesIn p c
+  edges-are h t c m e q = q ∙ ap (λ (l : List ℕ). tableEdges l c) e ∙ table-edges-are p h c

@@ -3,28 +3,31 @@
 use Prim.Native.Nat.{ℕ, zero, suc, _-_, _^_, _≤_, _<_}
 use native.Mathlib.Omega.{arith}
 use native.Mathlib.Decide.{decLt}
-use mathlib.Core.Path.{_≡_, refl, sym, ap, _∙_, subst}
+use mathlib.Core.Path.{_≡_, sym, ap, _∙_, subst}
 use mathlib.Core.Logic.{_⊎_, inl, inr, _≢_}
-use mathlib.Core.Bool.{Bool, true, false, not, true≢false, false≢true}
+use mathlib.Core.Bool.{Bool, true, false, not, true≢false}
 use mathlib.Core.List.{List, List·Memᴰ, Memᴰ·cast}
 use lib.Dec.{eqb}
 use lib.ListN.{length}
 use Rattle.lists.specs.Lists.{any, filter, below, Distinct}
-use Rattle.lists.proofs.Bools.{test, eqb≡, ≡eqb, neqb, and-l, and-r, both, not-true, not-itself}
+use Rattle.lists.proofs.Bools.{test, eqb≡, ≡eqb, neqb, and-l, and-r, both, not-true, not-itself, agrees-same, same-agrees}
 use Rattle.lists.proofs.Lists.{none-any, filter-mem, mem-filter, mem-below, below-lt, flat-mem, mem-flat, length-below, flat-few}
 use Rattle.lists.proofs.Least.{least}
 use Rattle.lists.proofs.Distinct.{one-mem, mem-one, one-distinct, one-few, distinct-filter, distinct-below, distinct-flat}
 use Rattle.lists.proofs.Filters.{filter-few}
+use Rattle.lists.specs.Bools.{differs}
 use Rattle.masks.specs.Masks.{inside, properly}
 use Rattle.masks.proofs.Bits.{inside-trans, properly-lt}
 use Rattle.policy.specs.declared.Policy.{Policy}
-use Rattle.policy.specs.Policies.{coloursOf, accepting, legal}
+use Rattle.policy.specs.Policies.{coloursOf, accepting, legal, full}
 use Rattle.policy.proofs.Laws.{legal-target, colours-lt, accepting-colours}
+use Rattle.policy.specs.ByColour.{edgesIn}
 use Rattle.graph.specs.Cycles.{isCycle, contains}
 use Rattle.graph.specs.Through.{cycleThrough}
 use Rattle.graph.proofs.Cycles.{Targets, contains-inside}
 use Rattle.graph.proofs.Through.{through-cycle, through-largest, through-same, contains-nonzero}
-use Rattle.forest.specs.Forest.{Node, isRoot, node, differs, full, inOrder, largest, roots, children}
+use Rattle.graph.proofs.Inside.{contains-lt, cycle-state, inside-full}
+use Rattle.forest.specs.Forest.{Node, isRoot, node, inOrder, largest, roots, children}
 use Rattle.forest.specs.Laws.{ForestLaws, maskAt, parentAt}
 use Rattle.candidates.specs.Candidates.{lowestIs, largestAt, largestIn, candidatesOf, coloursAt, candidates, judged, rootCandidates}
 use Rattle.candidates.specs.Siblings.{childrenIn}
@@ -32,19 +35,9 @@ use Rattle.forest.proofs.Order.{order-mem, mem-order}
 use Rattle.forest.proofs.Largest.{largest-order-mem, in-largest-order}
 use Rattle.candidates.proofs.Distinct.{distinct-ordered, distinct-largest}
 use Rattle.forest.proofs.Children.{root-cycle, root-largest}
-use Rattle.candidates.proofs.Full.{inColours, Full, contains-lt, cycle-state, inside-full, full-cycle, full-state, fill, fill-inside}
+use Rattle.candidates.proofs.Full.{Full, full-cycle, full-state, fill, fill-inside}
 
 -- ---- verdicts
-same-verdict : (b a : Bool) → not (differs b a) ≡ true → a ≡ b
-same-verdict true true t = refl
-same-verdict true false t = absurd (false≢true t)
-same-verdict false true t = absurd (false≢true t)
-same-verdict false false t = refl
-
-verdict-same : (b a : Bool) → a ≡ b → not (differs b a) ≡ true
-verdict-same true a t = rw t refl
-verdict-same false a t = rw t refl
-
 pub properly-inside : (x y : ℕ) → properly x y ≡ true → inside x y ≡ true
 unfolding properly
 properly-inside x y t = and-l (inside x y) (not (eqb x y)) t
@@ -96,15 +89,15 @@ module _ (p : Policy) where
   -- ---- the candidates of a colour set
   pub of-few : (c : ℕ) → length (candidatesOf p c) ≤ p .states
   unfolding candidatesOf
-  of-few c = omega (arith, filter-few (λ (x : ℕ). eqb (coloursOf p x) c) (largestIn p (inColours p c)), largest-in-few (inColours p c))
+  of-few c = omega (arith, filter-few (λ (x : ℕ). eqb (coloursOf p x) c) (largestIn p (edgesIn p c)), largest-in-few (edgesIn p c))
 
-  pub of-mem : (c x : ℕ) → List·Memᴰ x (candidatesOf p c) → List·Memᴰ x (largestIn p (inColours p c)) × (coloursOf p x ≡ c)
+  pub of-mem : (c x : ℕ) → List·Memᴰ x (candidatesOf p c) → List·Memᴰ x (largestIn p (edgesIn p c)) × (coloursOf p x ≡ c)
   unfolding candidatesOf
-  of-mem c x k = let r = filter-mem (λ (x : ℕ). eqb (coloursOf p x) c) (largestIn p (inColours p c)) x k in (r .0, eqb≡ (coloursOf p x) c (r .1))
+  of-mem c x k = let r = filter-mem (λ (x : ℕ). eqb (coloursOf p x) c) (largestIn p (edgesIn p c)) x k in (r .0, eqb≡ (coloursOf p x) c (r .1))
 
-  mem-of : (c x : ℕ) → List·Memᴰ x (largestIn p (inColours p c)) → coloursOf p x ≡ c → List·Memᴰ x (candidatesOf p c)
+  mem-of : (c x : ℕ) → List·Memᴰ x (largestIn p (edgesIn p c)) → coloursOf p x ≡ c → List·Memᴰ x (candidatesOf p c)
   unfolding candidatesOf
-  mem-of c x k e = mem-filter (λ (x : ℕ). eqb (coloursOf p x) c) (largestIn p (inColours p c)) x k (≡eqb (coloursOf p x) c e)
+  mem-of c x k e = mem-filter (λ (x : ℕ). eqb (coloursOf p x) c) (largestIn p (edgesIn p c)) x k (≡eqb (coloursOf p x) c e)
 
   pub of-colours : (c x : ℕ) → List·Memᴰ x (candidatesOf p c) → coloursOf p x ≡ c
   of-colours c x k = of-mem c x k .1
@@ -133,24 +126,24 @@ module _ (p : Policy) where
   candidate-full x k =
       let r = candidates-at x k in
       let c = of-mem (coloursAt p (r .0)) x (r .2) in
-      let s = largest-in-mem (inColours p (coloursAt p (r .0))) x (c .0) in
-      record { some = lowest-some (s .0) x (s .3) .0; state = s .0; state-lt = s .1; is = s .2 ∙ ap (λ (c : ℕ). cycleThrough p (inColours p c) (s .0)) (sym (c .1)) }
+      let s = largest-in-mem (edgesIn p (coloursAt p (r .0))) x (c .0) in
+      record { some = lowest-some (s .0) x (s .3) .0; state = s .0; state-lt = s .1; is = s .2 ∙ ap (λ (c : ℕ). cycleThrough p (edgesIn p c) (s .0)) (sym (c .1)) }
 
   -- ---- those with a given verdict
   pub judged-mem : (b : Bool) (x : ℕ) → List·Memᴰ x (judged p b) → List·Memᴰ x (candidates p) × (accepting p x ≡ b)
   unfolding judged
-  judged-mem b x k = let r = filter-mem (λ (m : ℕ). not (differs b (accepting p m))) (candidates p) x k in (r .0, same-verdict b (accepting p x) (r .1))
+  judged-mem b x k = let r = filter-mem (λ (m : ℕ). not (differs b (accepting p m))) (candidates p) x k in (r .0, agrees-same b (accepting p x) (r .1))
 
   pub mem-judged : (b : Bool) (x : ℕ) → List·Memᴰ x (candidates p) → accepting p x ≡ b → List·Memᴰ x (judged p b)
   unfolding judged
-  mem-judged b x k t = mem-filter (λ (m : ℕ). not (differs b (accepting p m))) (candidates p) x k (verdict-same b (accepting p x) t)
+  mem-judged b x k t = mem-filter (λ (m : ℕ). not (differs b (accepting p m))) (candidates p) x k (same-agrees b (accepting p x) t)
 
   module _ (lawful : legal p ≡ true) where
     targets : Targets p
     targets e l = legal-target p lawful e l
 
     pub full-candidate : (x : ℕ) → Full p x → List·Memᴰ x (candidates p)
-    full-candidate x f = at-candidates x i (omega (arith, colours-lt p lawful x)) (mem-of (coloursAt p i) x (mem-largest-in (inColours p (coloursAt p i)) u x (contains-lt p lawful u x on) is low) (sym set))
+    full-candidate x f = at-candidates x i (omega (arith, colours-lt p lawful x)) (mem-of (coloursAt p i) x (mem-largest-in (edgesIn p (coloursAt p i)) u x (contains-lt p lawful u x on) is low) (sym set))
       where
         c : ℕ
         c = coloursOf p x
@@ -173,8 +166,8 @@ module _ (p : Policy) where
         low : lowestIs p u x ≡ true
         low = lowest .2
 
-        is : x ≡ cycleThrough p (inColours p (coloursAt p i)) u
-        is = f .is ∙ sym (through-same p targets (inColours p c) (f .state) u (f .state-lt) (ap (contains p u) (sym (f .is)) ∙ on)) ∙ ap (λ (d : ℕ). cycleThrough p (inColours p d) u) (sym set)
+        is : x ≡ cycleThrough p (edgesIn p (coloursAt p i)) u
+        is = f .is ∙ sym (through-same p targets (edgesIn p c) (f .state) u (f .state-lt) (ap (contains p u) (sym (f .is)) ∙ on)) ∙ ap (λ (d : ℕ). cycleThrough p (edgesIn p d) u) (sym set)
 
     pub candidate-cycle : (x : ℕ) → List·Memᴰ x (candidates p) → isCycle p x ≡ true
     candidate-cycle x k = full-cycle p lawful x (candidate-full x k)
@@ -199,7 +192,7 @@ module _ (p : Policy) where
 
     of-distinct : (c : ℕ) → Distinct (candidatesOf p c)
     unfolding candidatesOf
-    of-distinct c = distinct-filter (λ (x : ℕ). eqb (coloursOf p x) c) (largestIn p (inColours p c)) (largest-in-distinct (inColours p c))
+    of-distinct c = distinct-filter (λ (x : ℕ). eqb (coloursOf p x) c) (largestIn p (edgesIn p c)) (largest-in-distinct (edgesIn p c))
 
     pub candidates-distinct : Distinct (candidates p)
     unfolding candidates
@@ -293,7 +286,7 @@ module _ (p : Policy) where
         above x cy =
             let s = cycle-state p lawful x cy in
             let y = cycleThrough p (full p) (s .0) in
-            let i = through-largest p targets (full p) (s .0) (s .1) x cy (inside-full p lawful x cy) (s .2) in
+            let i = through-largest p targets (full p) (s .0) (s .1) x cy (inside-full p x cy) (s .2) in
             (y, mem-order (rootCandidates p) y (whole-candidate (s .0) (s .1) (contains-inside p (s .0) x y i (s .2))), i)
 
         apart : (x y : ℕ) → List·Memᴰ x (rootCandidates p) → List·Memᴰ y (rootCandidates p) → (properly x y ≡ true) ⊎ (properly x y ≡ false) → properly x y ≡ false

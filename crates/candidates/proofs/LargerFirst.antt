@@ -11,13 +11,13 @@ use lib.ListN.{length, getD}
 use Rattle.lists.specs.Lists.{filter, flat, below, Ascending}
 use Rattle.lists.proofs.Bools.{test}
 use Rattle.lists.proofs.Lists.{filter-mem, flat-mem, ascending-below, getD-mem}
+use Rattle.lists.specs.Bools.{differs}
 use Rattle.masks.specs.Masks.{inside, properly}
 use Rattle.masks.proofs.Bits.{inside-refl, inside-le, properly-lt}
 use Rattle.policy.specs.declared.Policy.{Policy}
 use Rattle.policy.specs.Policies.{coloursOf, accepting, legal}
 use Rattle.policy.proofs.Laws.{colours-up}
 use Rattle.graph.proofs.Cycles.{contains-inside}
-use Rattle.forest.specs.Forest.{differs}
 use Rattle.candidates.specs.Candidates.{candidatesOf, coloursAt, candidates, judged}
 use Rattle.candidates.specs.Siblings.{LargerFirst}
 use Rattle.candidates.proofs.Full.{Full, full-cycle, full-state, full-largest}

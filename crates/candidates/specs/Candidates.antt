@@ -4,12 +4,12 @@ use mathlib.Core.Bool.{Bool, not, _&&_, cond}
 use mathlib.Core.List.{List, [], _∷_, map}
 use lib.Dec.{eqb}
 use Rattle.lists.specs.Lists.{any, filter, flat, below}
+use Rattle.lists.specs.Bools.{differs}
 use Rattle.policy.specs.declared.Policy.{Policy}
-use Rattle.policy.specs.Policies.{coloursOf, accepting}
+use Rattle.policy.specs.Policies.{coloursOf, accepting, full}
+use Rattle.policy.specs.ByColour.{edgesIn}
 use Rattle.graph.specs.Cycles.{contains}
-use Rattle.graph.specs.Coloured.{coloured}
 use Rattle.graph.specs.Through.{cycleThrough}
-use Rattle.forest.specs.Forest.{differs, full}
 
 module _ (p : Policy) where
   -- x is a cycle whose lowest state is v, given that it is 0 or a cycle through v
@@ -26,7 +26,7 @@ module _ (p : Policy) where
 
   -- the largest cycles with colours in c, if their colours are exactly c
   unfoldable pub candidatesOf : ℕ → List ℕ
-  candidatesOf c = filter (λ x. eqb (coloursOf p x) c) (largestIn (coloured p (full p) c))
+  candidatesOf c = filter (λ x. eqb (coloursOf p x) c) (largestIn (edgesIn p c))
 
   -- the sets of the policy's colours, by falling mask: the one at position i
   unfoldable pub coloursAt : ℕ → ℕ

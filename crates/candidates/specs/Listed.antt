@@ -7,14 +7,14 @@ use lib.Bits.{bitOr}
 use lib.Dec.{eqb}
 use lib.ListN.{length, take}
 use Rattle.lists.specs.Lists.{filter, flat, below}
+use Rattle.lists.specs.Bools.{differs}
 use Rattle.masks.specs.Masks.{minus}
 use Rattle.policy.specs.declared.Policy.{Policy}
-use Rattle.policy.specs.Policies.{coloursOf, inFamily, accepting, legal}
+use Rattle.policy.specs.Policies.{coloursOf, inFamily, accepting, legal, full}
 use Rattle.policy.specs.ByColour.{byColour, tableColours}
 use Rattle.graph.specs.Cycles.{contains}
 use Rattle.graph.specs.Through.{cycleThrough}
 use Rattle.candidates.specs.declared.Counts.{Counts}
-use Rattle.forest.specs.Forest.{differs, full}
 use Rattle.candidates.specs.Candidates.{lowestIs, largestAt, largestIn, candidatesOf, coloursAt, judged}
 
 -- x alone; nothing where x is 0

@@ -1,4 +1,3 @@
-pub mod Graphs
 pub mod Meaning
 pub mod Pairs
 pub mod Suspects

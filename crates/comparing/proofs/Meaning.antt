@@ -1,31 +1,20 @@
 -- What the answer of comparing means, in document 01's words: every cycle has the same verdict in both. It does not depend on which policy stands first. Assumes nothing.
 use Prim.Native.Nat.{ℕ}
-use mathlib.Core.Path.{_≡_, refl, sym, ap}
+use mathlib.Core.Path.{_≡_, sym}
 use mathlib.Core.Logic.{_↔_}
-use mathlib.Core.Bool.{Bool, true, false, not, false≢true}
-use Rattle.lists.proofs.Bools.{bool-ext}
+use mathlib.Core.Bool.{Bool, true, not}
+use Rattle.lists.proofs.Bools.{bool-ext, agrees-same, same-agrees}
 use Rattle.lists.proofs.Lists.{all-each, each-all}
+use Rattle.lists.specs.Bools.{differs}
 use Rattle.policy.specs.declared.Policy.{Policy}
-use Rattle.policy.specs.Policies.{accepting}
+use Rattle.policy.specs.Policies.{accepting, full}
 use Rattle.policy.proofs.Laws.{legal-target}
-use Rattle.graph.specs.Cycles.{Cycle}
+use Rattle.graph.specs.Cycles.{Cycle, cyclesIn}
 use Rattle.graph.proofs.Cycles.{cycle-sound, cycle-complete}
-use Rattle.forest.specs.Forest.{differs, full, cyclesIn}
-use Rattle.forest.proofs.Children.{cycles-mem, mem-cycles}
-use Rattle.candidates.proofs.Full.{inside-full}
+use Rattle.graph.proofs.Inside.{cycles-mem, mem-cycles, inside-full}
+use Rattle.graph.proofs.SameGraph.{same-cycle, same-graph-turned}
 use Rattle.comparing.specs.Comparing.{sameVerdicts}
 use Rattle.comparing.specs.Pairs.{Comparable}
-use Rattle.comparing.proofs.Graphs.{same-cycle, same-graph-turned}
-
-same-equal : (a b : Bool) → not (differs a b) ≡ true → a ≡ b
-same-equal true true t = refl
-same-equal true false t = absurd (false≢true t)
-same-equal false true t = absurd (false≢true t)
-same-equal false false t = refl
-
-equal-same : (a b : Bool) → a ≡ b → not (differs a b) ≡ true
-equal-same true b e = ap (λ (x : Bool). not (not x)) (sym e)
-equal-same false b e = ap not (sym e)
 
 pub same-means : (p q : Policy) → Comparable p q → (sameVerdicts p q ≡ true) ↔ ((m : ℕ) → Cycle p m → accepting p m ≡ accepting q m)
 unfolding sameVerdicts
@@ -37,10 +26,10 @@ same-means p q k = (there, back)
     there : sameVerdicts p q ≡ true → (m : ℕ) → Cycle p m → accepting p m ≡ accepting q m
     there s m c =
         let cy = cycle-complete p (legal-target p (k .legal-p)) m c in
-        same-equal (accepting p m) (accepting q m) (all-each agrees (cyclesIn p (full p)) s m (mem-cycles p (full p) m cy (inside-full p (k .legal-p) m cy)))
+        sym (agrees-same (accepting p m) (accepting q m) (all-each agrees (cyclesIn p (full p)) s m (mem-cycles p (full p) m cy (inside-full p m cy))))
 
     back : ((m : ℕ) → Cycle p m → accepting p m ≡ accepting q m) → sameVerdicts p q ≡ true
-    back h = each-all agrees (cyclesIn p (full p)) (λ m i. equal-same (accepting p m) (accepting q m) (h m (cycle-sound p m (cycles-mem p (full p) m i .0))))
+    back h = each-all agrees (cyclesIn p (full p)) (λ m i. same-agrees (accepting p m) (accepting q m) (sym (h m (cycle-sound p m (cycles-mem p (full p) m i .0)))))
 
 -- the questions and the answer are the same where the policies change places
 pub turned : (p q : Policy) → Comparable p q → Comparable q p

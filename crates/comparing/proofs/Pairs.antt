@@ -4,57 +4,51 @@ use Prim.Native.Nat.{ℕ, _^_, _<_}
 use mathlib.Core.Path.{_≡_, refl, sym, ap, ap₂, _∙_, subst}
 use mathlib.Core.Logic.{_⊎_, inl, inr, _≢_}
 use mathlib.Core.Bool.{true, false, not, true≢false}
-use mathlib.Core.List.{List·Memᴰ}
 use lib.Dec.{eqb}
-use Rattle.lists.specs.Lists.{all, below}
+use Rattle.lists.specs.Lists.{below}
 use Rattle.lists.proofs.Bools.{test, and-l, and-r, both, or-cases, or-left, or-right, eqb≡, ≡eqb, not-true, not-false, bool-ext}
 use Rattle.lists.proofs.Lists.{all-each, each-all, mem-below, below-lt}
+use Rattle.lists.specs.Bools.{differs}
 use Rattle.masks.specs.Masks.{has, inside}
-use Rattle.masks.proofs.Bits.{inside-all, all-inside, inside-refl, inside-antisym, inside-trans}
-use Rattle.masks.proofs.MaskOf.{has-mask-of, mask-of-lt}
-use Rattle.masks.proofs.Members.{some-nonzero, bit-lt}
+use Rattle.masks.proofs.Bits.{inside-all, all-inside, inside-refl, inside-antisym, inside-trans, has-and}
+use Rattle.masks.proofs.Members.{some-nonzero}
 use Rattle.policy.specs.declared.Policy.{Policy}
-use Rattle.policy.specs.Policies.{edges, edgeColours, coloursOf, inFamily, accepting}
-use Rattle.policy.proofs.Laws.{legal-target, colours-some, some-colours, colours-up, colours-lt, accepting-is}
-use Rattle.graph.specs.Cycles.{isCycle, contains}
+use Rattle.policy.specs.Policies.{coloursOf, inFamily, accepting, full}
+use Rattle.policy.proofs.Laws.{legal-target, some-colours, colours-up, colours-lt, accepting-is}
+use Rattle.policy.specs.ByColour.{edgesIn}
+use Rattle.policy.proofs.ByColour.{some-edges-in, edges-in-colours}
+use Rattle.graph.specs.Cycles.{isCycle, contains, cyclesIn}
 use Rattle.graph.specs.Through.{cycleThrough}
 use Rattle.graph.proofs.Cycles.{Targets, cycle-edge, contains-some}
 use Rattle.graph.proofs.Through.{through-inside, through-cycle, through-largest}
-use Rattle.forest.specs.Forest.{differs, full, cyclesIn}
-use Rattle.forest.proofs.Children.{cycles-mem, mem-cycles}
-use Rattle.candidates.proofs.Full.{cycle-state, inside-full}
+use Rattle.graph.proofs.Inside.{cycles-mem, mem-cycles, cycle-state, inside-full}
+use Rattle.graph.proofs.SameGraph.{same-edges}
 use Rattle.comparing.specs.Comparing.{sameVerdicts}
-use Rattle.comparing.specs.Pairs.{Comparable, inPair, pairEdges, exactly, freeAt, isFree, pairAgrees, setAgrees, pairsAgree}
-use Rattle.comparing.proofs.Graphs.{same-edges}
+use Rattle.comparing.specs.Pairs.{Comparable, pairEdges, exactly, freeAt, isFree, pairAgrees, setAgrees, pairsAgree}
 
 module _ (p q : Policy) where
   -- ---- the edges with colours in c and d
-  pub pair-some : (c d e : ℕ) → has (pairEdges p q c d) e ≡ true
-      → (e < edges p) × ((x : ℕ) → List·Memᴰ x (edgeColours p e) → has c x ≡ true) × ((x : ℕ) → List·Memᴰ x (edgeColours q e) → has d x ≡ true)
-  unfolding pairEdges inPair
+  pair-some : (c d e : ℕ) → has (pairEdges p q c d) e ≡ true → (has (edgesIn p c) e ≡ true) × (has (edgesIn q d) e ≡ true)
+  unfolding pairEdges
   pair-some c d e h =
-      let l = bit-lt (edges p) (pairEdges p q c d) e (mask-of-lt (inPair p q c d) (edges p)) h in
-      let t : inPair p q c d e ≡ true = sym (has-mask-of (inPair p q c d) (edges p) e l) ∙ h in
-      let a = all (has c) (edgeColours p e) in
-      let b = all (has d) (edgeColours q e) in
-      (l, all-each (has c) (edgeColours p e) (and-l a b t), all-each (has d) (edgeColours q e) (and-r a b t))
+      let t = sym (has-and e (edgesIn p c) (edgesIn q d)) ∙ h in
+      (and-l (has (edgesIn p c) e) (has (edgesIn q d) e) t, and-r (has (edgesIn p c) e) (has (edgesIn q d) e) t)
 
-  some-pair : (c d e : ℕ) → e < edges p → ((x : ℕ) → List·Memᴰ x (edgeColours p e) → has c x ≡ true) → ((x : ℕ) → List·Memᴰ x (edgeColours q e) → has d x ≡ true)
-      → has (pairEdges p q c d) e ≡ true
-  unfolding pairEdges inPair
-  some-pair c d e l f g =
-      has-mask-of (inPair p q c d) (edges p) e l
-      ∙ both (all (has c) (edgeColours p e)) (all (has d) (edgeColours q e)) (each-all (has c) (edgeColours p e) f) (each-all (has d) (edgeColours q e) g)
+  pub pair-inside-p : (c d : ℕ) → inside (pairEdges p q c d) (edgesIn p c) ≡ true
+  pair-inside-p c d = all-inside (pairEdges p q c d) (edgesIn p c) (λ e h. pair-some c d e h .0)
+
+  pair-inside-q : (c d : ℕ) → inside (pairEdges p q c d) (edgesIn q d) ≡ true
+  pair-inside-q c d = all-inside (pairEdges p q c d) (edgesIn q d) (λ e h. pair-some c d e h .1)
+
+  some-pair : (c d e : ℕ) → has (edgesIn p c) e ≡ true → has (edgesIn q d) e ≡ true → has (pairEdges p q c d) e ≡ true
+  unfolding pairEdges
+  some-pair c d e f g = has-and e (edgesIn p c) (edgesIn q d) ∙ both (has (edgesIn p c) e) (has (edgesIn q d) e) f g
 
   pair-colours-p : (c d : ℕ) → inside (coloursOf p (pairEdges p q c d)) c ≡ true
-  pair-colours-p c d =
-      let m = pairEdges p q c d in
-      all-inside (coloursOf p m) c (λ x t. let r = colours-some p m x t in pair-some c d (r .0) (r .2) .1 x (r .3))
+  pair-colours-p c d = inside-trans (coloursOf p (pairEdges p q c d)) (coloursOf p (edgesIn p c)) c (colours-up p (pairEdges p q c d) (edgesIn p c) (pair-inside-p c d)) (edges-in-colours p c)
 
   pair-colours-q : (c d : ℕ) → inside (coloursOf q (pairEdges p q c d)) d ≡ true
-  pair-colours-q c d =
-      let m = pairEdges p q c d in
-      all-inside (coloursOf q m) d (λ x t. let r = colours-some q m x t in pair-some c d (r .0) (r .2) .2 x (r .3))
+  pair-colours-q c d = inside-trans (coloursOf q (pairEdges p q c d)) (coloursOf q (edgesIn q d)) d (colours-up q (pairEdges p q c d) (edgesIn q d) (pair-inside-q c d)) (edges-in-colours q d)
 
   -- ---- exactly these colours
   pub exactly-p : (c d m : ℕ) → exactly p q c d m ≡ true → coloursOf p m ≡ c
@@ -133,7 +127,7 @@ module _ (p q : Policy) where
         same : (x : ℕ) → isCycle p x ≡ true → differs (accepting p x) (accepting q x) ≡ false
         same x cy =
             not-true (differs (accepting p x) (accepting q x))
-            (all-each (λ (z : ℕ). not (differs (accepting p z) (accepting q z))) (cyclesIn p (full p)) s x (mem-cycles p (full p) x cy (inside-full p (k .legal-p) x cy)))
+            (all-each (λ (z : ℕ). not (differs (accepting p z) (accepting q z))) (cyclesIn p (full p)) s x (mem-cycles p (full p) x cy (inside-full p x cy)))
 
         none : differs (inFamily p c) (inFamily q d) ≡ true → (v : ℕ) → v < p .states → freeAt p q c d v ≡ true
         none t v l =
@@ -175,7 +169,8 @@ module _ (p q : Policy) where
         into =
             all-inside x m
             (λ e h. let l = cycle-edge p x cy e h in
-            some-pair c d e l (λ z i. some-colours p x e z l h i) (λ z i. some-colours q x e z (subst (λ (n : ℕ). e < n) (same-edges p q (k .same-graph)) l) h i))
+            let l′ = subst (λ (n : ℕ). e < n) (same-edges p q (k .same-graph)) l in
+            some-pair c d e (some-edges-in p c e l (λ z i. some-colours p x e z l h i)) (some-edges-in q d e l′ (λ z i. some-colours q x e z l′ h i)))
 
         y : ℕ
         y = cycleThrough p m v

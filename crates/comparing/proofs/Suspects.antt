@@ -1,6 +1,6 @@
 -- Which pairs of colour sets are looked at, and by which tables: a pair is suspect only if its edges have all of its colours, in p already those in the colours c alone; any other
 -- pair agrees. Assumes nothing.
-use Prim.Native.Nat.{ℕ, _^_, _<_}
+use Prim.Native.Nat.{ℕ, _^_}
 use mathlib.Core.Path.{_≡_, refl, sym, ap, ap₂, _∙_, subst}
 use mathlib.Core.Logic.{_⊎_, inl, inr, _≢_}
 use mathlib.Core.Bool.{Bool, true, false, not, _&&_, _||_, true≢false, Bool·beq}
@@ -8,65 +8,30 @@ use mathlib.Core.List.{List}
 use lib.Bits.{bitAnd}
 use lib.Dec.{eqb}
 use lib.ListN.{getD}
-use Rattle.lists.specs.Lists.{all, below}
-use Rattle.lists.proofs.Bools.{test, and-l, and-r, both, bool-ext, and-absent, and-implied}
-use Rattle.lists.proofs.Lists.{all-each, each-all}
-use Rattle.masks.specs.Masks.{has, inside}
-use Rattle.masks.proofs.Bits.{has-and, mask-ext, all-inside, inside-antisym}
-use Rattle.masks.proofs.MaskOf.{has-mask-of}
+use Rattle.lists.specs.Lists.{below}
+use Rattle.lists.proofs.Bools.{test, and-l, and-absent, and-implied}
+use Rattle.lists.proofs.Lists.{each-all}
+use Rattle.lists.specs.Bools.{differs}
+use Rattle.masks.specs.Masks.{inside}
+use Rattle.masks.proofs.Bits.{inside-antisym}
 use Rattle.policy.specs.declared.Policy.{Policy}
-use Rattle.policy.specs.Policies.{edges, edgeColours, coloursOf, inFamily}
+use Rattle.policy.specs.Policies.{coloursOf, inFamily}
 use Rattle.policy.specs.ByColour.{edgesIn, tableEdges, tableColours}
-use Rattle.policy.proofs.Laws.{colours-some, colours-up}
-use Rattle.policy.proofs.ByColour.{table-edges-are, table-colours-are, edges-in-some, some-edges-in}
-use Rattle.forest.specs.Forest.{differs}
-use Rattle.comparing.specs.Pairs.{Comparable, Tables, inPair, pairEdges, exactly, isFree, suspect, pairAgrees, setAgrees, exactlyBy, suspectBy}
-use Rattle.comparing.proofs.Graphs.{same-edges}
-use Rattle.comparing.proofs.Pairs.{pair-some, exactly-p, exactly-q, free-missing}
+use Rattle.policy.proofs.Laws.{colours-up}
+use Rattle.policy.proofs.ByColour.{table-edges-are, table-colours-are, edges-in-colours}
+use Rattle.comparing.specs.Pairs.{Tables, pairEdges, exactly, isFree, suspect, pairAgrees, setAgrees, exactlyBy, suspectBy}
+use Rattle.comparing.proofs.Pairs.{pair-inside-p, exactly-p, exactly-q, free-missing}
 
 module _ (p q : Policy) where
-  -- ---- the edges with colours in c and d, by those in c and those in d
-  pub pair-edges-are : Comparable p q → (c d : ℕ) → bitAnd (edgesIn p c) (edgesIn q d) ≡ pairEdges p q c d
-  unfolding pairEdges inPair
-  pair-edges-are k c d = mask-ext m (pairEdges p q c d) (λ e. bool-ext (has m e) (has (pairEdges p q c d) e) (there e) (back e))
-    where
-      m : ℕ
-      m = bitAnd (edgesIn p c) (edgesIn q d)
-
-      there : (e : ℕ) → has m e ≡ true → has (pairEdges p q c d) e ≡ true
-      there e h =
-          let t : has (edgesIn p c) e && has (edgesIn q d) e ≡ true = sym (has-and e (edgesIn p c) (edgesIn q d)) ∙ h in
-          let a = edges-in-some p c e (and-l (has (edgesIn p c) e) (has (edgesIn q d) e) t) in
-          let b = edges-in-some q d e (and-r (has (edgesIn p c) e) (has (edgesIn q d) e) t) in
-          has-mask-of (inPair p q c d) (edges p) e (a .0) ∙ both (all (has c) (edgeColours p e)) (all (has d) (edgeColours q e)) (a .1) (b .1)
-
-      back : (e : ℕ) → has (pairEdges p q c d) e ≡ true → has m e ≡ true
-      back e h =
-          let r = pair-some p q c d e h in
-          has-and e (edgesIn p c) (edgesIn q d)
-          ∙ both (has (edgesIn p c) e) (has (edgesIn q d) e)
-          (some-edges-in p c e (r .0) (each-all (has c) (edgeColours p e) (r .1)))
-          (some-edges-in q d e (subst (λ (n : ℕ). e < n) (same-edges p q (k .same-graph)) (r .0)) (each-all (has d) (edgeColours q e) (r .2)))
-
-  pair-inside : Comparable p q → (c d : ℕ) → inside (pairEdges p q c d) (edgesIn p c) ≡ true
-  pair-inside k c d =
-      all-inside (pairEdges p q c d) (edgesIn p c)
-      (λ e h. and-l (has (edgesIn p c) e) (has (edgesIn q d) e) (sym (has-and e (edgesIn p c) (edgesIn q d)) ∙ ap (λ (m : ℕ). has m e) (pair-edges-are k c d) ∙ h))
-
-  colours-within : (c : ℕ) → inside (coloursOf p (edgesIn p c)) c ≡ true
-  colours-within c =
-      all-inside (coloursOf p (edgesIn p c)) c
-      (λ x h. let r = colours-some p (edgesIn p c) x h in all-each (has c) (edgeColours p (r .0)) (edges-in-some p c (r .0) (r .2) .1) x (r .3))
-
   -- ---- where the edges of a pair have all of its colours
-  whole-p : Comparable p q → (c d : ℕ) → exactly p q c d (pairEdges p q c d) ≡ true → coloursOf p (edgesIn p c) ≡ c
-  whole-p k c d t =
-      inside-antisym (coloursOf p (edgesIn p c)) c (colours-within c)
-      (subst (λ (s : ℕ). inside s (coloursOf p (edgesIn p c)) ≡ true) (exactly-p p q c d (pairEdges p q c d) t) (colours-up p (pairEdges p q c d) (edgesIn p c) (pair-inside k c d)))
+  whole-p : (c d : ℕ) → exactly p q c d (pairEdges p q c d) ≡ true → coloursOf p (edgesIn p c) ≡ c
+  whole-p c d t =
+      inside-antisym (coloursOf p (edgesIn p c)) c (edges-in-colours p c)
+      (subst (λ (s : ℕ). inside s (coloursOf p (edgesIn p c)) ≡ true) (exactly-p p q c d (pairEdges p q c d) t) (colours-up p (pairEdges p q c d) (edgesIn p c) (pair-inside-p p q c d)))
 
-  whole-q : Comparable p q → (c d : ℕ) → exactly p q c d (pairEdges p q c d) ≡ true → inside d (coloursOf q (edgesIn p c)) ≡ true
-  whole-q k c d t =
-      subst (λ (s : ℕ). inside s (coloursOf q (edgesIn p c)) ≡ true) (exactly-q p q c d (pairEdges p q c d) t) (colours-up q (pairEdges p q c d) (edgesIn p c) (pair-inside k c d))
+  whole-q : (c d : ℕ) → exactly p q c d (pairEdges p q c d) ≡ true → inside d (coloursOf q (edgesIn p c)) ≡ true
+  whole-q c d t =
+      subst (λ (s : ℕ). inside s (coloursOf q (edgesIn p c)) ≡ true) (exactly-q p q c d (pairEdges p q c d) t) (colours-up q (pairEdges p q c d) (edgesIn p c) (pair-inside-p p q c d))
 
   -- ---- suspect pairs
   -- a pair that is not suspect agrees
@@ -86,12 +51,12 @@ module _ (p q : Policy) where
       ap (λ (b : Bool). not b || isFree p q c d) (and-l (differs (inFamily p c) (inFamily q d)) (exactly p q c d (pairEdges p q c d)) t)
 
   -- where the edges in the colours c have not all of them, every pair with c agrees
-  pub missing-agrees : Comparable p q → (c : ℕ) → coloursOf p (edgesIn p c) ≢ c → setAgrees p q c ≡ true
+  pub missing-agrees : (c : ℕ) → coloursOf p (edgesIn p c) ≢ c → setAgrees p q c ≡ true
   unfolding setAgrees suspect
-  missing-agrees k c h = each-all (pairAgrees p q c) (below (2 ^ q .colours)) (λ d j. clear-agrees c d (and-absent (differs (inFamily p c) (inFamily q d)) (exactly p q c d (pairEdges p q c d)) (none d (test (exactly p q c d (pairEdges p q c d))))))
+  missing-agrees c h = each-all (pairAgrees p q c) (below (2 ^ q .colours)) (λ d j. clear-agrees c d (and-absent (differs (inFamily p c) (inFamily q d)) (exactly p q c d (pairEdges p q c d)) (none d (test (exactly p q c d (pairEdges p q c d))))))
     where
       none : (d : ℕ) → (exactly p q c d (pairEdges p q c d) ≡ true) ⊎ (exactly p q c d (pairEdges p q c d) ≡ false) → exactly p q c d (pairEdges p q c d) ≡ false
-      none d (inl t) = absurd (h (whole-p k c d t))
+      none d (inl t) = absurd (h (whole-p c d t))
       none d (inr f) = f
 
   -- ---- by the tables
@@ -110,7 +75,8 @@ module _ (p q : Policy) where
 
     -- the edges of a pair
     pub pair-edges-by : (c d : ℕ) → bitAnd (tableEdges t c) (tableEdges u d) ≡ pairEdges p q c d
-    pair-edges-by c d = ap₂ bitAnd (edges-p c) (edges-q d) ∙ pair-edges-are (k .comparable) c d
+    unfolding pairEdges
+    pair-edges-by c d = ap₂ bitAnd (edges-p c) (edges-q d)
 
     pub exactly-by : (c d m : ℕ) → exactlyBy t u c d m ≡ exactly p q c d m
     unfolding exactlyBy exactly
@@ -122,7 +88,7 @@ module _ (p q : Policy) where
         ap₂ (λ (x : Bool) (y : Bool). x && inside d s && y) (ap (λ (x : Bool). differs x (getD (q .family) d false)) verdict)
         (exactly-by c d (bitAnd m (tableEdges u d)) ∙ ap (exactly p q c d) (ap (λ (x : ℕ). bitAnd x (tableEdges u d)) is ∙ pair-edges-by c d))
         ∙ and-implied (differs (inFamily p c) (inFamily q d)) (inside d s) (exactly p q c d (pairEdges p q c d))
-        (λ e. ap (inside d) (used ∙ colours-q m ∙ ap (coloursOf q) (is ∙ edges-p c)) ∙ whole-q (k .comparable) c d e)
+        (λ e. ap (inside d) (used ∙ colours-q m ∙ ap (coloursOf q) (is ∙ edges-p c)) ∙ whole-q c d e)
 
 -- ---- the tests in the code
 same-is : (a b : Bool) → differs b a ≡ not (Bool·beq a b)

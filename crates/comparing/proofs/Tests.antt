@@ -11,7 +11,8 @@ use Rattle.lists.proofs.Bools.{≡eqb, neqb}
 use Rattle.policy.specs.declared.Policy.{Policy}
 use Rattle.policy.specs.Policies.{edges, targetOf}
 use Rattle.graph.specs.Through.{cycleThrough}
-use Rattle.comparing.specs.Pairs.{sameTarget, sameTargets, pairEdges, exactly, freeAt, sameHead}
+use Rattle.graph.specs.SameGraph.{sameTarget, sameTargets}
+use Rattle.comparing.specs.Pairs.{pairEdges, exactly, freeAt, sameHead}
 
 -- ---- targets
 module _ (t u : List ℕ) where

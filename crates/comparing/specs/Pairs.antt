@@ -8,13 +8,13 @@ use lib.Bits.{bitAnd}
 use lib.Dec.{eqb}
 use lib.ListN.{getD}
 use Rattle.lists.specs.Lists.{all, below}
-use Rattle.masks.specs.Masks.{has, inside, maskOf}
+use Rattle.lists.specs.Bools.{differs}
+use Rattle.masks.specs.Masks.{inside}
 use Rattle.policy.specs.declared.Policy.{Policy}
-use Rattle.policy.specs.Policies.{edges, targetOf, edgeColours, coloursOf, inFamily, legal}
-use Rattle.policy.specs.ByColour.{byColour, tableEdges, tableColours}
+use Rattle.policy.specs.Policies.{coloursOf, inFamily, legal}
+use Rattle.policy.specs.ByColour.{byColour, tableEdges, tableColours, edgesIn}
 use Rattle.graph.specs.Through.{cycleThrough}
-use Rattle.forest.specs.Forest.{differs}
-use Rattle.comparing.specs.Comparing.{sameGraph}
+use Rattle.graph.specs.SameGraph.{sameGraph}
 
 module _ (p q : Policy) where
   -- questions 7 and 15 are answered yes
@@ -29,21 +29,10 @@ module _ (p q : Policy) where
     pub of-p : t ≡ byColour p
     pub of-q : u ≡ byColour q
 
-  -- e leads to one state in both
-  unfoldable pub sameTarget : ℕ → Bool
-  sameTarget e = eqb (targetOf p e) (targetOf q e)
-
-  unfoldable pub sameTargets : Bool
-  sameTargets = all sameTarget (below (edges p))
-
   -- ---- one pair of colour sets
-  -- e has its colours in p among c, and those in q among d
-  unfoldable pub inPair : ℕ → ℕ → ℕ → Bool
-  inPair c d e = all (has c) (edgeColours p e) && all (has d) (edgeColours q e)
-
-  -- the edges with these colours
+  -- the edges with colours in c, in p, and in d, in q
   unfoldable pub pairEdges : ℕ → ℕ → ℕ
-  pairEdges c d = maskOf (inPair c d) (edges p)
+  pairEdges c d = bitAnd (edgesIn p c) (edgesIn q d)
 
   -- m has exactly the colours c in p, and exactly d in q
   unfoldable pub exactly : ℕ → ℕ → ℕ → Bool

@@ -6,8 +6,9 @@ ghost use Prim.Native.Nat.{_<_, _≤_, _^_};
 ghost use lib.ListN.{length};
 ghost use Rattle.policy.specs.Policies.{inFamily, legal};
 ghost use Rattle.graph.specs.Through.{Rows};
-ghost use Rattle.comparing.specs.Comparing.{sameGraph, comparison};
-ghost use Rattle.comparing.specs.Pairs.{Comparable, Tables, sameTargets, pairEdges, exactlyBy, suspectBy, freeAt, isFree, setAgrees, pairsAgree};
+ghost use Rattle.graph.specs.SameGraph.{sameGraph, sameTargets};
+ghost use Rattle.comparing.specs.Comparing.{comparison};
+ghost use Rattle.comparing.specs.Pairs.{Comparable, Tables, pairEdges, exactlyBy, suspectBy, freeAt, isFree, setAgrees, pairsAgree};
 use policy::Policy;
 
 // Whether every cycle has the same verdict in both; or document 01's number.

@@ -10,12 +10,12 @@ use denote.Ref.{RefT}
 use Rattle.masks.specs.Masks.{has, insert, inside, properly, members, submasks, setOf}
 use Rattle.tables.specs.Tables.{padded, zeros}
 use Rattle.policy.specs.declared.Policy.{Policy}
-use Rattle.policy.specs.Policies.{edges, edgeOf, source, targetOf, colourOf, edgeColours, coloursOf, inFamily, accepting, countsFit, legalCounts, legalEdge, legalEdges, legalSet, legalFamily, legalGraph, legal}
+use Rattle.policy.specs.Policies.{edges, edgeOf, source, targetOf, colourOf, edgeColours, coloursOf, inFamily, accepting, countsFit, legalCounts, legalEdge, legalEdges, legalSet, legalFamily, legalGraph, legal, full}
 use Rattle.policy.specs.Making.{counted, zeroPolicy, withEdge, withSet, withTables}
 use Rattle.reading.specs.Reading.{operandCount, commandAt, isShape, isEnd, operandsThere, inPlace, withinLimits, firstTime, allGiven, completeAtEnd, emptyDraft, after, nextOffset, refusedAt, readUpTo, readMost, readingFrom, readingOf as bytesReadingOf, refusalOf as readRefusalOf, offsetOf, numberOf as readNumberOf}
 use Rattle.reading.specs.declared.Answer.{Answer}
-use Rattle.graph.specs.Cycles.{spread, closure, reach, isCycle, contains}
-use Rattle.forest.specs.Forest.{before, place, inOrder, largest, full, cyclesIn, roots, opposed, children, trees, tree, forest, priority, transientPriority, node, upFrom, chain, childOf, inRoot, nodeMasks, nodeParents, nodePriorities}
+use Rattle.graph.specs.Cycles.{spread, closure, reach, isCycle, contains, cyclesIn}
+use Rattle.forest.specs.Forest.{before, place, inOrder, largest, roots, opposed, children, trees, tree, forest, priority, transientPriority, node, upFrom, chain, childOf, inRoot, nodeMasks, nodeParents, nodePriorities}
 use Rattle.automaton.specs.Automaton.{places, next, holds, kids, isLeaf, leaves, firstLeaf, statesOver, builtStates, deepest, lead, entered, firstLeafBelow, leafAfter, priorityAfter, built, stateAt, number, start, rowTarget, rowPriority, rowTargets, rowPriorities, stateSources, stateLeaves}
 use Rattle.decomposition.specs.NodeTables as node-tables
 use Rattle.builder.specs.Tables.{Tables, Hold, countsOf, numberOf as translateNumberOf, lengthsFit, nodesFit, statesFit, filled, cleared, translationOf, tablesAfter}

@@ -4,9 +4,9 @@ use mathlib.Core.List.{map}
 use Rattle.recurrence.specs.Iterates.{iter, rounds}
 use Rattle.recurrence.specs.Runs.{after, met, window}
 use Rattle.masks.specs.Masks.{has, insert, inside, properly, setOf, members, submasks}
-use Rattle.policy.specs.Policies.{edges, edgeOf, source, targetOf, colourOf, edgeColours, coloursOf, inFamily, accepting}
-use Rattle.graph.specs.Cycles.{spread, closure, reach, isCycle, contains}
-use Rattle.forest.specs.Forest.{before, place, inOrder, largest, full, cyclesIn, roots, opposed, children, trees, tree, forest, priority, transientPriority, node, upFrom, chain, childOf, inRoot}
+use Rattle.policy.specs.Policies.{edges, edgeOf, source, targetOf, colourOf, edgeColours, coloursOf, inFamily, accepting, full}
+use Rattle.graph.specs.Cycles.{spread, closure, reach, isCycle, contains, cyclesIn}
+use Rattle.forest.specs.Forest.{before, place, inOrder, largest, roots, opposed, children, trees, tree, forest, priority, transientPriority, node, upFrom, chain, childOf, inRoot}
 use Rattle.automaton.specs.Automaton.{next, holds, kids, isLeaf, leaves, firstLeaf, statesOver, builtStates, deepest, lead, entered, firstLeafBelow, leafAfter, priorityAfter, built, stateAt, number, start, rowTarget, rowPriority, rowTargets, rowPriorities}
 use Rattle.running.specs.Running.{rowStates, shaped, refusalOf, readingOf, rowStep, rowMeets}
 use Rattle.judging.specs.Judging.{leastOf, leastRecurring}

@@ -14,13 +14,14 @@ use borrow.Author.Tests.{le-leb, lt-leb}
 use Rattle.lists.specs.Lists.{filter, below}
 use Rattle.lists.proofs.Bools.{test}
 use Rattle.lists.proofs.Lists.{length-below, flat-few, replicate-at}
+use Rattle.lists.specs.Bools.{differs}
 use Rattle.tables.specs.Tables.{padded, zeros}
 use Rattle.tables.proofs.Tables.{zeros-padded, zeros-same, length-zeros, getD-padded, padded-more}
 use Rattle.tables.proofs.Stores.{sets-padded}
 use Rattle.policy.specs.declared.Policy.{Policy}
 use Rattle.policy.specs.Policies.{accepting, legal}
 use Rattle.decomposition.specs.declared.nodes.Filled.the-variants.{Nodes, TooMany}
-use Rattle.forest.specs.Forest.{Node, differs, forest, mostLevels, node, priority}
+use Rattle.forest.specs.Forest.{Node, forest, mostLevels, node, priority}
 use Rattle.forest.specs.Laws.{ForestLaws, maskAt, parentAt, rootAt}
 use Rattle.candidates.specs.Candidates.{candidatesOf, coloursAt, candidates, judged}
 use Rattle.decomposition.specs.NodeTables.{Sought, Cleared, Written, Lent, Spare, Space, nodeTables, nodesFit, fillingOf, filledOf}

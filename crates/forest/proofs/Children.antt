@@ -1,6 +1,6 @@
 -- The roots and the children of a mask: what they are, that they stand in sibling order, and that a cycle lies inside one of them. A child
 -- has fewer edges and fewer colours than its parent. Assumes nothing.
-use Prim.Native.Nat.{ℕ, _-_, _^_, _≤_, _<_}
+use Prim.Native.Nat.{ℕ, _-_, _≤_, _<_}
 use mathlib.Core.Path.{_≡_, sym, ap, _∙_}
 use mathlib.Core.Logic.{_⊎_, inl, inr}
 use mathlib.Core.Bool.{Bool, true, false, not}
@@ -9,52 +9,27 @@ use lib.Dec.{eqb}
 use lib.Bits.{bitOr}
 use lib.Count.{ones, ones-le}
 use Rattle.lists.specs.Lists.{Ascending}
-use Rattle.lists.proofs.Bools.{neqb, both, or-left, or-right, not-true, not-itself}
+use Rattle.lists.proofs.Bools.{neqb, both, or-left, or-right, not-itself, differs-not, differs-other}
 use Rattle.lists.proofs.Lists.{filter-mem, mem-filter, ascending-filter}
-use Rattle.masks.specs.Masks.{has, inside, properly, submasks}
-use Rattle.masks.proofs.Bits.{has-or, has-full, inside-all, all-inside, ones-inside}
-use Rattle.masks.proofs.Submasks.{submasks-part, part-submasks, ascending-submasks}
+use Rattle.lists.specs.Bools.{differs}
+use Rattle.masks.specs.Masks.{has, inside, properly}
+use Rattle.masks.proofs.Bits.{has-or, inside-all, all-inside, ones-inside}
 use Rattle.policy.specs.declared.Policy.{Policy}
-use Rattle.policy.specs.Policies.{edges, coloursOf, accepting}
+use Rattle.policy.specs.Policies.{edges, coloursOf, accepting, full}
 use Rattle.policy.proofs.Laws.{colours-up, accepting-colours}
-use Rattle.graph.specs.Cycles.{isCycle, contains}
-use Rattle.graph.proofs.Cycles.{Targets, cycle-edge, cycle-lt, union-cycle}
-use Rattle.forest.specs.Forest.{differs, full, cyclesIn, roots, opposed, children}
+use Rattle.graph.specs.Cycles.{isCycle, contains, cyclesIn}
+use Rattle.graph.proofs.Cycles.{Targets, cycle-lt, union-cycle}
+use Rattle.graph.proofs.Inside.{cycles-mem, mem-cycles, ascending-cycles, inside-full}
+use Rattle.forest.specs.Forest.{roots, opposed, children}
 use Rattle.forest.specs.Laws.{Ordered}
 use Rattle.forest.proofs.Largest.{inside-same, largest-order-mem, in-largest-order, largest-ordered, kept-is}
 
-differs-not : (a b : Bool) → differs a b ≡ true → b ≡ not a
-differs-not true b t = not-true b t
-differs-not false b t = t
-
-pub differs-other : (a b : Bool) → b ≡ not a → differs a b ≡ true
-differs-other true b t = ap not t
-differs-other false b t = t
-
 module _ (p : Policy) where
   -- ---- the cycles inside a mask
-  pub cycles-mem : (m x : ℕ) → List·Memᴰ x (cyclesIn p m) → (isCycle p x ≡ true) × (inside x m ≡ true)
-  unfolding cyclesIn
-  cycles-mem m x k =
-      let r = filter-mem (isCycle p) (submasks (edges p) m) x k in
-      (r .1, all-inside x m (λ e t. submasks-part (edges p) m x (r .0) e t .0))
-
-  pub mem-cycles : (m x : ℕ) → isCycle p x ≡ true → inside x m ≡ true → List·Memᴰ x (cyclesIn p m)
-  unfolding cyclesIn
-  mem-cycles m x c i = mem-filter (isCycle p) (submasks (edges p) m) x (part-submasks (edges p) m x (λ e t. (inside-all x m i e t, cycle-edge p x c e t))) c
-
-  pub ascending-cycles : (m : ℕ) → Ascending (cyclesIn p m)
-  unfolding cyclesIn
-  ascending-cycles m = ascending-filter (isCycle p) (submasks (edges p) m) (ascending-submasks (edges p) m)
-
-  inside-full : (x : ℕ) → isCycle p x ≡ true → inside x (full p) ≡ true
-  unfolding full
-  inside-full x c = all-inside x (2 ^ edges p - 1) (λ e t. has-full (edges p) e (cycle-edge p x c e t))
-
   -- ---- roots
   pub root-cycle : (r : ℕ) → List·Memᴰ r (roots p) → isCycle p r ≡ true
   unfolding roots
-  root-cycle r k = cycles-mem (full p) r (largest-order-mem (cyclesIn p (full p)) r k .0) .0
+  root-cycle r k = cycles-mem p (full p) r (largest-order-mem (cyclesIn p (full p)) r k .0) .0
 
   pub root-few : (r : ℕ) → List·Memᴰ r (roots p) → ones r ≤ edges p
   root-few r k = ones-le (edges p) r (cycle-lt p r (root-cycle r k))
@@ -62,12 +37,12 @@ module _ (p : Policy) where
   -- every cycle lies inside some root
   pub in-root : (x : ℕ) → isCycle p x ≡ true → (r : ℕ) × List·Memᴰ r (roots p) × (inside x r ≡ true)
   unfolding roots
-  in-root x c = in-largest-order (cyclesIn p (full p)) x (mem-cycles (full p) x c (inside-full x c))
+  in-root x c = in-largest-order (cyclesIn p (full p)) x (mem-cycles p (full p) x c (inside-full p x c))
 
   -- a root lies properly inside no cycle
   pub root-largest : (r x : ℕ) → List·Memᴰ r (roots p) → isCycle p x ≡ true → inside r x ≡ true → r ≡ x
   unfolding roots
-  root-largest r x k c i = inside-same r x i (largest-order-mem (cyclesIn p (full p)) r k .1 x (mem-cycles (full p) x c (inside-full x c)))
+  root-largest r x k c i = inside-same r x i (largest-order-mem (cyclesIn p (full p)) r k .1 x (mem-cycles p (full p) x c (inside-full p x c)))
 
   -- two roots that contain a common state are one: together they are a cycle
   pub root-unique : Targets p → (r s : ℕ) → List·Memᴰ r (roots p) → List·Memᴰ s (roots p) → (v : ℕ) → contains p v r ≡ true → contains p v s ≡ true → r ≡ s
@@ -80,7 +55,7 @@ module _ (p : Policy) where
 
   pub ordered-roots : Ordered (roots p)
   unfolding roots
-  ordered-roots = largest-ordered (cyclesIn p (full p)) (ascending-cycles (full p))
+  ordered-roots = largest-ordered (cyclesIn p (full p)) (ascending-cycles p (full p))
 
   -- a list of cycles in sibling order, none properly inside another, with one above each cycle: the roots
   pub roots-are : (kept : List ℕ) → ((x : ℕ) → List·Memᴰ x kept → isCycle p x ≡ true)
@@ -88,7 +63,7 @@ module _ (p : Policy) where
       → ((x y : ℕ) → List·Memᴰ x kept → List·Memᴰ y kept → properly x y ≡ false) → Ordered kept → kept ≡ roots p
   unfolding roots
   roots-are kept part above apart o =
-      kept-is (cyclesIn p (full p)) kept (λ x k. mem-cycles (full p) x (part x k) (inside-full x (part x k))) (λ x k. above x (cycles-mem (full p) x k .0)) apart (ascending-cycles (full p)) o
+      kept-is (cyclesIn p (full p)) kept (λ x k. mem-cycles p (full p) x (part x k) (inside-full p x (part x k))) (λ x k. above x (cycles-mem p (full p) x k .0)) apart (ascending-cycles p (full p)) o
 
   -- ---- the cycles inside a mask with the other verdict
   abbrev other : ℕ → ℕ → Bool
@@ -98,16 +73,16 @@ module _ (p : Policy) where
   unfolding opposed
   opposed-mem m x k =
       let r = filter-mem (other m) (cyclesIn p m) x k in
-      let c = cycles-mem m x (r .0) in
+      let c = cycles-mem p m x (r .0) in
       (c .0, c .1, differs-not (accepting p m) (accepting p x) (r .1))
 
   pub mem-opposed : (m x : ℕ) → isCycle p x ≡ true → inside x m ≡ true → accepting p x ≡ not (accepting p m) → List·Memᴰ x (opposed p m)
   unfolding opposed
-  mem-opposed m x c i t = mem-filter (other m) (cyclesIn p m) x (mem-cycles m x c i) (differs-other (accepting p m) (accepting p x) t)
+  mem-opposed m x c i t = mem-filter (other m) (cyclesIn p m) x (mem-cycles p m x c i) (differs-other (accepting p m) (accepting p x) t)
 
   ascending-opposed : (m : ℕ) → Ascending (opposed p m)
   unfolding opposed
-  ascending-opposed m = ascending-filter (other m) (cyclesIn p m) (ascending-cycles m)
+  ascending-opposed m = ascending-filter (other m) (cyclesIn p m) (ascending-cycles p m)
 
   -- ---- children
   pub record Child (m c : ℕ) : Type 0 where

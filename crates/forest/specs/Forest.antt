@@ -1,15 +1,16 @@
 -- The forest of a policy (document 01, "Cycles and the forest"): the alternating cycle decomposition of document 004, Definitions 5.1 and 5.3.
-use Prim.Native.Nat.{ℕ, zero, suc, _+_, _-_, _%_, _^_}
-use mathlib.Core.Bool.{Bool, true, false, not, _&&_, cond}
+use Prim.Native.Nat.{ℕ, zero, suc, _+_, _%_}
+use mathlib.Core.Bool.{Bool, false, not, _&&_, cond}
 use mathlib.Core.List.{List, [], _∷_, _++_, map}
 use lib.Count.{ones}
 use lib.Dec.{eqb, ltb}
 use lib.ListN.{length, getD}
 use Rattle.lists.specs.Lists.{any, filter}
-use Rattle.masks.specs.Masks.{has, properly, submasks}
+use Rattle.lists.specs.Bools.{differs}
+use Rattle.masks.specs.Masks.{has, properly}
 use Rattle.policy.specs.declared.Policy.{Policy}
-use Rattle.policy.specs.Policies.{edges, coloursOf, accepting}
-use Rattle.graph.specs.Cycles.{isCycle}
+use Rattle.policy.specs.Policies.{edges, coloursOf, accepting, full}
+use Rattle.graph.specs.Cycles.{cyclesIn}
 
 -- ---- siblings
 -- the sibling order: by ascending mask
@@ -30,25 +31,14 @@ inOrder (m ∷ ms) = place m (inOrder ms)
 unfoldable pub largest : List ℕ → List ℕ
 largest l = filter (λ x. not (any (properly x) l)) l
 
-abbrev pub differs : Bool → Bool → Bool
-differs true b = not b
-differs false b = b
-
 module _ (p : Policy) where
-  -- all edges
-  unfoldable pub full : ℕ
-  full = 2 ^ edges p - 1
-
-  unfoldable pub cyclesIn : ℕ → List ℕ
-  cyclesIn m = filter (isCycle p) (submasks (edges p) m)
-
   -- the roots: the largest cycles (Definition 5.3)
   unfoldable pub roots : List ℕ
-  roots = inOrder (largest (cyclesIn full))
+  roots = inOrder (largest (cyclesIn p (full p)))
 
   -- the cycles inside n with the other verdict
   unfoldable pub opposed : ℕ → List ℕ
-  opposed n = let a = accepting p n in filter (λ m. differs a (accepting p m)) (cyclesIn n)
+  opposed n = let a = accepting p n in filter (λ m. differs a (accepting p m)) (cyclesIn p n)
 
   -- the children of n: the largest of them (Definition 5.1)
   unfoldable pub children : ℕ → List ℕ

@@ -1,5 +1,6 @@
 pub mod Paths
 pub mod Cycles
-pub mod Coloured
 pub mod Through
 pub mod CodeLaws
+pub mod Inside
+pub mod SameGraph

@@ -5,8 +5,8 @@ use mathlib.Core.Logic.{_↔_}
 use mathlib.Core.Bool.{Bool, true, not, _&&_, cond}
 use mathlib.Core.List.{List, [], _∷_, List·Memᴰ}
 use lib.Dec.{eqb, ltb}
-use Rattle.lists.specs.Lists.{any, all, below}
-use Rattle.masks.specs.Masks.{has, insert, members}
+use Rattle.lists.specs.Lists.{any, all, filter, below}
+use Rattle.masks.specs.Masks.{has, insert, members, submasks}
 use Rattle.policy.specs.declared.Policy.{Policy}
 use Rattle.policy.specs.Policies.{edges, source, targetOf}
 
@@ -45,3 +45,7 @@ module _ (p : Policy) where
   -- a set of edges contains a state if one of them leaves it
   unfoldable pub contains : ℕ → ℕ → Bool
   contains v m = any (λ e. eqb (source p e) v) (members (edges p) m)
+
+  -- the cycles inside m, ascending
+  unfoldable pub cyclesIn : ℕ → List ℕ
+  cyclesIn m = filter isCycle (submasks (edges p) m)

@@ -1,3 +1,3 @@
 pub mod Cycles
-pub mod Coloured
 pub mod Through
+pub mod SameGraph

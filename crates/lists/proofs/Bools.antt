@@ -4,6 +4,7 @@ use mathlib.Core.Path.{_≡_, refl, sym, ap}
 use mathlib.Core.Logic.{_⊎_, inl, inr, _≢_}
 use mathlib.Core.Bool.{Bool, true, false, not, _&&_, _||_, cond, true≢false, false≢true}
 use lib.Dec.{T, eqb, ltb, leb, eqb→eq, eqb-refl, ltb→lt, nltb→le, leb→le, nleb→lt}
+use Rattle.lists.specs.Bools.{differs}
 
 -- a Boolean is one or the other, with the equation
 pub test : (b : Bool) → (b ≡ true) ⊎ (b ≡ false)
@@ -119,3 +120,25 @@ same-or-not true true = inl refl
 same-or-not true false = inr refl
 same-or-not false true = inr refl
 same-or-not false false = inl refl
+
+-- ---- two answers that differ, or agree
+pub differs-not : (a b : Bool) → differs a b ≡ true → b ≡ not a
+differs-not true b t = not-true b t
+differs-not false b t = t
+
+pub differs-other : (a b : Bool) → b ≡ not a → differs a b ≡ true
+differs-other true b t = ap not t
+differs-other false b t = t
+
+pub differs-same : (a b : Bool) → b ≡ a → differs a b ≡ false
+differs-same true b e = ap not e
+differs-same false b e = e
+
+pub agrees-same : (a b : Bool) → not (differs a b) ≡ true → b ≡ a
+agrees-same true true t = refl
+agrees-same true false t = absurd (false≢true t)
+agrees-same false true t = absurd (false≢true t)
+agrees-same false false t = refl
+
+pub same-agrees : (a b : Bool) → b ≡ a → not (differs a b) ≡ true
+same-agrees a b e = ap not (differs-same a b e)

@@ -1,25 +1,25 @@
 -- The table of the edges by colour: one turn of each loop over it, and that it gives the edges of a colour set and the colours of an edge set. Assumes nothing.
-use Prim.Native.Nat.{ℕ, zero, suc, _+_, _<_}
+use Prim.Native.Nat.{ℕ, zero, suc, _+_, _-_, _^_, _<_}
 use native.Mathlib.Omega.{arith}
 use native.Mathlib.Decide.{ℕ-discrete}
 use native.Mathlib.Numerals.{add-one}
 use mathlib.Core.Path.{_≡_, refl, sym, ap, ap₂, _∙_, subst}
 use mathlib.Core.Logic.{_⊎_, inl, inr, _≢_}
-use mathlib.Core.Bool.{Bool, true, false, not, _&&_, cond, true≢false, false≢true, and-true}
-use mathlib.Core.List.{List}
+use mathlib.Core.Bool.{Bool, true, false, not, _&&_, cond, true≢false, false≢true}
+use mathlib.Core.List.{List, List·Memᴰ}
 use lib.Bits.{bitAnd, bitOr}
 use lib.Dec.{eqb}
 use lib.ListN.{length, getD, set, replicate, length-set}
 use lib.Seq.{ext-getD, getD-set-same, getD-set-other}
 use Rattle.lists.specs.Lists.{all}
 use Rattle.lists.proofs.Bools.{test, and-l, and-r, both, or-cases, or-left, or-right, eqb≡, ≡eqb, neqb, bool-ext}
-use Rattle.lists.proofs.Lists.{getD-map-below}
-use Rattle.masks.specs.Masks.{has, insert, maskOf}
-use Rattle.masks.proofs.Bits.{has-and, has-or, has-none, has-insert, mask-ext}
+use Rattle.lists.proofs.Lists.{getD-map-below, all-each, each-all}
+use Rattle.masks.specs.Masks.{has, insert, maskOf, inside}
+use Rattle.masks.proofs.Bits.{has-and, has-or, has-none, has-insert, mask-ext, has-full, all-inside}
 use Rattle.masks.proofs.MaskOf.{has-mask-of, mask-of-in, mask-of-out, mask-of-some}
 use Rattle.masks.proofs.Members.{none-zero}
 use Rattle.policy.specs.declared.Policy.{Policy}
-use Rattle.policy.specs.Policies.{edges, colourOf, edgeColours, coloursOf, inFamily, accepting, legal}
+use Rattle.policy.specs.Policies.{edges, colourOf, edgeColours, coloursOf, inFamily, accepting, legal, full}
 use Rattle.policy.specs.ByColour.{hasColour, edgesIn, byColourTo, byColour, tableEdgesTo, tableEdges, tableColoursTo, tableColours}
 use Rattle.policy.proofs.Laws.{legal-counts, legal-colour, edge-colour-is, is-edge-colour, colours-some, some-colours}
 
@@ -175,17 +175,20 @@ module _ (p : Policy) where
   some-table c e l h q = ap (λ (m : ℕ). has m e) (by-at (p .colour) (edges p) c l) ∙ has-mask-of (hasColour (p .colour) c) (edges p) e h ∙ of-colour (p .colour) c e q
 
   -- ---- the edges of a colour set
-  pub edges-in-some : (c e : ℕ) → has (edgesIn p c) e ≡ true → (e < edges p) × (all (has c) (edgeColours p e) ≡ true)
+  pub edges-in-some : (c e : ℕ) → has (edgesIn p c) e ≡ true → (e < edges p) × ((d : ℕ) → List·Memᴰ d (edgeColours p e) → has c d ≡ true)
   unfolding edgesIn
-  edges-in-some c e h = mask-of-some (λ (e : ℕ). all (has c) (edgeColours p e)) (edges p) e h
+  edges-in-some c e h = let r = mask-of-some (λ (e : ℕ). all (has c) (edgeColours p e)) (edges p) e h in (r .0, all-each (has c) (edgeColours p e) (r .1))
 
-  pub some-edges-in : (c e : ℕ) → e < edges p → all (has c) (edgeColours p e) ≡ true → has (edgesIn p c) e ≡ true
+  pub some-edges-in : (c e : ℕ) → e < edges p → ((d : ℕ) → List·Memᴰ d (edgeColours p e) → has c d ≡ true) → has (edgesIn p c) e ≡ true
   unfolding edgesIn
-  some-edges-in c e l h = has-mask-of (λ (e : ℕ). all (has c) (edgeColours p e)) (edges p) e l ∙ h
+  some-edges-in c e l h = has-mask-of (λ (e : ℕ). all (has c) (edgeColours p e)) (edges p) e l ∙ each-all (has c) (edgeColours p e) h
 
-  colours-one : (c e : ℕ) → all (has c) (edgeColours p e) ≡ has c (colourOf p e)
-  unfolding edgeColours
-  colours-one c e = and-true (has c (colourOf p e))
+  pub edges-in-full : (c : ℕ) → inside (edgesIn p c) (full p) ≡ true
+  unfolding full
+  edges-in-full c = all-inside (edgesIn p c) (2 ^ edges p - 1) (λ e h. has-full (edges p) e (edges-in-some c e h .0))
+
+  pub edges-in-colours : (c : ℕ) → inside (coloursOf p (edgesIn p c)) c ≡ true
+  edges-in-colours c = all-inside (coloursOf p (edgesIn p c)) c (λ d t. let r = colours-some p (edgesIn p c) d t in edges-in-some c (r .0) (r .2) .1 d (r .3))
 
   module _ (lawful : legal p ≡ true) where
     pub colour-few : (e : ℕ) → e < edges p → colourOf p e < 8
@@ -200,13 +203,13 @@ module _ (p : Policy) where
         there e h =
             let r = edges-to-some (byColour p) 8 c e h in
             let s = table-some (r .0) e (r .1) (r .3) in
-            some-edges-in c e (s .0) (colours-one c e ∙ ap (has c) (s .1) ∙ r .2)
+            some-edges-in c e (s .0) (λ d k. ap (has c) (edge-colour-is p e d k ∙ s .1) ∙ r .2)
 
         back : (e : ℕ) → has (edgesIn p c) e ≡ true → has (tableEdges (byColour p) c) e ≡ true
         back e h =
             let r = edges-in-some c e h in
             let few = colour-few e (r .0) in
-            some-edges-to (byColour p) 8 c e (colourOf p e) few (sym (colours-one c e) ∙ r .1) (some-table (colourOf p e) e few (r .0) refl)
+            some-edges-to (byColour p) 8 c e (colourOf p e) few (r .1 (colourOf p e) (is-edge-colour p e (colourOf p e) refl)) (some-table (colourOf p e) e few (r .0) refl)
 
     -- and the colours of an edge set
     pub table-colours-are : (m : ℕ) → tableColours (byColour p) m ≡ coloursOf p m

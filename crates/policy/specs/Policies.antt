@@ -1,5 +1,5 @@
 -- A policy (document 01, "A policy"): its edges, the colours and the verdict of an edge set, and which records are legal.
-use Prim.Native.Nat.{ℕ, _+_, _*_, _/_, _^_}
+use Prim.Native.Nat.{ℕ, _+_, _-_, _*_, _/_, _^_}
 use mathlib.Core.Bool.{Bool, false, not, _&&_, _||_, cond}
 use mathlib.Core.List.{List, [], _∷_, map}
 use lib.Dec.{eqb, ltb, leb}
@@ -36,6 +36,10 @@ module _ (p : Policy) where
   edgeColours e = colourOf e ∷ []
 
   -- ---- edge sets
+  -- all edges
+  unfoldable pub full : ℕ
+  full = 2 ^ edges - 1
+
   -- the set of the colours of an edge set
   unfoldable pub coloursOf : ℕ → ℕ
   coloursOf m = setOf (flat (map edgeColours (members edges m)))

@@ -6,11 +6,10 @@ use mathlib.Core.List.{List}
 use lib.ListN.{length, length-replicate}
 use native.Mathlib.Omega.{arith}
 use borrow.Author.Needs.{needs}
-use Rattle.policy.specs.Policies.{coloursOf}
+use Rattle.policy.specs.Policies.{coloursOf, full}
 use Rattle.policy.specs.ByColour.{tableColours}
 use Rattle.policy.proofs.Laws.{legal-counts, edges-le}
 use Rattle.policy.proofs.ByColour.{table-colours-are}
-use Rattle.forest.specs.Forest.{full}
 use Rattle.candidates.specs.Listed.{Listing}
 use Rattle.candidates.proofs.CandidateLaws.{full-is, sets-few, room-left, listing-none, listing-next, listing-all, found-is, found-roots}
 use Rattle.candidates.proofs.fill_candidates.Statement.{statement}

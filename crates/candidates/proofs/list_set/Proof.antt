@@ -4,9 +4,8 @@ use mathlib.Core.Bool.{Bool, false}
 use mathlib.Core.List.{List}
 use lib.ListN.{take, getD}
 use native.Mathlib.Omega.{arith}
-use Rattle.policy.specs.Policies.{inFamily}
+use Rattle.policy.specs.Policies.{inFamily, full}
 use Rattle.policy.proofs.Laws.{legal-counts}
-use Rattle.forest.specs.Forest.{full}
 use Rattle.candidates.specs.Candidates.{candidatesOf}
 use Rattle.candidates.proofs.CandidateLaws.{put-none, put-is, candidates-none, candidates-empty, kept-candidates, all-coloured, edges-are}
 use borrow.Author.Needs.{needs}

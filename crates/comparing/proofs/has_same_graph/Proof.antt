@@ -1,7 +1,7 @@
 -- `has_same_graph` meets its contract. Assumes nothing.
 use borrow.Author.Needs.{needs}
 use borrow.Author.Tests.{eq-eqb, ne-eqb}
-use Rattle.comparing.proofs.Graphs.{same-graph-is}
+use Rattle.graph.proofs.SameGraph.{same-graph-is}
 use Rattle.comparing.proofs.has_same_graph.Statement.{statement}
 use Rattle.comparing.proofs.has_same_graph.Tie as tie
 

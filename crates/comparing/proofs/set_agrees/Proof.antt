@@ -36,7 +36,7 @@ returns c =
     let s = c .before .before .before in
     let a = s .args in
     let k = s .pre .0 in (
-      sym (missing-agrees (a .p) (a .q) (k .comparable) (a .c)
+      sym (missing-agrees (a .p) (a .q) (a .c)
           (λ z. c .if1 .taken (c .before .colours-in .ensures ∙ colours-p (a .p) (a .q) (a .t .now) (a .u .now) k _ ∙ ap (coloursOf (a .p)) (c .before .before .edges-in .ensures ∙ edges-p (a .p) (a .q) (a .t .now) (a .u .now) k (a .c)) ∙ z))),
       s .pre .4,
     )

@@ -1,4 +1,4 @@
--- Two policies over one graph: they have the same edges, and the same cycles. Assumes nothing.
+-- Two policies over one graph: they have the same edges, and the same cycles. Their families do not matter. Assumes nothing.
 use Prim.Native.Nat.{ℕ, _*_, _/_, _<_}
 use mathlib.Core.Path.{_≡_, refl, sym, ap, ap₂, _∙_, subst}
 use mathlib.Core.Bool.{true, _&&_}
@@ -9,16 +9,14 @@ use Rattle.lists.proofs.Bools.{and-l, and-r, both, eqb≡, ≡eqb, bool-ext}
 use Rattle.lists.proofs.Lists.{all-each, each-all, mem-below, below-lt}
 use Rattle.policy.specs.declared.Policy.{Policy}
 use Rattle.policy.specs.Policies.{edges, source, targetOf}
-use Rattle.policy.proofs.Laws.{legal-target}
 use Rattle.graph.specs.Cycles.{Path, Cycle, isCycle}
-use Rattle.graph.proofs.Cycles.{cycle-sound, cycle-complete}
-use Rattle.comparing.specs.Comparing.{sameGraph}
-use Rattle.comparing.specs.Pairs.{Comparable, sameTarget, sameTargets}
+use Rattle.graph.proofs.Cycles.{Targets, cycle-sound, cycle-complete}
+use Rattle.graph.specs.SameGraph.{sameTarget, sameTargets, sameGraph}
 
 module _ (p q : Policy) where
-  -- ---- question 15
+  -- ---- the parts of the test
   pub same-graph-is : sameGraph p q ≡ eqb (p .states) (q .states) && eqb (p .letters) (q .letters) && sameTargets p q
-  unfolding sameGraph sameTargets sameTarget
+  unfolding sameGraph
   same-graph-is = refl
 
   same-all : sameGraph p q ≡ true → eqb (p .states) (q .states) && eqb (p .letters) (q .letters) && sameTargets p q ≡ true
@@ -67,7 +65,7 @@ module _ (p q : Policy) where
     exact = c .exact;
   }
 
--- the question does not depend on which policy stands first
+-- it does not matter which one stands first
 pub same-graph-turned : (p q : Policy) → sameGraph p q ≡ true → sameGraph q p ≡ true
 unfolding sameTargets sameTarget
 same-graph-turned p q h =
@@ -77,8 +75,13 @@ same-graph-turned p q h =
     (each-all (sameTarget q p) (below (edges q)) (λ e k. ≡eqb (targetOf q e) (targetOf p e) (sym (same-target p q h e (subst (λ (n : ℕ). e < n) (sym (same-edges p q h)) (below-lt (edges q) e k))))))
 
 -- the two have the same cycles
-pub same-cycles : (p q : Policy) → Comparable p q → (m : ℕ) → isCycle p m ≡ isCycle q m
-same-cycles p q k m =
+pub same-cycles : (p q : Policy) → Targets p → sameGraph p q ≡ true → (m : ℕ) → isCycle p m ≡ isCycle q m
+same-cycles p q targets s m =
     bool-ext (isCycle p m) (isCycle q m)
-    (λ t. cycle-complete q (legal-target q (k .legal-q)) m (same-cycle p q (k .same-graph) m (cycle-sound p m t)))
-    (λ t. cycle-complete p (legal-target p (k .legal-p)) m (same-cycle q p (same-graph-turned p q (k .same-graph)) m (cycle-sound q m t)))
+    (λ t. cycle-complete q others m (same-cycle p q s m (cycle-sound p m t)))
+    (λ t. cycle-complete p targets m (same-cycle q p (same-graph-turned p q s) m (cycle-sound q m t)))
+  where
+    others : Targets q
+    others e l =
+        let k : e < edges p = subst (λ (n : ℕ). e < n) (sym (same-edges p q s)) l in
+        subst (λ (n : ℕ). targetOf q e < n) (same-states p q s) (subst (λ (x : ℕ). x < p .states) (same-target p q s e k) (targets e k))
