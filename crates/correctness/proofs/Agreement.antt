@@ -16,8 +16,8 @@ use Rattle.running.specs.declared.Reading.{Reading}
 use Rattle.running.specs.Running.{policyStep, policyMeets, readingOf, runAfter, priorityOf, prioritiesOf, numberOf, rowStep, rowMeets}
 use Rattle.running.proofs.Steps.{reads-letter, reading-meets}
 use Rattle.correctness.specs.Calls.{Translating, Running}
-use Rattle.correctness.specs.Demand3.{builtStates, under, prioritiesMet, letterAt, Recurs, policyState, coloursMet, BuiltRun, Decided, Agreement}
-use Rattle.correctness.proofs.Rows.{Rows, StandsOver, policyRun, builtRun, RecurringColour, RecurringPriority}
+use Rattle.correctness.specs.Demand3.{stateCount, under, prioritiesMet, letterAt, Recurs, policyState, coloursMet, BuiltRun, Decided, Agreement}
+use Rattle.correctness.proofs.BuiltRows.{Rows, StandsOver, policyRun, builtRun, RecurringColour, RecurringPriority}
 use Rattle.correctness.proofs.Joint.{stands-after}
 use Rattle.correctness.proofs.Period.{settled}
 use Rattle.correctness.proofs.Translated.{Success, success-legal, stands-over, over-stands, rows-after}
@@ -116,5 +116,5 @@ module _ (t : Translating) (done : Success t) (stem loop : List ℕ) (calls : �
 
   pub agreement : Agreement stem loop t calls
   agreement =
-      let stand : (i : ℕ) → (calls i .state < builtStates t) × (under t (calls i .state) ≡ policyState stem loop p v i) = λ i. over-stands t done (runs i) (policyState stem loop p v i) (together i) in
+      let stand : (i : ℕ) → (calls i .state < stateCount t) × (under t (calls i .state) ≡ policyState stem loop p v i) = λ i. over-stands t done (runs i) (policyState stem loop p v i) (together i) in
       record { stands = λ i. stand i .0; over = λ i. stand i .1; decided = decide }

@@ -16,7 +16,7 @@ use Rattle.policy.specs.Policies.{legal}
 use Rattle.policy.proofs.Laws.{legal-counts}
 use Rattle.automaton.specs.Automaton.{built, rowTarget, rowPriority, rowTargets, rowPriorities}
 use Rattle.running.specs.Running.{rowOf, rowStates, shaped}
-use Rattle.correctness.proofs.Rows.{Rows}
+use Rattle.correctness.proofs.BuiltRows.{Rows}
 
 module _ (p : Policy) where
   abbrev piece : (ℕ → ℕ → ℕ) → ℕ → List ℕ

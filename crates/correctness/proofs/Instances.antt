@@ -25,10 +25,9 @@ use Rattle.running.specs.Running.{readingOf, runAfter, priorityOf, numberOf}
 use Rattle.running.proofs.Steps.{reads-letter}
 use Rattle.wulfrenda.specs.Records.{bytesAt, flagsAt, unpacked, policyOf, recordOf, firstOf, offsetAfter}
 use Rattle.correctness.specs.Calls.{Call, Translating, Running, Slice, translate, translateShows, read, readShows, wulfrenda-translate, wulfrendaTranslateShows, wulfrenda-translate-bytes, wulfrendaTranslateBytesShows, wulfrenda-run, wulfrendaRunShows}
-use Rattle.correctness.specs.Demand3.{letterAt, BuiltRun}
-use Rattle.correctness.specs.Demand3 as demand3
+use Rattle.correctness.specs.Demand3.{stateCount, letterAt, BuiltRun}
 use Rattle.correctness.specs.Known.{B}
-use Rattle.correctness.specs.Instances.{bytesOfB, BytesGiveB, filledWith, cases, CasesHold, stem, loop, Met, Instances}
+use Rattle.correctness.specs.Instances.{bytesOfB, BytesGiveB, filledWith, cases, CasesHold, stem, loop, PremisesMet, Instances}
 use Rattle.correctness.proofs.Translated.{Success, success-start, exact-beginning}
 use Rattle.correctness.proofs.Demand3.{translated, wulfrenda-translated, wulfrenda-translated-bytes}
 
@@ -152,7 +151,7 @@ runningOf letters targets priorities s a =
       priority = priorityOf x;
     }
 
-module _ (t : Translating) (done : Success t) (stem loop : List ℕ) (s : ℕ) (h : s < demand3.builtStates t) where
+module _ (t : Translating) (done : Success t) (stem loop : List ℕ) (s : ℕ) (h : s < stateCount t) where
   abbrev size : ℕ
   size = length (built (t .policy)) * t .policy .letters
 
@@ -197,7 +196,7 @@ module _ (t : Translating) (done : Success t) (stem loop : List ℕ) (s : ℕ) (
 abbrev room : Tables
 room = filledWith 7 4 3 6
 
-core : Met translate translateShows read readShows
+core : PremisesMet translate translateShows read readShows
 unfolding placeOf slices translate-call
 core =
     let t = translate-call B room in
@@ -213,7 +212,7 @@ core =
       letter = refl;
     }
 
-library : Met wulfrenda-translate wulfrendaTranslateShows wulfrenda-run wulfrendaRunShows
+library : PremisesMet wulfrenda-translate wulfrendaTranslateShows wulfrenda-run wulfrendaRunShows
 unfolding placeOf slices wulfrenda-translate-call
 library =
     let t = wulfrenda-translate-call (recordOf B) room in
@@ -230,7 +229,7 @@ library =
       letter = rw policy-back refl;
     }
 
-library-from-bytes : Met wulfrenda-translate-bytes wulfrendaTranslateBytesShows wulfrenda-run wulfrendaRunShows
+library-from-bytes : PremisesMet wulfrenda-translate-bytes wulfrendaTranslateBytesShows wulfrenda-run wulfrendaRunShows
 unfolding placeOf slices wulfrenda-translate-bytes-call firstOf
 library-from-bytes =
     let t = wulfrenda-translate-bytes-call bytesOfB room in

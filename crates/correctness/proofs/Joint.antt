@@ -25,7 +25,7 @@ use Rattle.automaton.proofs.Tables.{built-good, number-at}
 use Rattle.running.specs.declared.Run.{Run}
 use Rattle.running.specs.Running.{policyStep, policyMeets, rowOf, rowStates, rowStep, rowMeets}
 use Rattle.running.proofs.Steps.{policy-moves, policy-stays, row-moves, row-refuses}
-use Rattle.correctness.proofs.Rows.{Rows, StandsOver, policyRun, builtRun}
+use Rattle.correctness.proofs.BuiltRows.{Rows, StandsOver, policyRun, builtRun}
 
 -- the run is in the built state (v, l)
 pub record In (p : Policy) (r : Run) (v l : ℕ) : Type 0 where

@@ -33,9 +33,9 @@ use Rattle.judging.proofs.Laws.{least-le, least-mem}
 use Rattle.judging.proofs.Answers.{policy-none, policy-judged, rows-none, rows-least}
 use Rattle.judging.proofs.Meaning.{recurring-colours, outside-answer, dangling}
 use Rattle.correctness.specs.Calls.{Translating, translateShows, wulfrendaTranslateShows, wulfrendaTranslateBytesShows}
-use Rattle.correctness.specs.Demand3.{builtStates, under, Beginning}
+use Rattle.correctness.specs.Demand3.{stateCount, under, Beginning}
 use Rattle.correctness.specs.Judgings.{JudgedAlike, Judgings}
-use Rattle.correctness.proofs.Rows.{Rows, StandsOver, policyRun, builtRun, RecurringPriority}
+use Rattle.correctness.proofs.BuiltRows.{Rows, StandsOver, policyRun, builtRun, RecurringPriority}
 use Rattle.correctness.proofs.Joint.{Read, in-good, read, stands-after}
 use Rattle.correctness.proofs.Period.{Settled, settled}
 use Rattle.correctness.proofs.Translated.{Success, success-legal, stands-over, rows-after}
@@ -148,7 +148,7 @@ module _ (p : Policy) (ok : legal p ≡ true) where
 
 -- ---- both calls
 module _ (t : Translating) (done : Success t) (size : ℕ) (b : Beginning t size) (stem loop : List ℕ) (some : nonEmpty loop ≡ true) (stem-range : inRange (t .policy .letters) stem ≡ true)
-    (loop-range : inRange (t .policy .letters) loop ≡ true) (s : ℕ) (h : s < builtStates t) where
+    (loop-range : inRange (t .policy .letters) loop ≡ true) (s : ℕ) (h : s < stateCount t) where
   abbrev p : Policy
   p = t .policy
 

@@ -1,6 +1,6 @@
 pub mod Known
 pub mod Calls
-pub mod Rows
+pub mod BuiltRows
 pub mod Joint
 pub mod Period
 pub mod DefinedRows

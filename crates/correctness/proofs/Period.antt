@@ -29,7 +29,7 @@ use Rattle.automaton.proofs.EdgeRuns.{Good, leafRun, metRun, Least}
 use Rattle.automaton.proofs.Closed.{closed-run}
 use Rattle.running.specs.declared.Run.{Run}
 use Rattle.running.specs.Running.{policyStep, policyMeets, rowStep, rowMeets}
-use Rattle.correctness.proofs.Rows.{Rows, StandsOver, policyRun, builtRun}
+use Rattle.correctness.proofs.BuiltRows.{Rows, StandsOver, policyRun, builtRun}
 use Rattle.correctness.proofs.Joint.{In, Read, in-good, read, stands-after}
 
 -- what the two runs meet

@@ -22,9 +22,9 @@ use Rattle.builder.specs.Tables.{Tables, lengthsFit, nodesFit, statesFit, fille
 use Rattle.builder.specs.declared.Translation.the-variants.{Translated, Refused}
 use Rattle.running.specs.declared.Run.{Run}
 use Rattle.running.specs.Running.{rowOf, rowStates}
-use Rattle.correctness.specs.Calls.{Translating, Filled}
-use Rattle.correctness.specs.Demand3.{builtStates, under, Beginning}
-use Rattle.correctness.proofs.Rows.{Rows, StandsOver}
+use Rattle.correctness.specs.Calls.{Translating, TablesHold}
+use Rattle.correctness.specs.Demand3.{stateCount, under, Beginning}
+use Rattle.correctness.proofs.BuiltRows.{Rows, StandsOver}
 use Rattle.correctness.proofs.DefinedRows.{targets-long, priorities-long, row-target, row-priority, rows-of}
 use Rattle.correctness.proofs.Joint.{start-stands}
 
@@ -32,7 +32,7 @@ use Rattle.correctness.proofs.Joint.{start-stands}
 pub record Success (t : Translating) : Type 0 where
   pub number-is : numberOf (translationOf (t .policy) (t .entry)) ≡ 0
   pub counts-are : t .counts ≡ countsOf (translationOf (t .policy) (t .entry))
-  pub tables-are : Filled t
+  pub tables-are : TablesHold t
 
 -- ---- the answer
 -- translating refuses with 7 to 10, so the number is 0 only where all four questions are answered yes
@@ -64,7 +64,7 @@ module _ (t : Translating) (done : Success t) where
   unfolding translationOf
   success-counts = done .counts-are ∙ rw (answered .first, answered .second, answered .third, answered .fourth) refl
 
-  states-are : builtStates t ≡ length (built p)
+  states-are : stateCount t ≡ length (built p)
   states-are = ap (λ (l : List ℕ). getD l 1 0) success-counts
 
   -- ---- the tables at exit
@@ -91,14 +91,14 @@ module _ (t : Translating) (done : Success t) where
       ∙ List·getD-map (λ (b : Built). b .state) (built p) s (record { state = 0; leaf = 0 })
 
   -- a run in a built state, and the policy's state under it
-  pub stands-over : (r : Run) → r .state < builtStates t → StandsOver p r (under t (r .state))
+  pub stands-over : (r : Run) → r .state < stateCount t → StandsOver p r (under t (r .state))
   stands-over r h = let l = subst (λ (n : ℕ). r .state < n) states-are h in record { is-built = l; over = sym (source-after (r .state) l) }
 
-  pub over-stands : (r : Run) (v : ℕ) → StandsOver p r v → (r .state < builtStates t) × (under t (r .state) ≡ v)
+  pub over-stands : (r : Run) (v : ℕ) → StandsOver p r v → (r .state < stateCount t) × (under t (r .state) ≡ v)
   over-stands r v h = (subst (λ (n : ℕ). r .state < n) (sym states-are) (h .is-built), source-after (r .state) (h .is-built) ∙ h .over)
 
   -- the start answered is a built state over the initial state
-  pub success-start : (getD (t .counts) 2 0 < builtStates t) × (under t (getD (t .counts) 2 0) ≡ p .initial)
+  pub success-start : (getD (t .counts) 2 0 < stateCount t) × (under t (getD (t .counts) 2 0) ≡ p .initial)
   success-start =
       over-stands (record { state = getD (t .counts) 2 0 }) (p .initial)
       (subst (λ (s : ℕ). StandsOver p (record { state = s }) (p .initial)) (sym (ap (λ (l : List ℕ). getD l 2 0) success-counts)) (start-stands p success-legal))

@@ -164,8 +164,8 @@ wulfrendaRunShows x =
 
 -- ---- what the contracts say
 -- the seven tables at exit are the defined ones
-abbrev pub Filled : Translating → Type 0
-Filled t =
+abbrev pub TablesHold : Translating → Type 0
+TablesHold t =
     let e = t .exit in
     Hold (tablesAfter (t .policy) (t .entry)) (e .masks) (e .parents) (e .node-priorities) (e .sources) (e .leaves) (e .targets) (e .priorities)
 
@@ -176,14 +176,14 @@ abbrev pub wulfrendaTranslateSays : Places wulfrenda-translate → List (Type 0)
 wulfrendaTranslateSays x =
     let t = wulfrendaTranslateShows x in
     let q = translationOf (t .policy) (t .entry) in
-    (t .number ≡ translateNumberOf q) ∷ (t .counts ≡ countsOf q) ∷ Filled t ∷ []
+    (t .number ≡ translateNumberOf q) ∷ (t .counts ≡ countsOf q) ∷ TablesHold t ∷ []
 
 abbrev pub wulfrendaTranslateBytesSays : Places wulfrenda-translate-bytes → List (Type 0)
 wulfrendaTranslateBytesSays x =
     let t = wulfrendaTranslateBytesShows x in
     let read = bytesReadingOf (x .given .0 .now) .outcome in
     let q = translationOf (t .policy) (t .entry) in
-    (t .number ≡ firstOf (readNumberOf read) (translateNumberOf q)) ∷ (t .counts ≡ countsOf q) ∷ Filled t ∷ (x .left .1 .1 .1 .1 .1 .1 .1 .1 .1 .0 .now ≡ offsetAfter (readNumberOf read) (translateNumberOf q) (offsetOf read)) ∷ []
+    (t .number ≡ firstOf (readNumberOf read) (translateNumberOf q)) ∷ (t .counts ≡ countsOf q) ∷ TablesHold t ∷ (x .left .1 .1 .1 .1 .1 .1 .1 .1 .1 .0 .now ≡ offsetAfter (readNumberOf read) (translateNumberOf q) (offsetOf read)) ∷ []
 
 abbrev pub readSays : Places read → List (Type 0)
 readSays x = let c = readShows x in ReadsLetter (c .letters) (c .targets) (c .priorities) (record { state = c .state }) (c .letter) (x .answer) ∷ []

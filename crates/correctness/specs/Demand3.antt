@@ -18,8 +18,8 @@ use Rattle.correctness.specs.Calls.{Function, Places, Call, Translating,
 -- ---- after a call of translating
 module _ (t : Translating) where
   -- how many built states there are
-  abbrev pub builtStates : ℕ
-  builtStates = getD (t .counts) 1 0
+  abbrev pub stateCount : ℕ
+  stateCount = getD (t .counts) 1 0
 
   -- the policy's state under built state s
   abbrev pub under : ℕ → ℕ
@@ -27,7 +27,7 @@ module _ (t : Translating) where
 
   -- a beginning of both row tables, any that holds every row of the built states and passes running's 8
   pub record Beginning (size : ℕ) : Type 0 where
-    pub holds-rows : builtStates * t .policy .letters ≤ length (take size (t .exit .targets))
+    pub holds-rows : stateCount * t .policy .letters ≤ length (take size (t .exit .targets))
     pub passes : shaped (t .policy .letters) (take size (t .exit .targets)) (take size (t .exit .priorities)) ≡ true
 
 -- calls of running: a letter that is read meets the priority given back, a refused one meets none
@@ -67,7 +67,7 @@ module _ (stem loop : List ℕ) where
       pub targets-are : (i : ℕ) → calls i .targets ≡ take size (t .exit .targets)
       pub priorities-are : (i : ℕ) → calls i .priorities ≡ take size (t .exit .priorities)
       -- the first begins in any built state, each later one in the state that the last one gave back
-      pub begins : calls 0 .state < builtStates t
+      pub begins : calls 0 .state < stateCount t
       pub goes-on : (i : ℕ) → calls (suc i) .state ≡ calls i .next
       pub reads : (i : ℕ) → calls i .letter ≡ letterAt i
 
@@ -83,7 +83,7 @@ module _ (stem loop : List ℕ) where
 
     -- the run is always in a built state that stands over the policy's state; and a loop with a letter of the policy is decided alike
     pub record Agreement : Type 0 where
-      pub stands : (i : ℕ) → calls i .state < builtStates t
+      pub stands : (i : ℕ) → calls i .state < stateCount t
       pub over : (i : ℕ) → under t (calls i .state) ≡ policyState (t .policy) (under t (calls 0 .state)) i
       pub decided : any (λ a. ltb a (t .policy .letters)) loop ≡ true → Decided
 

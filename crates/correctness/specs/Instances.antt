@@ -66,7 +66,7 @@ abbrev pub loop : List ℕ
 loop = 0 ∷ 1 ∷ []
 
 -- a call that was given B and succeeded, and calls of running from the start that are a run over these letters
-pub record Met (f : Function) (shows : Places f → Translating) (g : Function) (shows′ : Places g → Running) : Type 0 where
+pub record PremisesMet (f : Function) (shows : Places f → Translating) (g : Function) (shows′ : Places g → Running) : Type 0 where
   pub call : Call f
   pub policy-is : shows (call .at) .policy ≡ B
   pub succeeded : shows (call .at) .number ≡ 0
@@ -77,6 +77,6 @@ pub record Met (f : Function) (shows : Places f → Translating) (g : Function) 
 pub record Instances : Type 0 where
   pub bytes : BytesGiveB
   pub translated : CasesHold cases
-  pub of-the-core : Met translate translateShows read readShows
-  pub of-the-library : Met wulfrenda-translate wulfrendaTranslateShows wulfrenda-run wulfrendaRunShows
-  pub of-the-library-from-bytes : Met wulfrenda-translate-bytes wulfrendaTranslateBytesShows wulfrenda-run wulfrendaRunShows
+  pub of-the-core : PremisesMet translate translateShows read readShows
+  pub of-the-library : PremisesMet wulfrenda-translate wulfrendaTranslateShows wulfrenda-run wulfrendaRunShows
+  pub of-the-library-from-bytes : PremisesMet wulfrenda-translate-bytes wulfrendaTranslateBytesShows wulfrenda-run wulfrendaRunShows

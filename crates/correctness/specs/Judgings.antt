@@ -9,7 +9,7 @@ use Rattle.judging.specs.Judging.{nonEmpty, inRange, policyVerdict, rowsVerdict
 use Rattle.judging.specs.declared.PolicyVerdict.the-variants.{Judged}
 use Rattle.judging.specs.declared.RowsVerdict.the-variants.{Least}
 use Rattle.correctness.specs.Calls.{Function, Places, Call, Translating, translate, translateShows, wulfrenda-translate, wulfrendaTranslateShows, wulfrenda-translate-bytes, wulfrendaTranslateBytesShows}
-use Rattle.correctness.specs.Demand3.{builtStates, under, Beginning}
+use Rattle.correctness.specs.Demand3.{stateCount, under, Beginning}
 
 -- over a beginning of the row tables, the rows from built state s answer a least priority, and the policy from the state under s answers yes exactly if it is even
 pub record JudgedAlike (t : Translating) (size : ℕ) (stem loop : List ℕ) (s : ℕ) : Type 0 where
@@ -23,7 +23,7 @@ abbrev pub JudgingsAgree : (f : Function) → (Places f → Translating) → Typ
 JudgingsAgree f shows =
     (t : Call f) → shows (t .at) .number ≡ 0 → (size : ℕ) → Beginning (shows (t .at)) size
     → (stem loop : List ℕ) → nonEmpty loop ≡ true → inRange (shows (t .at) .policy .letters) stem ≡ true → inRange (shows (t .at) .policy .letters) loop ≡ true
-    → (s : ℕ) → s < builtStates (shows (t .at)) → JudgedAlike (shows (t .at)) size stem loop s
+    → (s : ℕ) → s < stateCount (shows (t .at)) → JudgedAlike (shows (t .at)) size stem loop s
 
 pub record Judgings : Type 0 where
   pub of-the-core : JudgingsAgree translate translateShows
