@@ -1,19 +1,21 @@
 -- The table of what each state reaches: after the rows are joined at every state, row v is what v reaches. Joining at k leaves each row
 -- closed by way of the states up to k, so that no round has to be repeated. Then one turn of each loop of the code, and the ranges that a
 -- legal policy gives it. Assumes nothing.
-use Prim.Native.Nat.{ℕ, zero, suc, _+_, _*_, _%_, _≤_, _<_}
+use Prim.Native.Nat.{ℕ, zero, suc, _+_, _-_, _*_, _%_, _≤_, _<_}
 use native.Mathlib.Omega.{arith}
-use native.Mathlib.Decide.{ℕ-discrete}
+use native.Mathlib.Decide.{ℕ-discrete, decLt}
 use native.Mathlib.Nat.{mod-lt, div-add-mod', mul-le-mul-right, zero-mul, suc-mul, add-zero}
 use native.Mathlib.Numerals.{add-one}
 use mathlib.Core.Path.{_≡_, refl, sym, ap, _∙_, subst}
 use mathlib.Core.Logic.{_⊎_, inl, inr}
 use mathlib.Core.Bool.{Bool, true, false, _&&_, cond, and-true, and-false, false≢true}
-use mathlib.Core.List.{List, [], _∷_, List·Memᴰ}
+use mathlib.Core.List.{List, [], _∷_, _++_, map, List·Memᴰ}
 use lib.Bits.{bitOr}
-use lib.ListN.{length, getD, set, length-set}
-use lib.Seq.{getD-set-same, getD-set-other}
+use lib.ListN.{length, getD, set, length-set, drop, length-append, length-drop, List·getD-append}
+use lib.Seq.{getD-set-same, getD-set-other, ext-getD, getD-append-add, getD-drop}
 use Rattle.lists.proofs.Bools.{test, or-cases, or-left, or-right, and-l, and-r, both, bool-ext}
+use Rattle.lists.specs.Lists.{below}
+use Rattle.lists.proofs.Lists.{length-map-below, getD-map-below}
 use Rattle.masks.specs.Masks.{has, insert, maskOf, members}
 use Rattle.masks.proofs.MaskOf.{mask-of-none, mask-of-in, mask-of-out, has-mask-of, mask-of-some}
 use Rattle.masks.proofs.Bits.{has-none, has-or, mask-ext}
@@ -22,7 +24,7 @@ use Rattle.policy.specs.declared.Policy.{Policy}
 use Rattle.policy.specs.Policies.{edges, edgeOf, source, targetOf, legal}
 use Rattle.policy.proofs.Laws.{legal-counts, edges-le, legal-target, source-edge, edge-lt, source-lt}
 use Rattle.graph.specs.Cycles.{Path, reach}
-use Rattle.graph.specs.Through.{cycleThrough, Rows, withEdge, edgeRow, edgeRows, States, joinRow, joinRows, joinedRows, mutualTo, inner, innerTo}
+use Rattle.graph.specs.Through.{cycleThrough, Rows, withTarget, edgeRow, edgeRows, States, joinRow, joinRows, joinedRows, mutualTo, inner, innerTo, reachRows}
 use Rattle.graph.proofs.Paths.{reach-sound, reach-complete}
 use Rattle.graph.proofs.Through.{Leads, leads-join, leads-edge, through-some, some-through}
 
@@ -131,6 +133,11 @@ unfolding joinedRows
 joined-length rows n zero = refl
 joined-length rows n (suc k) = join-length (joinedRows rows n k) k (getD (joinedRows rows n k) k 0) n ∙ joined-length rows n k
 
+joined-after : (rows : List ℕ) (n k u : ℕ) → n ≤ u → getD (joinedRows rows n k) u 0 ≡ getD rows u 0
+unfolding joinedRows
+joined-after rows n zero u l = refl
+joined-after rows n (suc k) u l = join-after (joinedRows rows n k) k (getD (joinedRows rows n k) k 0) n u l ∙ joined-after rows n k u l
+
 joined-next : (rows : List ℕ) (n : ℕ) → n ≤ length rows → (k u : ℕ) → u < n
     → getD (joinedRows rows n (suc k)) u 0 ≡ joinRow (getD (joinedRows rows n k) u 0) k (getD (joinedRows rows n k) k 0)
 unfolding joinedRows
@@ -141,6 +148,11 @@ module _ (rows t : List ℕ) (l m : ℕ) where
   unfolding edgeRows
   edge-rows-length zero = refl
   edge-rows-length (suc n) = simp length-set (edge-rows-length n)
+
+  edge-rows-after : (n u : ℕ) → n ≤ u → getD (edgeRows rows t l m n) u 0 ≡ getD rows u 0
+  unfolding edgeRows
+  edge-rows-after zero u k = refl
+  edge-rows-after (suc n) u k = getD-set-other (edgeRows rows t l m n) n u _ 0 (λ q. omega arith) ∙ edge-rows-after n u (omega arith)
 
   edge-rows-at : (n v : ℕ) → n ≤ length rows → v < n → getD (edgeRows rows t l m n) v 0 ≡ edgeRow t l m v l
   unfolding edgeRows
@@ -153,13 +165,13 @@ module _ (rows t : List ℕ) (l m : ℕ) where
           ∙ ap (λ (z : ℕ). edgeRow t l m z l) (sym q)
       go (no q) ih = getD-set-other (edgeRows rows t l m n) n v (edgeRow t l m n l) 0 q ∙ ih (omega arith)
 
-pub rows-long : (rows t : List ℕ) (l m i n k : ℕ) → length (joinedRows (edgeRows rows t l m i) n k) ≡ length rows
+rows-long : (rows t : List ℕ) (l m i n k : ℕ) → length (joinedRows (edgeRows rows t l m i) n k) ≡ length rows
 rows-long rows t l m i n k = joined-length (edgeRows rows t l m i) n k ∙ edge-rows-length rows t l m i
 
 module _ (p : Policy) (m : ℕ) where
   -- ---- a first row: the state, and the targets of its edges in m
   edge-row-self : (v a : ℕ) → has (edgeRow (p .target) (p .letters) m v a) v ≡ true
-  unfolding edgeRow withEdge edgeOf targetOf
+  unfolding edgeRow withTarget edgeOf targetOf
   edge-row-self v zero = insert-adds 0 v
   edge-row-self v (suc a) = go (has m (edgeOf p v a)) (edge-row-self v a)
     where
@@ -168,7 +180,7 @@ module _ (p : Policy) (m : ℕ) where
       go false h = h
 
   edge-row-has : (v a b : ℕ) → b < a → has m (edgeOf p v b) ≡ true → has (edgeRow (p .target) (p .letters) m v a) (targetOf p (edgeOf p v b)) ≡ true
-  unfolding edgeRow withEdge edgeOf targetOf
+  unfolding edgeRow withTarget edgeOf targetOf
   edge-row-has v zero b l t = absurd (omega arith)
   edge-row-has v (suc a) b l t = go (ℕ-discrete b a) (edge-row-has v a b)
     where
@@ -184,7 +196,7 @@ module _ (p : Policy) (m : ℕ) where
       go (no q) ih = keep (has m (edgeOf p v a)) (targetOf p (edgeOf p v a)) (ih (omega arith) t)
 
   edge-row-cases : (v a x : ℕ) → has (edgeRow (p .target) (p .letters) m v a) x ≡ true → (v ≡ x) ⊎ ((b : ℕ) × (b < a) × (has m (edgeOf p v b) ≡ true) × (targetOf p (edgeOf p v b) ≡ x))
-  unfolding edgeRow withEdge edgeOf targetOf
+  unfolding edgeRow withTarget edgeOf targetOf
   edge-row-cases v zero x h = go (insert-cases 0 v x h)
     where
       go : (has 0 x ≡ true) ⊎ (v ≡ x) → (v ≡ x) ⊎ ((b : ℕ) × (b < 0) × (has m (edgeOf p v b) ≡ true) × (targetOf p (edgeOf p v b) ≡ x))
@@ -264,6 +276,51 @@ module _ (p : Policy) (m : ℕ) where
         complete : (x : ℕ) → has (reach p (members (edges p) m) v) x ≡ true → has (row (p .states) v) x ≡ true
         complete x h = let w = reach-sound p (members (edges p) m) v x h in last-path v (w .0) x l (w .1)
 
+-- ---- the table with these rows
+module _ (p : Policy) (m : ℕ) (rows : List ℕ) (room : p .states ≤ length rows) where
+  at-long : length (map (reach p (members (edges p) m)) (below (p .states))) ≡ p .states
+  at-long = length-map-below (reach p (members (edges p) m)) (p .states)
+
+  length-reach-rows : length (reachRows p m rows) ≡ length rows
+  unfolding reachRows
+  length-reach-rows = length-append (map (reach p (members (edges p) m)) (below (p .states))) (drop (p .states) rows) ∙ omega (arith, at-long, length-drop (p .states) rows)
+
+  reach-rows : Rows p m (reachRows p m rows)
+  unfolding reachRows
+  reach-rows v l =
+      List·getD-append (map (reach p (members (edges p) m)) (below (p .states))) (drop (p .states) rows) 0 v (omega (arith, at-long))
+      ∙ getD-map-below (reach p (members (edges p) m)) (p .states) v 0 l
+
+  reach-rows-past : (u : ℕ) → getD (reachRows p m rows) (p .states + u) 0 ≡ getD rows (p .states + u) 0
+  unfolding reachRows
+  reach-rows-past u =
+      ap (λ (n : ℕ). getD (map (reach p (members (edges p) m)) (below (p .states)) ++ drop (p .states) rows) (n + u) 0) (sym at-long)
+      ∙ getD-append-add (map (reach p (members (edges p) m)) (below (p .states))) (drop (p .states) rows) u 0 ∙ getD-drop (p .states) rows u 0
+
+  pub joined-are : legal p ≡ true → joinedRows (edgeRows rows (p .target) (p .letters) m (p .states)) (p .states) (p .states) ≡ reachRows p m rows
+  joined-are ok = ext-getD 0 joined (reachRows p m rows) (long ∙ sym length-reach-rows) (λ v h. go v (decLt v (p .states)))
+    where
+      joined : List ℕ
+      joined = joinedRows (edgeRows rows (p .target) (p .letters) m (p .states)) (p .states) (p .states)
+
+      long : length joined ≡ length rows
+      long = rows-long rows (p .target) (p .letters) m (p .states) (p .states) (p .states)
+
+      past : (v : ℕ) → p .states ≤ v → getD joined v 0 ≡ getD rows v 0
+      past v l = joined-after (edgeRows rows (p .target) (p .letters) m (p .states)) (p .states) (p .states) v l ∙ edge-rows-after rows (p .target) (p .letters) m (p .states) v l
+
+      go : (v : ℕ) → Dec (v < p .states) → getD joined v 0 ≡ getD (reachRows p m rows) v 0
+      go v (yes l) = rows-reach p m ok rows room v l ∙ sym (reach-rows v l)
+      go v (no n) =
+          let e : p .states + (v - p .states) ≡ v = omega arith in
+          past v (omega arith) ∙ sym (subst (λ (u : ℕ). getD (reachRows p m rows) u 0 ≡ getD rows u 0) e (reach-rows-past (v - p .states)))
+
+-- what the table is good for
+pub reached : (p : Policy) (m : ℕ) (rows₀ rows : List ℕ) → legal p ≡ true → length rows₀ ≡ 16 → rows ≡ reachRows p m rows₀ → Rows p m rows × (length rows ≡ 16)
+reached p m rows₀ rows ok long e =
+    let room : p .states ≤ length rows₀ = omega (arith, legal-counts p ok .states-few) in
+    (subst (λ (r : List ℕ). Rows p m r) (sym e) (reach-rows p m rows₀ room), ap length e ∙ length-reach-rows p m rows₀ room ∙ long)
+
 -- ---- what the code asks of a legal policy
 module _ (p : Policy) (ok : legal p ≡ true) where
   pub target-few : (e : ℕ) → e < edges p → getD (p .target) e 0 < 16
@@ -289,7 +346,7 @@ pub edge-row-none : (t : List ℕ) (l m v : ℕ) → edgeRow t l m v 0 ≡ inser
 unfolding edgeRow
 edge-row-none t l m v = refl
 
-pub edge-row-more : (t : List ℕ) (l m v a : ℕ) → edgeRow t l m v (a + 1) ≡ withEdge t m (edgeRow t l m v a) (v * l + a)
+pub edge-row-more : (t : List ℕ) (l m v a : ℕ) → edgeRow t l m v (a + 1) ≡ withTarget t m (edgeRow t l m v a) (v * l + a)
 unfolding edgeRow
 edge-row-more t l m v a = rw add-one
 

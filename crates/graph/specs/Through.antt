@@ -3,9 +3,10 @@
 use Prim.Native.Nat.{ℕ, zero, suc, _+_, _*_, _<_}
 use mathlib.Core.Path.{_≡_}
 use mathlib.Core.Bool.{_&&_, cond}
-use mathlib.Core.List.{List}
-use lib.ListN.{getD, set}
+use mathlib.Core.List.{List, _++_, map}
+use lib.ListN.{getD, set, drop}
 use lib.Bits.{bitOr}
+use Rattle.lists.specs.Lists.{below}
 use Rattle.masks.specs.Masks.{has, insert, maskOf, members}
 use Rattle.policy.specs.declared.Policy.{Policy}
 use Rattle.policy.specs.Policies.{edges, source, targetOf}
@@ -21,15 +22,19 @@ module _ (p : Policy) where
   abbrev pub Rows : ℕ → List ℕ → Type 0
   Rows m rows = (v : ℕ) → v < p .states → getD rows v 0 ≡ reach p (members (edges p) m) v
 
+  -- a table with these rows; what stands past the states stays
+  unfoldable pub reachRows : ℕ → List ℕ → List ℕ
+  reachRows m rows = map (reach p (members (edges p) m)) (below (p .states)) ++ drop (p .states) rows
+
 -- ---- the first rows: t has the targets of the edges, l is the number of letters
 -- a row, with the target of e where e is in m
-unfoldable pub withEdge : List ℕ → ℕ → ℕ → ℕ → ℕ
-withEdge t m row e = cond (has m e) (insert row (getD t e 0)) row
+unfoldable pub withTarget : List ℕ → ℕ → ℕ → ℕ → ℕ
+withTarget t m row e = cond (has m e) (insert row (getD t e 0)) row
 
 -- v, with the targets of its first a edges that are in m
 unfoldable pub edgeRow : List ℕ → ℕ → ℕ → ℕ → ℕ → ℕ
 edgeRow t l m v zero = insert 0 v
-edgeRow t l m v (suc a) = withEdge t m (edgeRow t l m v a) (v * l + a)
+edgeRow t l m v (suc a) = withTarget t m (edgeRow t l m v a) (v * l + a)
 
 -- the rows, with these for the states below n
 unfoldable pub edgeRows : List ℕ → List ℕ → ℕ → ℕ → ℕ → List ℕ

@@ -6,13 +6,13 @@ ghost use Prim.Native.Nat.{_+_, _*_, _<_, _≤_};
 ghost use lib.ListN.{length, getD};
 ghost use Rattle.masks.specs.Masks.{has};
 ghost use Rattle.policy.specs.Policies.{legal};
-ghost use Rattle.graph.specs.Through.{cycleThrough, Rows, withEdge, edgeRow, edgeRows, States, joinRow, joinRows, mutualTo, inner};
+ghost use Rattle.graph.specs.Through.{cycleThrough, Rows, reachRows, withTarget, edgeRow, edgeRows, States, joinRow, joinRows, mutualTo, inner};
 use policy::Policy;
 
 // A row, with the target of edge e where e is in m. The targets are t.
-fn with_edge(t: &[u8; 64], m: u64, row: u64, e: usize) -> u64
+fn with_target(t: &[u8; 64], m: u64, row: u64, e: usize) -> u64
     requires { ⌜ (e < 64) × (getD (now t) e 0 < 16) ⌝ }
-    ensures { λ r. ⌜ r ≡ withEdge (now (t .entry)) m row e ⌝ }
+    ensures { λ r. ⌜ r ≡ withTarget (now (t .entry)) m row e ⌝ }
 {
     masks::with_if(row, t[e] as usize, masks::has(m, e))
 }
@@ -25,7 +25,7 @@ fn edge_row(t: &[u8; 64], letters: usize, m: u64, v: usize) -> u64
     let first = v * letters;
     let mut row = masks::with(0, v);
     for a in 0..letters {
-        row = with_edge(t, m, row, first + a);
+        row = with_target(t, m, row, first + a);
     }
     row
 }
@@ -64,10 +64,11 @@ fn join_rows(rows: &mut [u64; 16], k: usize, n: usize)
     }
 }
 
-// The states that each state reaches inside m, whatever the rows held before. The heads are the targets of p's edges, lent, since p's own would be copied at each call.
+// The states that each state reaches inside m, whatever the rows held before; rows past the states stay. The heads are the targets of p's edges, lent, since p's own
+// would be copied at each call.
 pub fn reach_all(p: Policy, heads: &[u8; 64], m: u64, rows: &mut [u64; 16])
     requires { ⌜ (legal p ≡ true) × (now heads ≡ p .target) × (length (now rows) ≡ 16) ⌝ }
-    ensures { λ _. ⌜ Rows p m (now (rows .exit)) × (length (now (rows .exit)) ≡ 16) ⌝ }
+    ensures { λ _. ⌜ now (rows .exit) ≡ reachRows p m (now (rows .entry)) ⌝ }
 {
     let n = p.states as usize;
     edge_rows(p, heads, m, rows);

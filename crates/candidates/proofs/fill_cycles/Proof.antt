@@ -7,6 +7,7 @@ use Rattle.candidates.specs.Listed.{Finding}
 use Rattle.candidates.proofs.CandidateLaws.{finding-none, finding-open, finding-shut, finding-is, finding-all}
 use native.Mathlib.Omega.{arith}
 use borrow.Author.Needs.{needs}
+use Rattle.graph.proofs.CodeLaws.{reached}
 use Rattle.candidates.proofs.fill_cycles.Statement.{statement}
 use Rattle.candidates.proofs.fill_cycles.Tie as tie
 
@@ -29,7 +30,7 @@ is-open-requires : tie.Need-is-open-requires Inv-loop μ-loop
 is-open-requires c κs = (c .before .before .before .before .before .pre .0, c .loop-test .taken)
 
 cycle-through-requires : tie.Need-cycle-through-requires Inv-loop μ-loop
-cycle-through-requires c κs = let s = c .before .before .before .before .before .before .before .before in (s .pre .0, s .pre .1, c .before .before .before .loop-test .taken, c .before .before .before .before .before .before .reach-all .ensures .0)
+cycle-through-requires c κs = let s = c .before .before .before .before .before .before .before .before in (s .pre .0, s .pre .1, c .before .before .before .loop-test .taken, reached (s .args .p) (s .args .m) (s .args .rows .now) _ (s .pre .0) (s .pre .2) (c .before .before .before .before .before .before .reach-all .ensures) .0)
 
 either-requires : tie.Need-either-requires Inv-loop μ-loop
 either-requires c κs = search needs
@@ -67,7 +68,7 @@ returns c =
     let s = c .before .before .before .before .before in
     let at = c .before .loop in
     let last : at .v ≡ s .args .p .states = omega arith in
-    (finding-all (s .args .p) (s .pre .0) (s .args .m) (at .inv .1) last (s .pre .3), c .before .before .before .reach-all .ensures .1)
+    (finding-all (s .args .p) (s .pre .0) (s .args .m) (at .inv .1) last (s .pre .3), reached (s .args .p) (s .args .m) (s .args .rows .now) _ (s .pre .0) (s .pre .2) (c .before .before .before .reach-all .ensures) .1)
 
 pub fill-cycles-spec : {M : Type 1} → statement M
 fill-cycles-spec =

@@ -9,6 +9,7 @@ use borrow.Author.Needs.{needs}
 use borrow.Author.Tests.{not-true, not-false}
 use Rattle.lists.specs.Lists.{all, below}
 use Rattle.lists.proofs.Tests.{all-more, all-not}
+use Rattle.graph.proofs.CodeLaws.{reached}
 use Rattle.comparing.specs.Pairs.{pairEdges, freeAt, isFree}
 use Rattle.comparing.proofs.Suspects.{pair-edges-by}
 use Rattle.comparing.proofs.is_free.Statement.{statement}
@@ -48,15 +49,17 @@ loop-holds c = (omega arith, refl)
 is-free-at-requires : tie.Need-is-free-at-requires Inv-loop μ-loop
 is-free-at-requires c κs =
     let s = c .before .before .before .before .before .before .before .before .before in
-    (s .pre .0, whole (c .before .before .before .before .before), s .pre .1, c .before .before .before .reach-all .ensures .0, c .before .loop-test .taken)
+    let m = c .before .before .before .before .before .both .result in
+    (s .pre .0, whole (c .before .before .before .before .before), s .pre .1, reached (s .args .p) m (s .args .rows .now) _ (s .pre .0 .comparable .legal-p) (s .pre .2) (c .before .before .before .reach-all .ensures) .0, c .before .loop-test .taken)
 
 returns : tie.Need-returns Inv-loop μ-loop
 unfolding isFree
 returns c =
     let d = c .before .before .before in
-    let a = d .before .before .before .before .before .before .before .before .args in (
+    let s = d .before .before .before .before .before .before .before .before in
+    let a = s .args in (
       sym (all-not (freeAt (a .p) (a .q) (a .c) (a .d)) (a .p .states) (d .before .loop .v) (d .loop-test .taken) (sym (c .before .is-free-at .ensures) ∙ not-true _ (c .if1 .taken))),
-      d .before .before .reach-all .ensures .1,
+      reached (a .p) (d .before .before .before .before .both .result) (a .rows .now) _ (s .pre .0 .comparable .legal-p) (s .pre .2) (d .before .before .reach-all .ensures) .1,
     )
 
 add-v : tie.Need-add-v Inv-loop μ-loop
@@ -74,9 +77,10 @@ loop-again c =
 returns-2 : tie.Need-returns-2 Inv-loop μ-loop
 unfolding isFree
 returns-2 c =
-    let a = c .before .before .before .before .before .before .before .before .args in (
+    let s = c .before .before .before .before .before .before .before .before in
+    let a = s .args in (
       sym (ap (λ k. all (freeAt (a .p) (a .q) (a .c) (a .d)) (below k)) (le-antisymm (c .loop-test .left) (c .before .loop .inv .0)) ∙ c .before .loop .inv .1),
-      c .before .before .reach-all .ensures .1,
+      reached (a .p) (c .before .before .before .before .both .result) (a .rows .now) _ (s .pre .0 .comparable .legal-p) (s .pre .2) (c .before .before .reach-all .ensures) .1,
     )
 
 pub is-free-spec : {M : Type 1} → statement M

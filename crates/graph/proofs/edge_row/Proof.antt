@@ -23,11 +23,11 @@ with-requires c κs = omega arith
 loop-holds : tie.Need-loop-holds Inv-loop μ-loop
 loop-holds c = (omega arith, c .with .ensures ∙ sym (edge-row-none _ _ _ _))
 
-add-with-edge : tie.Need-add-with-edge Inv-loop μ-loop
-add-with-edge c = omega (arith, c .before .before .before .pre .1)
+add-with-target : tie.Need-add-with-target Inv-loop μ-loop
+add-with-target c = omega (arith, c .before .before .before .pre .1)
 
-with-edge-requires : tie.Need-with-edge-requires Inv-loop μ-loop
-with-edge-requires c κs =
+with-target-requires : tie.Need-with-target-requires Inv-loop μ-loop
+with-target-requires c κs =
     let s = c .before .before .before in
     (omega (arith, s .pre .1), s .pre .2 (s .args .v * s .args .letters + c .before .loop .a) (omega arith))
 
@@ -52,8 +52,8 @@ edge-row-spec =
     mul-first
     with-requires
     loop-holds
-    add-with-edge
-    with-edge-requires
+    add-with-target
+    with-target-requires
     add-a
     loop-less
     loop-again

@@ -8,7 +8,7 @@ use lib.ListN.{length, getD}
 use borrow.Author.Needs.{needs}
 use Rattle.policy.proofs.Laws.{legal-counts}
 use Rattle.graph.specs.Through.{Rows, edgeRows, joinRows, joinedRows}
-use Rattle.graph.proofs.CodeLaws.{joined-none, joined-more, rows-reach, rows-long}
+use Rattle.graph.proofs.CodeLaws.{joined-none, joined-more, joined-are}
 use Rattle.graph.proofs.reach_all.Statement.{statement}
 use Rattle.graph.proofs.reach_all.Tie as tie
 
@@ -46,10 +46,8 @@ returns c =
     let s = c .before .before .before .before .before in
     let p = s .args .p in
     let rows = s .args .rows .now in
-    let e : c .before .loop .rows ≡ joinedRows (edgeRows rows (p .target) (p .letters) (s .args .m) (p .states)) (p .states) (p .states) = cc (le-antisymm (c .before .loop .inv .0) (c .loop-test .left)) in (
-      subst (λ (l : List ℕ). Rows p (s .args .m) l) (sym e) (rows-reach p (s .args .m) (s .pre .0) rows (omega (arith, legal-counts p (s .pre .0) .states-few, s .pre .2))),
-      ap length e ∙ rows-long rows (p .target) (p .letters) (s .args .m) (p .states) (p .states) (p .states) ∙ s .pre .2,
-    )
+    let e : c .before .loop .rows ≡ joinedRows (edgeRows rows (p .target) (p .letters) (s .args .m) (p .states)) (p .states) (p .states) = cc (le-antisymm (c .before .loop .inv .0) (c .loop-test .left)) in
+    e ∙ joined-are p (s .args .m) rows (omega (arith, legal-counts p (s .pre .0) .states-few, s .pre .2)) (s .pre .0)
 
 pub reach-all-spec : {M : Type 1} → statement M
 reach-all-spec =
