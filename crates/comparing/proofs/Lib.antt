@@ -1,4 +1,4 @@
 pub mod Meaning
 pub mod Pairs
-pub mod Suspects
+pub mod Searches
 pub mod Tests

@@ -24,7 +24,7 @@ use Rattle.graph.proofs.Through.{through-inside, through-cycle, through-largest
 use Rattle.graph.proofs.Inside.{cycles-mem, mem-cycles, cycle-state, inside-full}
 use Rattle.graph.proofs.SameGraph.{same-edges}
 use Rattle.comparing.specs.Comparing.{sameVerdicts}
-use Rattle.comparing.specs.Pairs.{Comparable, pairEdges, exactly, freeAt, isFree, pairAgrees, setAgrees, pairsAgree}
+use Rattle.comparing.specs.Pairs.{Comparable, pairEdges, exactly, noCycleAt, noCycle, pairAgrees, setAgrees, pairsAgree}
 
 module _ (p q : Policy) where
   -- ---- the edges with colours in c and d
@@ -76,20 +76,20 @@ module _ (p q : Policy) where
       (subst (λ (s : ℕ). inside s (coloursOf q y) ≡ true) (exactly-q c d x t) (colours-up q x y i)))
 
   -- ---- no cycle with exactly these colours
-  at-free : (c d v : ℕ) → ((t : cycleThrough p (pairEdges p q c d) v ≢ 0) → exactly p q c d (cycleThrough p (pairEdges p q c d) v) ≡ true → ⊥) → freeAt p q c d v ≡ true
-  unfolding freeAt
-  at-free c d v h = go (test (eqb y 0))
+  at-none : (c d v : ℕ) → ((t : cycleThrough p (pairEdges p q c d) v ≢ 0) → exactly p q c d (cycleThrough p (pairEdges p q c d) v) ≡ true → ⊥) → noCycleAt p q c d v ≡ true
+  unfolding noCycleAt
+  at-none c d v h = go (test (eqb y 0))
     where
       y : ℕ
       y = cycleThrough p (pairEdges p q c d) v
 
-      go : (eqb y 0 ≡ true) ⊎ (eqb y 0 ≡ false) → freeAt p q c d v ≡ true
+      go : (eqb y 0 ≡ true) ⊎ (eqb y 0 ≡ false) → noCycleAt p q c d v ≡ true
       go (inl t) = or-left (eqb y 0) (not (exactly p q c d y)) t
       go (inr f) = or-right (eqb y 0) (not (exactly p q c d y)) (not-false (exactly p q c d y) (h (λ z. true≢false (sym (≡eqb y 0 z) ∙ f))))
 
-  free-at : (c d v : ℕ) → freeAt p q c d v ≡ true → cycleThrough p (pairEdges p q c d) v ≢ 0 → exactly p q c d (cycleThrough p (pairEdges p q c d) v) ≡ true → ⊥
-  unfolding freeAt
-  free-at c d v t nz x = go (or-cases (eqb y 0) (not (exactly p q c d y)) t)
+  none-at : (c d v : ℕ) → noCycleAt p q c d v ≡ true → cycleThrough p (pairEdges p q c d) v ≢ 0 → exactly p q c d (cycleThrough p (pairEdges p q c d) v) ≡ true → ⊥
+  unfolding noCycleAt
+  none-at c d v t nz x = go (or-cases (eqb y 0) (not (exactly p q c d y)) t)
     where
       y : ℕ
       y = cycleThrough p (pairEdges p q c d) v
@@ -99,11 +99,11 @@ module _ (p q : Policy) where
       go (inr f) = true≢false (sym x ∙ not-true (exactly p q c d y) f)
 
   -- where some colour is missing among all edges with these colours, no cycle has them all
-  pub free-missing : (c d : ℕ) → exactly p q c d (pairEdges p q c d) ≡ false → isFree p q c d ≡ true
-  unfolding isFree
-  free-missing c d f =
+  pub none-missing : (c d : ℕ) → exactly p q c d (pairEdges p q c d) ≡ false → noCycle p q c d ≡ true
+  unfolding noCycle
+  none-missing c d f =
       let m = pairEdges p q c d in
-      each-all (freeAt p q c d) (below (p .states)) (λ v k. at-free c d v (λ nz x. true≢false (sym (exactly-up c d (cycleThrough p m v) m (through-inside p m v) (inside-refl m) x) ∙ f)))
+      each-all (noCycleAt p q c d) (below (p .states)) (λ v k. at-none c d v (λ nz x. true≢false (sym (exactly-up c d (cycleThrough p m v) m (through-inside p m v) (inside-refl m) x) ∙ f)))
 
   -- ---- verdicts
   verdict-p : (c d m : ℕ) → exactly p q c d m ≡ true → accepting p m ≡ inFamily p c
@@ -118,7 +118,7 @@ module _ (p q : Policy) where
 
     -- the same verdicts: every pair agrees
     same-pair : sameVerdicts p q ≡ true → (c d : ℕ) → pairAgrees p q c d ≡ true
-    unfolding sameVerdicts pairAgrees isFree
+    unfolding sameVerdicts pairAgrees noCycle
     same-pair s c d = go (test (differs (inFamily p c) (inFamily q d)))
       where
         m : ℕ
@@ -129,23 +129,23 @@ module _ (p q : Policy) where
             not-true (differs (accepting p x) (accepting q x))
             (all-each (λ (z : ℕ). not (differs (accepting p z) (accepting q z))) (cyclesIn p (full p)) s x (mem-cycles p (full p) x cy (inside-full p x cy)))
 
-        none : differs (inFamily p c) (inFamily q d) ≡ true → (v : ℕ) → v < p .states → freeAt p q c d v ≡ true
+        none : differs (inFamily p c) (inFamily q d) ≡ true → (v : ℕ) → v < p .states → noCycleAt p q c d v ≡ true
         none t v l =
-            at-free c d v
+            at-none c d v
             (λ nz x.
             let y = cycleThrough p m v in
             true≢false (sym t ∙ sym (ap₂ differs (verdict-p c d y x) (verdict-q c d y x)) ∙ same y (through-cycle p targets m v l nz .0)))
 
         go : (differs (inFamily p c) (inFamily q d) ≡ true) ⊎ (differs (inFamily p c) (inFamily q d) ≡ false) → pairAgrees p q c d ≡ true
         go (inl t) =
-            or-right (not (differs (inFamily p c) (inFamily q d))) (isFree p q c d)
-            (each-all (freeAt p q c d) (below (p .states)) (λ v j. none t v (below-lt (p .states) v j)))
-        go (inr f) = or-left (not (differs (inFamily p c) (inFamily q d))) (isFree p q c d) (ap not f)
+            or-right (not (differs (inFamily p c) (inFamily q d))) (noCycle p q c d)
+            (each-all (noCycleAt p q c d) (below (p .states)) (λ v j. none t v (below-lt (p .states) v j)))
+        go (inr f) = or-left (not (differs (inFamily p c) (inFamily q d))) (noCycle p q c d) (ap not f)
 
     -- a cycle whose pair of colour sets agrees has the same verdict in both
     pair-same : (x : ℕ) → isCycle p x ≡ true → pairAgrees p q (coloursOf p x) (coloursOf q x) ≡ true → not (differs (accepting p x) (accepting q x)) ≡ true
-    unfolding pairAgrees isFree
-    pair-same x cy t = go (or-cases (not (differs (inFamily p c) (inFamily q d))) (isFree p q c d) t)
+    unfolding pairAgrees noCycle
+    pair-same x cy t = go (or-cases (not (differs (inFamily p c) (inFamily q d))) (noCycle p q c d) t)
       where
         c : ℕ
         c = coloursOf p x
@@ -181,10 +181,10 @@ module _ (p q : Policy) where
         nonzero : y ≢ 0
         nonzero = let r = contains-some p v x on in some-nonzero y (r .0) (inside-all x y up (r .0) (r .2))
 
-        go : (not (differs (inFamily p c) (inFamily q d)) ≡ true) ⊎ (isFree p q c d ≡ true) → not (differs (accepting p x) (accepting q x)) ≡ true
+        go : (not (differs (inFamily p c) (inFamily q d)) ≡ true) ⊎ (noCycle p q c d ≡ true) → not (differs (accepting p x) (accepting q x)) ≡ true
         go (inl a) = ap not (ap₂ differs (accepting-is p x) (accepting-is q x)) ∙ a
         go (inr f) =
-            absurd (free-at c d v (all-each (freeAt p q c d) (below (p .states)) f v (mem-below (p .states) v lt)) nonzero
+            absurd (none-at c d v (all-each (noCycleAt p q c d) (below (p .states)) f v (mem-below (p .states) v lt)) nonzero
             (exactly-up c d x y up (through-inside p m v) (is-exactly c d x refl refl)))
 
     -- ---- the theorem

@@ -39,19 +39,19 @@ module _ (p q : Policy) where
   exactly c d m = eqb (coloursOf p m) c && eqb (coloursOf q m) d
 
   -- no cycle through v has exactly these colours: the largest one of the edges with these colours is none, or has not all of them
-  unfoldable pub freeAt : ℕ → ℕ → ℕ → Bool
-  freeAt c d v = let x = cycleThrough p (pairEdges c d) v in eqb x 0 || not (exactly c d x)
+  unfoldable pub noCycleAt : ℕ → ℕ → ℕ → Bool
+  noCycleAt c d v = let x = cycleThrough p (pairEdges c d) v in eqb x 0 || not (exactly c d x)
 
-  unfoldable pub isFree : ℕ → ℕ → Bool
-  isFree c d = all (freeAt c d) (below (p .states))
+  unfoldable pub noCycle : ℕ → ℕ → Bool
+  noCycle c d = all (noCycleAt c d) (below (p .states))
 
   -- the cycles with exactly these colours have the same verdict in both, or there is none
   unfoldable pub pairAgrees : ℕ → ℕ → Bool
-  pairAgrees c d = not (differs (inFamily p c) (inFamily q d)) || isFree c d
+  pairAgrees c d = not (differs (inFamily p c) (inFamily q d)) || noCycle c d
 
-  -- the verdicts differ, and the edges with these colours have all of them
-  unfoldable pub suspect : ℕ → ℕ → Bool
-  suspect c d = differs (inFamily p c) (inFamily q d) && exactly c d (pairEdges c d)
+  -- a cycle has to be searched for: the verdicts differ, and the edges with these colours have all of them
+  unfoldable pub needsSearch : ℕ → ℕ → Bool
+  needsSearch c d = differs (inFamily p c) (inFamily q d) && exactly c d (pairEdges c d)
 
   -- ---- all pairs
   unfoldable pub setAgrees : ℕ → Bool
@@ -69,5 +69,5 @@ unfoldable pub exactlyBy : List ℕ → List ℕ → ℕ → ℕ → ℕ → Boo
 exactlyBy t u c d m = eqb (tableColours t m) c && eqb (tableColours u m) d
 
 -- b is the verdict of c in p, f the family of q; m is the edges of p in the colours c, and s their colours in q
-unfoldable pub suspectBy : List ℕ → List ℕ → List Bool → Bool → ℕ → ℕ → ℕ → ℕ → Bool
-suspectBy t u f b m s c d = differs b (getD f d false) && inside d s && exactlyBy t u c d (bitAnd m (tableEdges u d))
+unfoldable pub needsSearchBy : List ℕ → List ℕ → List Bool → Bool → ℕ → ℕ → ℕ → ℕ → Bool
+needsSearchBy t u f b m s c d = differs b (getD f d false) && inside d s && exactlyBy t u c d (bitAnd m (tableEdges u d))

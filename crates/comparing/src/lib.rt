@@ -7,8 +7,8 @@ ghost use lib.ListN.{length};
 ghost use Rattle.policy.specs.Policies.{inFamily, legal};
 ghost use Rattle.graph.specs.Through.{Rows};
 ghost use Rattle.graph.specs.SameGraph.{sameGraph, sameTargets};
-ghost use Rattle.comparing.specs.Comparing.{comparison};
-ghost use Rattle.comparing.specs.Pairs.{Comparable, Tables, pairEdges, exactlyBy, suspectBy, freeAt, isFree, setAgrees, pairsAgree};
+ghost use Rattle.comparing.specs.Comparing.{Compares};
+ghost use Rattle.comparing.specs.Pairs.{Comparable, Tables, pairEdges, exactlyBy, needsSearchBy, noCycleAt, noCycle, setAgrees, pairsAgree};
 use policy::Policy;
 
 // Whether every cycle has the same verdict in both; or document 01's number.
@@ -57,8 +57,9 @@ fn has_exactly(t: &[u64; 8], u: &[u64; 8], c: u8, d: u8, m: u64) -> bool
     (policy::colours_in(t, m) == c) & (policy::colours_in(u, m) == d)
 }
 
-// Whether no cycle through v has exactly these colours. m is the edges with these colours; the heads are the targets of p's edges, and the rows are those of m.
-fn is_free_at(
+// Whether no cycle through v has exactly these colours. m is the edges with these colours; the heads are the targets of p's edges, and the rows are those of m. Every
+// table is lent by itself, and q is there for the contract: that makes ten parameters here, and nine in set_agrees.
+fn has_no_cycle_at(
     p: Policy,
     q: Policy,
     heads: &[u8; 64],
@@ -71,7 +72,7 @@ fn is_free_at(
     v: usize,
 ) -> bool
     requires { ⌜ Tables p q (now t) (now u) × (m ≡ pairEdges p q c d) × (now heads ≡ p .target) × Rows p m (now rows) × (v < p .states) ⌝ }
-    ensures { λ r. ⌜ r ≡ freeAt p q c d v ⌝ }
+    ensures { λ r. ⌜ r ≡ noCycleAt p q c d v ⌝ }
 {
     let x = graph::cycle_through(p, heads, rows, m, v);
     if x == 0 {
@@ -81,7 +82,7 @@ fn is_free_at(
 }
 
 // Whether no cycle has exactly these colours. The rows are space that is lent.
-fn is_free(
+fn has_no_cycle(
     p: Policy,
     q: Policy,
     heads: &[u8; 64],
@@ -92,13 +93,13 @@ fn is_free(
     d: u8,
 ) -> bool
     requires { ⌜ Tables p q (now t) (now u) × (now heads ≡ p .target) × (length (now rows) ≡ 16) ⌝ }
-    ensures { λ r. ⌜ (r ≡ isFree p q c d) × (length (now (rows .exit)) ≡ 16) ⌝ }
+    ensures { λ r. ⌜ (r ≡ noCycle p q c d) × (length (now (rows .exit)) ≡ 16) ⌝ }
 {
     let n = p.states as usize;
     let m = masks::both(policy::edges_in(t, c), policy::edges_in(u, d));
     graph::reach_all(p, heads, m, rows);
     for v in 0..n {
-        if !is_free_at(p, q, heads, rows, t, u, c, d, m, v) {
+        if !has_no_cycle_at(p, q, heads, rows, t, u, c, d, m, v) {
             return false;
         }
     }
@@ -107,7 +108,7 @@ fn is_free(
 
 // Whether the verdicts differ, and the edges with these colours have all of them; where they have not, there is no cycle with exactly these. m is the edges of p in the
 // colours c, used their colours in q, and verdict that of c; family is q's.
-fn is_suspect(
+fn needs_search(
     t: &[u64; 8],
     u: &[u64; 8],
     family: &[bool; 256],
@@ -117,7 +118,7 @@ fn is_suspect(
     c: u8,
     d: u8,
 ) -> bool
-    ensures { λ r. ⌜ r ≡ suspectBy (now (t .entry)) (now (u .entry)) (now (family .entry)) verdict m used c d ⌝ }
+    ensures { λ r. ⌜ r ≡ needsSearchBy (now (t .entry)) (now (u .entry)) (now (family .entry)) verdict m used c d ⌝ }
 {
     if family[d as usize] == verdict {
         return false;
@@ -162,8 +163,8 @@ fn set_agrees(
     let used = policy::colours_in(u, m);
     let n = sets(q.colours);
     for d in 0..n {
-        if is_suspect(t, u, family, verdict, m, used, c, d as u8) {
-            if !is_free(p, q, heads, rows, t, u, c, d as u8) {
+        if needs_search(t, u, family, verdict, m, used, c, d as u8) {
+            if !has_no_cycle(p, q, heads, rows, t, u, c, d as u8) {
                 return false;
             }
         }
@@ -200,7 +201,7 @@ fn pairs_agree<'a, 'b>(
 // Compares two policies: whether every cycle, reached or not, has the same verdict in both. Refused with 7 where one is not legal, with 15 where their states,
 // letters or targets differ.
 pub fn compare(p: Policy, q: Policy) -> Comparison
-    ensures { λ r. ⌜ r ≡ comparison p q ⌝ }
+    ensures { λ r. ⌜ Compares p q r ⌝ }
 {
     if !policy::is_legal(p) {
         return Comparison::Refused(7);

@@ -3,7 +3,6 @@ ghost use mathlib.Core.Path.{_≡_};
 ghost use mathlib.Core.Bool.{cond};
 ghost use Prim.Native.Nat.{_-_, _<_, _≤_, _^_};
 ghost use lib.Bits.{bitAnd, bitOr};
-ghost use lib.Count.{ones};
 ghost use Rattle.masks.specs.Masks.{has, insert, minus, inside, properly};
 
 // Whether m has edge e.
@@ -63,13 +62,6 @@ pub fn properly_inside(a: u64, b: u64) -> bool
     ensures { λ r. ⌜ r ≡ properly a b ⌝ }
 {
     a & b == a && a != b
-}
-
-// How many edges a has.
-pub fn count(a: u64) -> u32
-    ensures { λ r. ⌜ r ≡ ones a ⌝ }
-{
-    u64::count_ones(a)
 }
 
 // The set of the edges below n.

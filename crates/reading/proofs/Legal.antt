@@ -1,6 +1,6 @@
 -- A policy that was read is legal, and after a refusal it is all zero. The invariant holds of every draft after the shape command.
 -- Assumes nothing.
-use Prim.Native.Nat.{ℕ, zero, suc, _+_, _-_, _^_}
+use Prim.Native.Nat.{ℕ, zero, suc, _+_, _-_, _^_, _<_}
 use native.Mathlib.Omega.{arith}
 use mathlib.Core.Path.{_≡_, refl, ap, _∙_, subst}
 use mathlib.Core.Logic.{_⊎_, inl, inr, _≢_}
@@ -15,12 +15,14 @@ use Rattle.policy.specs.Policies.{legal}
 use Rattle.policy.specs.Making.{zeroPolicy}
 use Rattle.policy.proofs.Making.{Sound, sound-counted, sound-edge, sound-set, sound-legal, zero-illegal}
 use Rattle.reading.specs.declared.Draft.{Draft}
+use Rattle.reading.specs.declared.Answer.{Answer}
 use Rattle.reading.specs.declared.Outcome.{Outcome}
 use Rattle.reading.specs.declared.Outcome.the-variants.{Read, Refused}
 use Rattle.reading.specs.declared.Command.{Command}
 use Rattle.reading.specs.declared.Command.the-variants.{End, Shape, Edge, Accept}
-use Rattle.reading.specs.Reading.{after, allGiven, commandAt, completeAtEnd, emptyDraft, inPlace, isEnd, isShape, nextOffset, numberOf, readMost, readUpTo, readingFrom, readingOf, refusalOf, refusedAt, withinLimits}
+use Rattle.reading.specs.Reading.{Stop, after, allGiven, commandAt, completeAtEnd, emptyDraft, inPlace, isEnd, isShape, nextOffset, numberAt, numberOf, readingOf, refusalOf, stopFrom, stopMost, stopOf, withinLimits}
 use Rattle.reading.proofs.Questions.{passed}
+use Rattle.reading.proofs.Turns.{next-within, by-number}
 
 -- ---- each command keeps it
 -- every draft after the shape command
@@ -77,25 +79,47 @@ Kept (Read end) p = legal p ≡ true
 Kept (Refused number at) p = (p ≡ zeroPolicy) × (number ≢ 0)
 
 module _ (b : List ℕ) where
-  most-kept : (n at : ℕ) (d : Draft) → Stage at d → Kept (readMost n b at d .outcome) (readMost n b at d .policy)
-  unfolding readMost refusedAt readUpTo
-  most-kept zero at d s = (refl, λ e. absurd (omega (arith, e)))
-  most-kept (suc n) at d s = go (test (eqb (refusalOf b at d) 0)) (test (isEnd (commandAt b at))) (most-kept n (nextOffset b at) (after d (commandAt b at)))
+  -- the stop's draft is sound, unless it stops at the first command
+  stop-stage : (n at : ℕ) (d : Draft) → Stage at d → Stage (stopMost n b at d .at) (stopMost n b at d .draft)
+  unfolding stopMost
+  stop-stage zero at d s = s
+  stop-stage (suc n) at d s = go (test (eqb (refusalOf b at d) 0)) (test (isEnd (commandAt b at))) (stop-stage n (nextOffset b at) (after d (commandAt b at)))
     where
+      later : Stop
+      later = stopMost n b (nextOffset b at) (after d (commandAt b at))
+
       go : (eqb (refusalOf b at d) 0 ≡ true) ⊎ (eqb (refusalOf b at d) 0 ≡ false) → (isEnd (commandAt b at) ≡ true) ⊎ (isEnd (commandAt b at) ≡ false)
-          → (Stage (nextOffset b at) (after d (commandAt b at)) → Kept (readMost n b (nextOffset b at) (after d (commandAt b at)) .outcome) (readMost n b (nextOffset b at) (after d (commandAt b at)) .policy))
-          → Kept (readMost (suc n) b at d .outcome) (readMost (suc n) b at d .policy)
-      go (inr f) e ih = rw f (refl, eqb-false (refusalOf b at d) 0 f)
-      go (inl t) (inl e) ih =
-          let w = passed (eqb-true (refusalOf b at d) 0 t) in
-          rw (t, e) (legal-at-end at d (commandAt b at) s (w .place) e (w .complete))
-      go (inl t) (inr e) ih =
-          let w = passed (eqb-true (refusalOf b at d) 0 t) in
-          rw (t, e) (ih (inr (sound-after at d (commandAt b at) s (w .place) (w .within))))
+          → (Stage (nextOffset b at) (after d (commandAt b at)) → Stage (later .at) (later .draft)) → Stage (stopMost (suc n) b at d .at) (stopMost (suc n) b at d .draft)
+      go (inr f) e ih = rw f s
+      go (inl t) (inl e) ih = rw (t, e) s
+      go (inl t) (inr e) ih = let w = passed (eqb-true (refusalOf b at d) 0 t) in rw (t, e) (ih (inr (sound-after at d (commandAt b at) s (w .place) (w .within))))
+
+  -- where nothing is refused it is the end command
+  stop-ends : (n at : ℕ) (d : Draft) → length b < n + at → numberAt b (stopMost n b at d) ≡ 0 → isEnd (commandAt b (stopMost n b at d .at)) ≡ true
+  unfolding stopMost numberAt
+  stop-ends zero at d h = λ z. absurd (omega (arith, passed z .byte))
+  stop-ends (suc n) at d h = go (test (eqb (refusalOf b at d) 0)) (test (isEnd (commandAt b at))) (stop-ends n (nextOffset b at) (after d (commandAt b at)))
+    where
+      later : Stop
+      later = stopMost n b (nextOffset b at) (after d (commandAt b at))
+
+      go : (eqb (refusalOf b at d) 0 ≡ true) ⊎ (eqb (refusalOf b at d) 0 ≡ false) → (isEnd (commandAt b at) ≡ true) ⊎ (isEnd (commandAt b at) ≡ false)
+          → (length b < n + nextOffset b at → numberAt b later ≡ 0 → isEnd (commandAt b (later .at)) ≡ true) → numberAt b (stopMost (suc n) b at d) ≡ 0 → isEnd (commandAt b (stopMost (suc n) b at d .at)) ≡ true
+      go (inr f) e ih = rw f (λ z. absurd (eqb-false (refusalOf b at d) 0 f z))
+      go (inl t) (inl e) ih = rw (t, e) (λ z. e)
+      go (inl t) (inr e) ih = let w = next-within b at d (eqb-true (refusalOf b at d) 0 t) in rw (t, e) (ih (omega arith))
 
   reading-kept : Kept (readingOf b .outcome) (readingOf b .policy)
-  unfolding readingOf readingFrom
-  reading-kept = most-kept (length b + 1 - 0) 0 emptyDraft (inl refl)
+  unfolding stopOf stopFrom numberAt
+  reading-kept = by-number b (λ (a : Answer). Kept (a .outcome) (a .policy)) read (λ n. (refl, n))
+    where
+      fuel : ℕ
+      fuel = length b + 1 - 0
+
+      read : numberAt b (stopOf b) ≡ 0 → legal (stopOf b .draft .policy) ≡ true
+      read z =
+          let w = passed z in
+          legal-at-end (stopOf b .at) (stopOf b .draft) (commandAt b (stopOf b .at)) (stop-stage fuel 0 emptyDraft (inl refl)) (w .place) (stop-ends fuel 0 emptyDraft (omega arith) z) (w .complete)
 
   pub read-legal : {end : ℕ} → readingOf b .outcome ≡ Read end → legal (readingOf b .policy) ≡ true
   read-legal e = subst (λ (o : Outcome). Kept o (readingOf b .policy)) e reading-kept

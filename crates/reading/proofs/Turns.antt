@@ -4,12 +4,12 @@ use Prim.Native.Nat.{ℕ, zero, suc, _+_, _-_, _≤_, _<_}
 use native.Mathlib.Omega.{arith}
 use mathlib.Core.Path.{_≡_, refl, sym, ap, _∙_, subst}
 use mathlib.Core.Logic.{_⊎_, inl, inr}
-use mathlib.Core.Bool.{true, false}
-use mathlib.Core.List.{List}
+use mathlib.Core.Bool.{Bool, true, false, cond}
+use mathlib.Core.List.{List, []}
 use lib.Dec.{eqb, lit≤}
 use lib.ListN.{length, getD, take, drop, length-drop}
 use lib.Seq.{take-all, drop-length}
-use borrow.Author.Tests.{eqb-true, eq-eqb, ne-eqb}
+use borrow.Author.Tests.{eqb-true, eqb-false, eq-eqb, ne-eqb}
 use Rattle.lists.proofs.Bools.{test}
 use Rattle.masks.specs.Masks.{insert}
 use Rattle.policy.specs.declared.Policy.{Policy}
@@ -22,7 +22,7 @@ use Rattle.reading.specs.declared.Command.{Command}
 use Rattle.reading.specs.declared.Command.the-variants.{End, Shape, Edge, Accept}
 use Rattle.reading.specs.declared.Outcome.{Outcome}
 use Rattle.reading.specs.declared.Outcome.the-variants.{Read, Refused}
-use Rattle.reading.specs.Reading.{Bounded, after, commandAt, emptyDraft, isEnd, nextOffset, operandCount, partAfter, readMost, readUpTo, readingFrom, readingOf, refusalOf, refusedAt, restOf, withinLimits}
+use Rattle.reading.specs.Reading.{Bounded, HandsBack, ReadsPolicy, after, answerAt, commandAt, emptyDraft, isEnd, nextOffset, numberAt, numberOf, offsetOf, operandCount, partAfter, readingOf, refusalOf, restOf, stopFrom, stopMost, stopOf, withinLimits}
 use Rattle.reading.proofs.Questions.{passed, room}
 
 module _ (b : List ℕ) where
@@ -34,15 +34,15 @@ module _ (b : List ℕ) where
       (omega arith, omega (arith, room b at (operandCount (getD b at 0)) (w .there) refl (w .byte)))
 
   -- a bound that is not reached does not matter
-  pub enough : (m n at : ℕ) (d : Draft) → length b < m + at → length b < n + at → at ≤ length b → readMost m b at d ≡ readMost n b at d
-  unfolding readMost
+  pub enough : (m n at : ℕ) (d : Draft) → length b < m + at → length b < n + at → at ≤ length b → stopMost m b at d ≡ stopMost n b at d
+  unfolding stopMost
   enough zero n at d h g k = absurd (omega arith)
   enough (suc m) zero at d h g k = absurd (omega arith)
   enough (suc m) (suc n) at d h g k = go (test (eqb (refusalOf b at d) 0)) (test (isEnd (commandAt b at))) (enough m n (nextOffset b at) (after d (commandAt b at)))
     where
       go : (eqb (refusalOf b at d) 0 ≡ true) ⊎ (eqb (refusalOf b at d) 0 ≡ false) → (isEnd (commandAt b at) ≡ true) ⊎ (isEnd (commandAt b at) ≡ false)
-          → (length b < m + nextOffset b at → length b < n + nextOffset b at → nextOffset b at ≤ length b → readMost m b (nextOffset b at) (after d (commandAt b at)) ≡ readMost n b (nextOffset b at) (after d (commandAt b at)))
-          → readMost (suc m) b at d ≡ readMost (suc n) b at d
+          → (length b < m + nextOffset b at → length b < n + nextOffset b at → nextOffset b at ≤ length b → stopMost m b (nextOffset b at) (after d (commandAt b at)) ≡ stopMost n b (nextOffset b at) (after d (commandAt b at)))
+          → stopMost (suc m) b at d ≡ stopMost (suc n) b at d
       go (inr f) e ih = rw f
       go (inl t) (inl e) ih = rw (t, e)
       go (inl t) (inr e) ih =
@@ -52,17 +52,18 @@ module _ (b : List ℕ) where
   more : (at : ℕ) → at ≤ length b → length b + 1 - at ≡ suc (length b - at)
   more at h = omega arith
 
-  pub turn-refused : (at : ℕ) (d : Draft) → at ≤ length b → (refusalOf b at d ≡ 0 → ⊥) → readingFrom b at d ≡ refusedAt (refusalOf b at d) at
-  unfolding readingFrom readMost
-  turn-refused at d h n = rw (more at h, ne-eqb (refusalOf b at d) 0 n)
+  -- ---- where it stops, from a command on
+  pub stop-refused : (at : ℕ) (d : Draft) → at ≤ length b → (refusalOf b at d ≡ 0 → ⊥) → stopFrom b at d ≡ record { at = at; draft = d }
+  unfolding stopFrom stopMost
+  stop-refused at d h n = rw (more at h, ne-eqb (refusalOf b at d) 0 n)
 
-  pub turn-end : (at : ℕ) (d : Draft) → at ≤ length b → refusalOf b at d ≡ 0 → isEnd (commandAt b at) ≡ true → readingFrom b at d ≡ readUpTo (at + 1) (d .policy)
-  unfolding readingFrom readMost
-  turn-end at d h z t = rw (more at h, eq-eqb (refusalOf b at d) 0 z, t)
+  pub stop-end : (at : ℕ) (d : Draft) → at ≤ length b → refusalOf b at d ≡ 0 → isEnd (commandAt b at) ≡ true → stopFrom b at d ≡ record { at = at; draft = d }
+  unfolding stopFrom stopMost
+  stop-end at d h z t = rw (more at h, eq-eqb (refusalOf b at d) 0 z, t)
 
-  pub turn-on : (at : ℕ) (d : Draft) → at ≤ length b → refusalOf b at d ≡ 0 → isEnd (commandAt b at) ≡ false → readingFrom b at d ≡ readingFrom b (nextOffset b at) (after d (commandAt b at))
-  unfolding readingFrom readMost
-  turn-on at d h z t =
+  pub stop-on : (at : ℕ) (d : Draft) → at ≤ length b → refusalOf b at d ≡ 0 → isEnd (commandAt b at) ≡ false → stopFrom b at d ≡ stopFrom b (nextOffset b at) (after d (commandAt b at))
+  unfolding stopFrom stopMost
+  stop-on at d h z t =
       let w = next-within at d z in
       rw (more at h, eq-eqb (refusalOf b at d) 0 z, t)
       (enough (length b - at) (length b + 1 - nextOffset b at) (nextOffset b at) (after d (commandAt b at)) (omega arith) (omega arith) (w .1))
@@ -81,26 +82,28 @@ bounded-after d (Shape states letters colours initial) h w =
 bounded-after d (Edge state letter target colour) h w = record { few-edges = h .few-edges; few-colours = h .few-colours }
 bounded-after d (Accept s) h w = record { few-edges = h .few-edges; few-colours = h .few-colours }
 
--- what is left to read, from `at` with the draft d, makes the whole reading
+-- from `at` with the draft d, reading stops where it does from the beginning
 pub record Onway (b : List ℕ) (at : ℕ) (d : Draft) : Type 0 where
   pub within : at ≤ length b
   pub bounded : Bounded (d .policy)
-  pub is : readingFrom b at d ≡ readingOf b
+  pub is : stopFrom b at d ≡ stopOf b
 
 module _ (b : List ℕ) where
   pub onway-start : {p : Policy} → p ≡ counted 0 0 0 0 → Onway b 0 (record { policy = p; given = 0 })
-  unfolding readingOf emptyDraft zeroPolicy
+  unfolding stopOf emptyDraft zeroPolicy
   onway-start e = rw e (record { within = omega arith; bounded = bounded-zero; is = refl })
 
 module _ {b : List ℕ} {at : ℕ} {d : Draft} (o : Onway b at d) where
   pub onway-refused : {n : ℕ} {p : Policy} → n ≡ refusalOf b at d → (n ≡ 0 → ⊥) → p ≡ counted 0 0 0 0 → _≡_ {A = Answer} (record { outcome = Refused n at; policy = p }) (readingOf b)
-  unfolding refusedAt zeroPolicy
-  onway-refused e h q = rw (e, q) (sym (turn-refused b at d (o .within) (rw e at h)) ∙ o .is)
+  unfolding readingOf answerAt numberAt zeroPolicy
+  onway-refused e h q =
+      let s = sym (o .is) ∙ stop-refused b at d (o .within) (rw e at h) in
+      rw (e, q, s, ne-eqb (refusalOf b at d) 0 (rw e at h))
 
   module _ (z : refusalOf b at d ≡ 0) {c : Command} (is-c : c ≡ commandAt b at) where
     pub onway-end : isEnd c ≡ true → _≡_ {A = Answer} (record { outcome = Read (at + 1); policy = d .policy }) (readingOf b)
-    unfolding readUpTo
-    onway-end t = sym (turn-end b at d (o .within) z (rw is-c at t)) ∙ o .is
+    unfolding readingOf answerAt numberAt
+    onway-end t = let s = sym (o .is) ∙ stop-end b at d (o .within) z (rw is-c at t) in rw (s, eq-eqb (refusalOf b at d) 0 z)
 
     pub onway-on : isEnd c ≡ false → {e : Draft} → e ≡ after d c → {n : ℕ} → n ≡ operandCount (getD b at 0) → Onway b (at + 1 + n) e
     unfolding nextOffset
@@ -109,7 +112,7 @@ module _ {b : List ℕ} {at : ℕ} {d : Draft} (o : Onway b at d) where
         rw (q, is-c, k) (record {
           within = next-within b at d z .1;
           bounded = bounded-after d (commandAt b at) (o .bounded) (w .within);
-          is = sym (turn-on b at d (o .within) z (rw is-c at t)) ∙ o .is;
+          is = sym (stop-on b at d (o .within) z (rw is-c at t)) ∙ o .is;
         })
 
 -- ---- the draft in place
@@ -132,25 +135,54 @@ module _ {d : Draft} {c : Command} {p : Policy} {given : ℕ} where
   taken-accept e n q g = rw (e, q, g, n) (record { goes-on = refl; is = refl })
 
 -- ---- where the reading ends
+stop-within : (b : List ℕ) (n at : ℕ) (d : Draft) → at ≤ length b → stopMost n b at d .at ≤ length b
+unfolding stopMost
+stop-within b zero at d h = h
+stop-within b (suc n) at d h = go (test (eqb (refusalOf b at d) 0)) (test (isEnd (commandAt b at))) (stop-within b n (nextOffset b at) (after d (commandAt b at)))
+  where
+    go : (eqb (refusalOf b at d) 0 ≡ true) ⊎ (eqb (refusalOf b at d) 0 ≡ false) → (isEnd (commandAt b at) ≡ true) ⊎ (isEnd (commandAt b at) ≡ false)
+        → (nextOffset b at ≤ length b → stopMost n b (nextOffset b at) (after d (commandAt b at)) .at ≤ length b) → stopMost (suc n) b at d .at ≤ length b
+    go (inr f) e ih = rw f h
+    go (inl t) (inl e) ih = rw (t, e) h
+    go (inl t) (inr e) ih = rw (t, e) (ih (next-within b at d (eqb-true (refusalOf b at d) 0 t) .1))
+
+-- the end of the part that was read, or the offset of a refusal
 abbrev EndsWithin : List ℕ → Outcome → Type 0
 EndsWithin b (Read end) = end ≤ length b
 EndsWithin b (Refused number at) = at ≤ length b
 
-most-within : (b : List ℕ) (n at : ℕ) (d : Draft) → at ≤ length b → EndsWithin b (readMost n b at d .outcome)
-unfolding readMost refusedAt readUpTo
-most-within b zero at d h = h
-most-within b (suc n) at d h = go (test (eqb (refusalOf b at d) 0)) (test (isEnd (commandAt b at))) (most-within b n (nextOffset b at) (after d (commandAt b at)))
-  where
-    go : (eqb (refusalOf b at d) 0 ≡ true) ⊎ (eqb (refusalOf b at d) 0 ≡ false) → (isEnd (commandAt b at) ≡ true) ⊎ (isEnd (commandAt b at) ≡ false)
-        → (nextOffset b at ≤ length b → EndsWithin b (readMost n b (nextOffset b at) (after d (commandAt b at)) .outcome)) → EndsWithin b (readMost (suc n) b at d .outcome)
-    go (inr f) e ih = rw f h
-    go (inl t) (inl e) ih = rw (t, e) (omega (arith, passed (eqb-true (refusalOf b at d) 0 t) .byte))
-    go (inl t) (inr e) ih = rw (t, e) (ih (next-within b at d (eqb-true (refusalOf b at d) 0 t) .1))
-
 module _ (b : List ℕ) where
+  abbrev number : ℕ
+  number = numberAt b (stopOf b)
+
+  stop-of-within : stopOf b .at ≤ length b
+  unfolding stopOf stopFrom
+  stop-of-within = stop-within b (length b + 1 - 0) 0 emptyDraft (omega arith)
+
+  -- ---- what holds of the answer, by its number
+  pub by-number : (P : Answer → Type 0) → (number ≡ 0 → P (record { outcome = Read (stopOf b .at + 1); policy = stopOf b .draft .policy }))
+      → ((number ≡ 0 → ⊥) → P (record { outcome = Refused number (stopOf b .at); policy = zeroPolicy })) → P (readingOf b)
+  unfolding readingOf answerAt
+  by-number P read refused = go (test (eqb number 0))
+    where
+      go : (eqb number 0 ≡ true) ⊎ (eqb number 0 ≡ false) → P (answerAt b (stopOf b))
+      go (inl t) = subst (λ (z : Bool). P (cond z (record { outcome = Read (stopOf b .at + 1); policy = stopOf b .draft .policy }) (record { outcome = Refused number (stopOf b .at); policy = zeroPolicy }))) (sym t) (read (eqb-true number 0 t))
+      go (inr f) = subst (λ (z : Bool). P (cond z (record { outcome = Read (stopOf b .at + 1); policy = stopOf b .draft .policy }) (record { outcome = Refused number (stopOf b .at); policy = zeroPolicy }))) (sym f) (refused (eqb-false number 0 f))
+
+  pub reads : (a : Answer) → a ≡ readingOf b → ReadsPolicy b a
+  reads a e = record {
+    answer-is = e;
+    number-is = ap (λ (x : Answer). numberOf (x .outcome)) e ∙ by-number (λ (x : Answer). numberOf (x .outcome) ≡ number) sym (λ n. refl);
+    offset-is = ap (λ (x : Answer). offsetOf (x .outcome)) e
+        ∙ by-number (λ (x : Answer). offsetOf (x .outcome) ≡ cond (eqb number 0) (stopOf b .at + 1) (stopOf b .at)) (λ z. rw (eq-eqb number 0 z)) (λ n. rw (ne-eqb number 0 n));
+    policy-is = ap (λ (x : Answer). x .policy) e
+        ∙ by-number (λ (x : Answer). x .policy ≡ cond (eqb number 0) (stopOf b .draft .policy) zeroPolicy) (λ z. rw (eq-eqb number 0 z)) (λ n. rw (ne-eqb number 0 n));
+  }
+
+  -- ---- what follows the end command
   ends-within : EndsWithin b (readingOf b .outcome)
-  unfolding readingOf readingFrom
-  ends-within = most-within b (length b + 1 - 0) 0 emptyDraft (omega arith)
+  unfolding numberAt
+  ends-within = by-number (λ (x : Answer). EndsWithin b (x .outcome)) (λ z. omega (arith, passed z .byte)) (λ n. stop-of-within)
 
   pub end-within : {end : ℕ} → readingOf b .outcome ≡ Read end → end ≤ length b
   end-within e = subst (EndsWithin b) e ends-within
@@ -159,10 +191,17 @@ module _ (b : List ℕ) where
   pub refusal-within : {number at : ℕ} → readingOf b .outcome ≡ Refused number at → at ≤ length b
   refusal-within e = subst (EndsWithin b) e ends-within
 
-  pub rest-read : {end : ℕ} → readingOf b .outcome ≡ Read end → take (length b - end) (drop end b) ≡ restOf b
+  hands-back : (part : List ℕ) → part ≡ restOf b → HandsBack b part
   unfolding restOf
-  rest-read {end} e = take-all (length b - end) (drop end b) (simp length-drop (omega arith)) ∙ sym (ap (partAfter b) e)
+  hands-back part e = record {
+    part-is = e;
+    by-number = e ∙ by-number (λ (x : Answer). partAfter b (x .outcome) ≡ cond (eqb number 0) (drop (stopOf b .at + 1) b) []) (λ z. rw (eq-eqb number 0 z)) (λ n. rw (ne-eqb number 0 n));
+  }
 
-  pub rest-refused : {number at : ℕ} → readingOf b .outcome ≡ Refused number at → take (length b - length b) (drop (length b) b) ≡ restOf b
+  pub rest-read : {end : ℕ} → readingOf b .outcome ≡ Read end → HandsBack b (take (length b - end) (drop end b))
   unfolding restOf
-  rest-refused e = take-all (length b - length b) (drop (length b) b) (simp length-drop (omega arith)) ∙ drop-length b ∙ sym (ap (partAfter b) e)
+  rest-read {end} e = hands-back _ (take-all (length b - end) (drop end b) (simp length-drop (omega arith)) ∙ sym (ap (partAfter b) e))
+
+  pub rest-refused : {number at : ℕ} → readingOf b .outcome ≡ Refused number at → HandsBack b (take (length b - length b) (drop (length b) b))
+  unfolding restOf
+  rest-refused e = hands-back _ (take-all (length b - length b) (drop (length b) b) (simp length-drop (omega arith)) ∙ drop-length b ∙ sym (ap (partAfter b) e))

@@ -1,6 +1,7 @@
 -- Reading a policy from command bytes (document 01, "A policy", and "The gatekeeper's questions", paragraph "Reading").
 -- `bytes` are the caller's, `at` is the offset of a command's first byte, a draft is the policy so far with the edges given so far.
 use Prim.Native.Nat.{ℕ, zero, suc, _+_, _-_, _*_, _^_, _≤_}
+use mathlib.Core.Path.{_≡_}
 use mathlib.Core.Bool.{Bool, true, false, not, _&&_, cond}
 use mathlib.Core.List.{List, []}
 use lib.Dec.{eqb, ltb, leb}
@@ -115,29 +116,37 @@ after d (Accept s) = record { policy = withSet (d .policy) s; given = d .given }
 unfoldable pub nextOffset : List ℕ → ℕ → ℕ
 nextOffset bytes at = at + 1 + operandCount (getD bytes at 0)
 
--- after a refusal the policy is all zero
-unfoldable pub refusedAt : ℕ → ℕ → Answer
-refusedAt number at = record { outcome = Refused number at; policy = zeroPolicy }
+-- where reading stops: at the first command that is refused, or at the end command
+pub record Stop : Type 0 where
+  pub at : ℕ
+  pub draft : Draft
 
--- after the end command: the offset just past it, and the policy
-unfoldable pub readUpTo : ℕ → Policy → Answer
-readUpTo end p = record { outcome = Read end; policy = p }
-
--- the commands from an offset on, at most n of them
-unfoldable pub readMost : ℕ → List ℕ → ℕ → Draft → Answer
-readMost zero bytes at d = refusedAt 1 at
-readMost (suc n) bytes at d =
-    let number = refusalOf bytes at d in
+-- from an offset on, after at most n commands
+unfoldable pub stopMost : ℕ → List ℕ → ℕ → Draft → Stop
+stopMost zero bytes at d = record { at = at; draft = d }
+stopMost (suc n) bytes at d =
     let c = commandAt bytes at in
-    let later = readMost n bytes (nextOffset bytes at) (after d c) in
-    cond (eqb number 0) (cond (isEnd c) (readUpTo (at + 1) (d .policy)) later) (refusedAt number at)
+    let later = stopMost n bytes (nextOffset bytes at) (after d c) in
+    cond (eqb (refusalOf bytes at d) 0 && not (isEnd c)) later (record { at = at; draft = d })
 
 -- the same with no bound: a command takes a byte or more, so there are at most as many as bytes, and one that is missing
-unfoldable pub readingFrom : List ℕ → ℕ → Draft → Answer
-readingFrom bytes at d = readMost (length bytes + 1 - at) bytes at d
+unfoldable pub stopFrom : List ℕ → ℕ → Draft → Stop
+stopFrom bytes at d = stopMost (length bytes + 1 - at) bytes at d
+
+unfoldable pub stopOf : List ℕ → Stop
+stopOf bytes = stopFrom bytes 0 emptyDraft
+
+-- the number of the refusal there; 0 at the end command
+unfoldable pub numberAt : List ℕ → Stop → ℕ
+numberAt bytes s = refusalOf bytes (s .at) (s .draft)
+
+-- after a refusal the offset of the refused command, and the policy is all zero; after the end command the offset just past it, and the policy
+unfoldable pub answerAt : List ℕ → Stop → Answer
+answerAt bytes s =
+    cond (eqb (numberAt bytes s) 0) (record { outcome = Read (s .at + 1); policy = s .draft .policy }) (record { outcome = Refused (numberAt bytes s) (s .at); policy = zeroPolicy })
 
 unfoldable pub readingOf : List ℕ → Answer
-readingOf bytes = readingFrom bytes 0 emptyDraft
+readingOf bytes = answerAt bytes (stopOf bytes)
 
 -- ---- document 01's number and values for each outcome
 -- the number of the refusal; 0 where the policy was read
@@ -157,6 +166,19 @@ partAfter bytes (Refused number at) = []
 
 unfoldable pub restOf : List ℕ → List ℕ
 restOf bytes = partAfter bytes (readingOf bytes .outcome)
+
+-- ---- the promises
+-- what read promises of its answer
+pub record ReadsPolicy (bytes : List ℕ) (a : Answer) : Type 0 where
+  pub answer-is : a ≡ readingOf bytes
+  pub number-is : numberOf (a .outcome) ≡ numberAt bytes (stopOf bytes)
+  pub offset-is : offsetOf (a .outcome) ≡ cond (eqb (numberAt bytes (stopOf bytes)) 0) (stopOf bytes .at + 1) (stopOf bytes .at)
+  pub policy-is : a .policy ≡ cond (eqb (numberAt bytes (stopOf bytes)) 0) (stopOf bytes .draft .policy) zeroPolicy
+
+-- what rest promises of the part that it hands back
+pub record HandsBack (bytes part : List ℕ) : Type 0 where
+  pub part-is : part ≡ restOf bytes
+  pub by-number : part ≡ cond (eqb (numberAt bytes (stopOf bytes)) 0) (drop (stopOf bytes .at + 1) bytes) []
 
 -- ---- what holds of every draft: an edge number is a bit of a 64-bit mask, a colour set is one of 8 bits
 pub record Bounded (p : Policy) : Type 0 where

@@ -5,7 +5,7 @@ ghost use Prim.Native.Nat.{_+_, _-_, _*_, _<_, _≤_, _^_};
 ghost use lib.ListN.{length};
 ghost use Rattle.policy.specs.Policies.{edgeOf, legalCounts};
 ghost use Rattle.policy.specs.Making.{counted};
-ghost use Rattle.reading.specs.Reading.{Bounded, allGiven, commandAt, commandKnown, completeAtEnd, firstTime, inPlace, operandCount, operandsThere, readingOf, refusalOf, restOf, withinLimits};
+ghost use Rattle.reading.specs.Reading.{Bounded, HandsBack, ReadsPolicy, allGiven, commandAt, commandKnown, completeAtEnd, firstTime, inPlace, operandCount, operandsThere, refusalOf, withinLimits};
 
 // A command with its operands.
 pub enum Command {
@@ -192,7 +192,7 @@ fn refusal(bytes: &[u8], at: usize, d: Draft, family: &[bool; 256]) -> u8
 // ---- reading
 // The policy of the commands up to the end command, or the first refusal. The draft's policy is written in place.
 pub fn read(bytes: &[u8]) -> Answer
-    ensures { λ r. ⌜ r ≡ readingOf (now (bytes .entry)) ⌝ }
+    ensures { λ r. ⌜ ReadsPolicy (now (bytes .entry)) r ⌝ }
 {
     let none = policy::counted(0, 0, 0, 0);
     let mut p = none;
@@ -236,7 +236,7 @@ pub fn read(bytes: &[u8]) -> Answer
 
 // What follows the end command, as a part of the caller's bytes; empty after a refusal.
 pub fn rest(bytes: &[u8]) -> &[u8]
-    ensures { λ r. ⌜ now r ≡ restOf (now (bytes .entry)) ⌝ }
+    ensures { λ r. ⌜ HandsBack (now (bytes .entry)) (now r) ⌝ }
 {
     let a = read(bytes);
     let o = a.outcome;

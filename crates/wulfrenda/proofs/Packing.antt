@@ -14,7 +14,7 @@ use Rattle.lists.proofs.Lists.{length-below, getD-map-below}
 use Rattle.tables.proofs.Stores.{front-more}
 use Rattle.policy.specs.declared.Policy.{Policy}
 use Rattle.policy.specs.Policies.{legal}
-use Rattle.policy.specs.Making.{counted, zeroPolicy}
+use Rattle.policy.specs.Making.{counted, zeroPolicy, withTables}
 use Rattle.policy.proofs.Making.{zero-illegal}
 use Rattle.wulfrenda.specs.Records.{flag, isSet, recordLength, bytesAt, flagsAt, unpacked, policyOf, recordOf}
 
@@ -78,7 +78,7 @@ module _ (p : Policy) (sized : Sized p) where
   record-long = simp (length-append, length-map) (omega arith)
 
   unpacked-record : unpacked (recordOf p) ≡ p
-  unfolding unpacked recordOf head
+  unfolding counted withTables unpacked recordOf head
   unpacked-record =
       let flags : List ℕ = map flag (p .family) in
       let b : List ℕ = head ++ p .target ++ p .colour ++ flags in

@@ -7,7 +7,7 @@ use lib.Dec.{eqb}
 use lib.ListN.{length, getD}
 use Rattle.lists.specs.Lists.{below}
 use Rattle.policy.specs.declared.Policy.{Policy}
-use Rattle.policy.specs.Making.{zeroPolicy}
+use Rattle.policy.specs.Making.{zeroPolicy, counted, withTables}
 
 -- ---- the version: major, minor, patch; another length of the record is another major version
 abbrev pub version : ℕ
@@ -37,15 +37,7 @@ flagsAt b at n = map (λ i. isSet (getD b (at + i) 0)) (below n)
 
 -- the policy of a record's bytes
 unfoldable pub unpacked : List ℕ → Policy
-unpacked b = record {
-  states = getD b 0 0;
-  letters = getD b 1 0;
-  colours = getD b 2 0;
-  initial = getD b 3 0;
-  target = bytesAt b 4 64;
-  colour = bytesAt b 68 64;
-  family = flagsAt b 132 256;
-}
+unpacked b = withTables (counted (getD b 0 0) (getD b 1 0) (getD b 2 0) (getD b 3 0)) (bytesAt b 4 64) (bytesAt b 68 64) (flagsAt b 132 256)
 
 -- the policy of a record; of a list of another length the zero policy, which is not legal
 unfoldable pub policyOf : List ℕ → Policy

@@ -4,18 +4,19 @@ use mathlib.Core.Bool.{true}
 use borrow.Author.Needs.{needs}
 use borrow.Author.Tests.{not-true, not-false}
 use Rattle.policy.specs.Policies.{legal}
-use Rattle.comparing.specs.Comparing.{sameVerdicts, comparison}
+use Rattle.comparing.specs.Comparing.{refusalOf, sameVerdicts, comparison}
 use Rattle.comparing.specs.Pairs.{Comparable}
 use Rattle.comparing.proofs.Pairs.{pairs-decide}
 use Rattle.comparing.proofs.compare.Statement.{statement}
 use Rattle.comparing.proofs.compare.Tie as tie
+use Rattle.comparing.proofs.Tests.{compares}
 
 is-legal-requires : tie.Need-is-legal-requires
 is-legal-requires c κs = search needs
 
 returns : tie.Need-returns
-unfolding comparison
-returns c = simp (sym (c .before .is-legal .ensures) ∙ not-true _ (c .if1 .taken))
+unfolding refusalOf comparison
+returns c = compares _ _ _ (simp (sym (c .before .is-legal .ensures) ∙ not-true _ (c .if1 .taken)))
 
 -- past the first question
 legal-p : (c : tie.Else1) → legal (c .before .before .args .t1) ≡ true
@@ -25,8 +26,8 @@ is-legal-requires-2 : tie.Need-is-legal-requires-2
 is-legal-requires-2 c κs = search needs
 
 returns-2 : tie.Need-returns-2
-unfolding comparison
-returns-2 c = simp (legal-p (c .before .before), sym (c .before .is-legal2 .ensures) ∙ not-true _ (c .if2 .taken))
+unfolding refusalOf comparison
+returns-2 c = compares _ _ _ (simp (legal-p (c .before .before), sym (c .before .is-legal2 .ensures) ∙ not-true _ (c .if2 .taken)))
 
 legal-q : (c : tie.Else2) → legal (c .before .before .before .before .args .t2) ≡ true
 legal-q c = sym (c .before .is-legal2 .ensures) ∙ not-false _ (c .if2 .left)
@@ -35,10 +36,10 @@ has-same-graph-requires : tie.Need-has-same-graph-requires
 has-same-graph-requires c κs = (legal-p (c .before .before .before .before .before .before), refl, refl)
 
 returns-3 : tie.Need-returns-3
-unfolding comparison
+unfolding refusalOf comparison
 returns-3 c =
     let d = c .before .before .before .before .before .before in
-    simp (legal-p (d .before .before), legal-q d, sym (c .before .has-same-graph .ensures) ∙ not-true _ (c .if3 .taken))
+    compares _ _ _ (simp (legal-p (d .before .before), legal-q d, sym (c .before .has-same-graph .ensures) ∙ not-true _ (c .if3 .taken)))
 
 -- past all questions
 comparable : (c : tie.Else3) → let a = c .before .before .before .before .before .before .before .before .before .before .args in Comparable (a .t1) (a .t2)
@@ -58,16 +59,16 @@ decided c =
     pairs-decide (a .t1) (a .t2) (comparable (c .before .before .before .before .before .before .before .before)) ∙ sym (c .pairs-agree .ensures)
 
 returns-4 : tie.Need-returns-4
-unfolding comparison
+unfolding refusalOf comparison
 returns-4 c =
     let k = comparable (c .before .before .before .before .before .before .before .before .before) in
-    simp (k .legal-p, k .legal-q, k .same-graph, decided (c .before) ∙ c .if4 .taken)
+    compares _ _ _ (simp (k .legal-p, k .legal-q, k .same-graph, decided (c .before) ∙ c .if4 .taken))
 
 returns-5 : tie.Need-returns-5
-unfolding comparison
+unfolding refusalOf comparison
 returns-5 c =
     let k = comparable (c .before .before .before .before .before .before .before .before .before) in
-    simp (k .legal-p, k .legal-q, k .same-graph, decided (c .before) ∙ c .if4 .left)
+    compares _ _ _ (simp (k .legal-p, k .legal-q, k .same-graph, decided (c .before) ∙ c .if4 .left))
 
 pub compare-spec : {M : Type 1} → statement M
 compare-spec =

@@ -14,8 +14,8 @@ use Rattle.lists.proofs.Tests.{all-more, all-not}
 use Rattle.lists.proofs.Numbers.{set-byte}
 use Rattle.policy.specs.Policies.{coloursOf}
 use Rattle.policy.proofs.Laws.{legal-counts}
-use Rattle.comparing.specs.Pairs.{suspect, pairAgrees, setAgrees, suspectBy}
-use Rattle.comparing.proofs.Suspects.{edges-p, colours-p, missing-agrees, clear-agrees, suspect-agrees, suspect-by}
+use Rattle.comparing.specs.Pairs.{needsSearch, pairAgrees, setAgrees, needsSearchBy}
+use Rattle.comparing.proofs.Searches.{edges-p, colours-p, missing-agrees, unsearched-agrees, searched-agrees, search-by}
 use Rattle.comparing.proofs.set_agrees.Statement.{statement}
 use Rattle.comparing.proofs.set_agrees.Tie as tie
 
@@ -61,37 +61,37 @@ few : (c : tie.In-loop Inv-loop μ-loop) → c .before .loop .d < 256
 few c = let s = c .before .before .before .before .before .before .before in set-byte (s .args .q .colours) (c .before .loop .d) (legal-counts (s .args .q) (s .pre .0 .comparable .legal-q) .colours-few) (within c)
 
 -- what is asked of the pair
-suspected : (c : tie.After-is-suspect Inv-loop μ-loop) → let a = c .before .before .before .before .before .before .before .before .args in c .is-suspect .result ≡ suspect (a .p) (a .q) (a .c) (c .before .before .loop .d)
-suspected c =
+asked : (c : tie.After-needs-search Inv-loop μ-loop) → let a = c .before .before .before .before .before .before .before .before .args in c .needs-search .result ≡ needsSearch (a .p) (a .q) (a .c) (c .before .before .loop .d)
+asked c =
     let s = c .before .before .before .before .before .before .before .before in
     let a = s .args in
     let m = c .before .before .before .before .before .before .before .edges-in in
     let used = c .before .before .before .before .colours-in2 in
     let d = c .before .before .loop .d in
-    c .is-suspect .ensures ∙ ap (λ (f : List Bool). suspectBy (a .t .now) (a .u .now) f (a .verdict) (m .result) (used .result) (a .c) d) (s .pre .2)
-    ∙ suspect-by (a .p) (a .q) (a .t .now) (a .u .now) (s .pre .0) (a .c) d (a .verdict) (m .result) (used .result) (s .pre .3) (m .ensures) (used .ensures)
+    c .needs-search .ensures ∙ ap (λ (f : List Bool). needsSearchBy (a .t .now) (a .u .now) f (a .verdict) (m .result) (used .result) (a .c) d) (s .pre .2)
+    ∙ search-by (a .p) (a .q) (a .t .now) (a .u .now) (s .pre .0) (a .c) d (a .verdict) (m .result) (used .result) (s .pre .3) (m .ensures) (used .ensures)
 
-cast-is-suspect : tie.Need-cast-is-suspect Inv-loop μ-loop
-cast-is-suspect c = omega (arith, few c)
+cast-needs-search : tie.Need-cast-needs-search Inv-loop μ-loop
+cast-needs-search c = omega (arith, few c)
 
-is-suspect-requires : tie.Need-is-suspect-requires Inv-loop μ-loop
-is-suspect-requires c κs = search needs
+needs-search-requires : tie.Need-needs-search-requires Inv-loop μ-loop
+needs-search-requires c κs = search needs
 
-cast-is-free : tie.Need-cast-is-free Inv-loop μ-loop
-cast-is-free c = omega (arith, few (c .before .before .before))
+cast-has-no-cycle : tie.Need-cast-has-no-cycle Inv-loop μ-loop
+cast-has-no-cycle c = omega (arith, few (c .before .before .before))
 
-is-free-requires : tie.Need-is-free-requires Inv-loop μ-loop
-is-free-requires c κs = let s = c .before .before .before .before .before .before .before .before .before .before in (s .pre .0, s .pre .1, c .before .before .before .before .loop .inv .2)
+has-no-cycle-requires : tie.Need-has-no-cycle-requires Inv-loop μ-loop
+has-no-cycle-requires c κs = let s = c .before .before .before .before .before .before .before .before .before .before in (s .pre .0, s .pre .1, c .before .before .before .before .loop .inv .2)
 
 returns-2 : tie.Need-returns-2 Inv-loop μ-loop
 unfolding setAgrees
 returns-2 c =
     let l = c .before .before .before .before .before in
     let a = l .before .before .before .before .before .before .before .args in
-    let free = c .before .is-free .ensures in (
+    let none = c .before .has-no-cycle .ensures in (
       sym (all-not (pairAgrees (a .p) (a .q) (a .c)) (2 ^ a .q .colours) (l .before .loop .d) (within l)
-          (suspect-agrees (a .p) (a .q) (a .c) (l .before .loop .d) (sym (suspected (c .before .before .before .before)) ∙ c .before .before .before .if2 .taken) ∙ sym (free .0) ∙ not-true _ (c .if3 .taken))),
-      free .1,
+          (searched-agrees (a .p) (a .q) (a .c) (l .before .loop .d) (sym (asked (c .before .before .before .before)) ∙ c .before .before .before .if2 .taken) ∙ sym (none .0) ∙ not-true _ (c .if3 .taken))),
+      none .1,
     )
 
 add-d : tie.Need-add-d Inv-loop μ-loop
@@ -108,8 +108,8 @@ loop-again c =
     let i = l .before .loop .d in (
       omega arith,
       all-more (pairAgrees (a .p) (a .q) (a .c)) i (l .before .loop .inv .1)
-          (⊎-elim (λ w. suspect-agrees (a .p) (a .q) (a .c) i (sym (suspected d) ∙ w .0 .taken) ∙ sym (w .2 .ensures .0) ∙ not-false _ (w .3 .left))
-          (λ w. clear-agrees (a .p) (a .q) (a .c) i (sym (suspected d) ∙ w .0 .left)) (c .if2 .came)),
+          (⊎-elim (λ w. searched-agrees (a .p) (a .q) (a .c) i (sym (asked d) ∙ w .0 .taken) ∙ sym (w .2 .ensures .0) ∙ not-false _ (w .3 .left))
+          (λ w. unsearched-agrees (a .p) (a .q) (a .c) i (sym (asked d) ∙ w .0 .left)) (c .if2 .came)),
       ⊎-elim (λ w. ap length (w .4) ∙ w .2 .ensures .1) (λ w. ap length (w .1) ∙ l .before .loop .inv .2) (c .if2 .came),
     )
 
@@ -132,10 +132,10 @@ set-agrees-spec =
     colours-in-requires-2
     sets-requires
     loop-holds
-    cast-is-suspect
-    is-suspect-requires
-    cast-is-free
-    is-free-requires
+    cast-needs-search
+    needs-search-requires
+    cast-has-no-cycle
+    has-no-cycle-requires
     returns-2
     add-d
     loop-less

@@ -10,7 +10,7 @@ use Rattle.policy.specs.Making.{withEdge, withSet, withTables}
 use Rattle.reading.specs.declared.Draft.{Draft}
 use Rattle.reading.specs.Reading.{isEnd, refusalOf, withinLimits}
 use Rattle.reading.proofs.Questions.{passed, edge-within}
-use Rattle.reading.proofs.Turns.{Onway, onway-start, onway-refused, onway-end, onway-on, Taken, taken-shape, taken-edge, taken-accept}
+use Rattle.reading.proofs.Turns.{Onway, onway-start, onway-refused, onway-end, onway-on, Taken, taken-shape, taken-edge, taken-accept, reads}
 use Rattle.reading.proofs.read.Statement.{statement}
 use Rattle.reading.proofs.read.Tie as tie
 
@@ -65,7 +65,7 @@ refusal-requires : tie.Need-refusal-requires Inv-loop μ-loop
 refusal-requires c κs = (c .before .before .loop .inv .bounded, refl)
 
 returns : tie.Need-returns Inv-loop μ-loop
-returns c = onway-refused (c .before .before .before .before .loop .inv) (c .before .refusal .ensures) (c .if1 .taken) (c .before .before .before .before .before .counted .ensures)
+returns c = reads _ _ (onway-refused (c .before .before .before .before .loop .inv) (c .before .refusal .ensures) (c .if1 .taken) (c .before .before .before .before .before .counted .ensures))
 
 command-at-requires : tie.Need-command-at-requires Inv-loop μ-loop
 command-at-requires c κs = let w = passed (accepted c) in (w .byte, w .there)
@@ -78,7 +78,7 @@ add-end c = omega (arith, passed (accepted (c .before .before .before)) .byte)
 
 returns-2 : tie.Need-returns-2 Inv-loop μ-loop
 unfolding isEnd
-returns-2 c = onway-end (c .before .before .before .before .before .before .before .loop .inv) (accepted (c .before .before .before)) (c .before .before .command-at .ensures) (ap isEnd (c .enum-told .given .1))
+returns-2 c = reads _ _ (onway-end (c .before .before .before .before .before .before .before .loop .inv) (accepted (c .before .before .before)) (c .before .before .command-at .ensures) (ap isEnd (c .enum-told .given .1)))
 
 enum-known-states : tie.Need-enum-known-states Inv-loop μ-loop
 enum-known-states c = search needs

@@ -14,10 +14,10 @@ enum-known-o : tie.Need-enum-known-o
 enum-known-o c = search needs
 
 sub-result : tie.Need-sub-result
-sub-result c = end-within (c .before .before .before .before .before .args .bytes .now) (sym (ap (λ (a : Answer). a .outcome) (c .before .before .before .read .ensures)) ∙ c .before .o .given .1)
+sub-result c = end-within (c .before .before .before .before .before .args .bytes .now) (sym (ap (λ (a : Answer). a .outcome) (c .before .before .before .read .ensures .answer-is)) ∙ c .before .o .given .1)
 
 part-result-start : tie.Need-part-result-start
-part-result-start c = let h = end-within (c .before .before .before .before .before .args .bytes .now) (sym (ap (λ (a : Answer). a .outcome) (c .before .before .before .read .ensures)) ∙ c .before .o .given .1) in search needs
+part-result-start c = let h = end-within (c .before .before .before .before .before .args .bytes .now) (sym (ap (λ (a : Answer). a .outcome) (c .before .before .before .read .ensures .answer-is)) ∙ c .before .o .given .1) in search needs
 
 part-result-end : tie.Need-part-result-end
 part-result-end c = search needs
@@ -35,10 +35,10 @@ part-result-end-2 : tie.Need-part-result-end-2
 part-result-end-2 c = search needs
 
 returns : tie.Need-returns
-returns c = rest-read (c .before .before .before .before .before .before .args .bytes .now) (sym (ap (λ (a : Answer). a .outcome) (c .before .before .before .before .read .ensures)) ∙ c .before .before .o .given .1)
+returns c = rest-read (c .before .before .before .before .before .before .args .bytes .now) (sym (ap (λ (a : Answer). a .outcome) (c .before .before .before .before .read .ensures .answer-is)) ∙ c .before .before .o .given .1)
 
 returns-2 : tie.Need-returns-2
-returns-2 c = rest-refused (c .before .before .before .before .before .args .bytes .now) (sym (ap (λ (a : Answer). a .outcome) (c .before .before .before .read .ensures)) ∙ c .before .enum-told .given .1)
+returns-2 c = rest-refused (c .before .before .before .before .before .args .bytes .now) (sym (ap (λ (a : Answer). a .outcome) (c .before .before .before .read .ensures .answer-is)) ∙ c .before .enum-told .given .1)
 
 pub rest-spec : {M : Type 1} → statement M
 rest-spec =

@@ -27,7 +27,7 @@ compare-number-requires c κs = search needs
 returns : tie.Need-returns
 returns c =
     let compared = c .before .before .before in
-    let is = compared .compare .ensures ∙ ap₂ comparison (compared .before .before .policy-of .ensures) (compared .before .policy-of2 .ensures) in
+    let is = compared .compare .ensures .answer-is ∙ ap₂ comparison (compared .before .before .policy-of .ensures) (compared .before .policy-of2 .ensures) in
     let number = c .compare-number .ensures ∙ ap numberOf is in
     let same = c .before .flag .ensures ∙ ap flag (c .before .before .compare-same .ensures ∙ ap sameOf is) in
     (number, same)

@@ -30,7 +30,7 @@ returns-2 : tie.Need-returns-2
 returns-2 c =
     let stored = c .before .before .before .before in
     let read = stored .before .before .before in
-    let is = read .read .ensures in
+    let is = read .read .ensures .answer-is in
     let number = c .read-number .ensures ∙ ap (λ (a : Answer). numberOf (a .outcome)) is in
     let policy = stored .put-record .ensures ∙ ap (λ (a : Answer). recordOf (a .policy)) is in
     let offset = c .before .read-offset .ensures ∙ ap (λ (a : Answer). offsetOf (a .outcome)) is in

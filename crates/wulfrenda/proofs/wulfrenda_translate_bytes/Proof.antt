@@ -31,11 +31,11 @@ translated c = c .before .before .before .before .before .before .before .before
 
 -- the number of the reading
 number-read : (c : tie.After-read-number) → c .read-number .result ≡ readNumberOf (readingOf (start (read c) .args .bytes .now) .outcome)
-number-read c = c .read-number .ensures ∙ ap (λ (x : Answer). readNumberOf (x .outcome)) (read c .read .ensures)
+number-read c = c .read-number .ensures ∙ ap (λ (x : Answer). readNumberOf (x .outcome)) (read c .read .ensures .answer-is)
 
 -- the offset of the reading
 offset-read : (c : tie.After-read-number) → c .before .read-offset .result ≡ offsetOf (readingOf (start (read c) .args .bytes .now) .outcome)
-offset-read c = c .before .read-offset .ensures ∙ ap (λ (x : Answer). offsetOf (x .outcome)) (read c .read .ensures)
+offset-read c = c .before .read-offset .ensures ∙ ap (λ (x : Answer). offsetOf (x .outcome)) (read c .read .ensures .answer-is)
 
 read-requires : tie.Need-read-requires
 read-requires c κs = search needs
@@ -62,7 +62,7 @@ returns c =
 translate-legal-requires : tie.Need-translate-legal-requires
 translate-legal-requires c κs =
     let r = asked (passed c) in
-    ap (λ (x : Answer). legal (x .policy)) (read r .read .ensures) ∙ number-legal (start (read r) .args .bytes .now) (sym (number-read r) ∙ passed c .if1 .left)
+    ap (λ (x : Answer). legal (x .policy)) (read r .read .ensures .answer-is) ∙ number-legal (start (read r) .args .bytes .now) (sym (number-read r) ∙ passed c .if1 .left)
 
 translate-counts-requires : tie.Need-translate-counts-requires
 translate-counts-requires c κs = search needs
@@ -99,7 +99,7 @@ returns-2 c =
     let call = translated c in
     let passing = call .before .before .before .before .before .before .before .before in
     let r = asked passing in
-    let t = same-policy (ap (λ (x : Answer). x .policy) (read r .read .ensures)) (call .translate-legal .ensures) in
+    let t = same-policy (ap (λ (x : Answer). x .policy) (read r .read .ensures .answer-is)) (call .translate-legal .ensures) in
     let zero = sym (number-read r) ∙ passing .if1 .left in
     let n = c .before .translate-number .ensures ∙ ap numberOf (t .answer-is) in
     let number = first-passed _ _ _ 0 zero n in

@@ -2,6 +2,7 @@
 use mathlib.Core.Path.{sym, _∙_}
 use borrow.Author.Needs.{needs}
 use Rattle.policy.proofs.Making.{zero-counted}
+use Rattle.policy.specs.Making.{counted, withTables}
 use Rattle.wulfrenda.specs.Records.{unpacked}
 use Rattle.wulfrenda.proofs.Packing.{policy-of, policy-of-other}
 use Rattle.wulfrenda.proofs.records.policy_of.Statement.{statement}
@@ -35,7 +36,7 @@ flags-at-requires : tie.Need-flags-at-requires
 flags-at-requires c κs = search needs
 
 returns-2 : tie.Need-returns-2
-unfolding unpacked
+unfolding counted withTables unpacked
 returns-2 c =
     let target = c .before .before .bytes-at .ensures in
     let colour = c .before .bytes-at2 .ensures in

@@ -1,4 +1,4 @@
--- `is_free` meets its contract: no state passed has such a cycle through it. Assumes nothing.
+-- `has_no_cycle` meets its contract: no state passed has such a cycle through it. Assumes nothing.
 use Prim.Native.Nat.{_-_, _≤_}
 use native.Mathlib.Nat.{le-antisymm}
 use native.Mathlib.Omega.{arith}
@@ -10,13 +10,13 @@ use borrow.Author.Tests.{not-true, not-false}
 use Rattle.lists.specs.Lists.{all, below}
 use Rattle.lists.proofs.Tests.{all-more, all-not}
 use Rattle.graph.proofs.CodeLaws.{reached}
-use Rattle.comparing.specs.Pairs.{pairEdges, freeAt, isFree}
-use Rattle.comparing.proofs.Suspects.{pair-edges-by}
-use Rattle.comparing.proofs.is_free.Statement.{statement}
-use Rattle.comparing.proofs.is_free.Tie as tie
+use Rattle.comparing.specs.Pairs.{pairEdges, noCycleAt, noCycle}
+use Rattle.comparing.proofs.Searches.{pair-edges-by}
+use Rattle.comparing.proofs.has_no_cycle.Statement.{statement}
+use Rattle.comparing.proofs.has_no_cycle.Tie as tie
 
 abbrev Inv-loop : tie.InvT-loop
-Inv-loop p q heads rows t u c d n m v₀ v = (v ≤ n) × (all (freeAt p q c d) (below v) ≡ true)
+Inv-loop p q heads rows t u c d n m v₀ v = (v ≤ n) × (all (noCycleAt p q c d) (below v) ≡ true)
 
 abbrev μ-loop : tie.MeasureT-loop
 μ-loop p q heads rows t u c d n m v₀ v = n - v
@@ -46,19 +46,19 @@ reach-all-requires c κs = let s = c .before .before .before .before .before in 
 loop-holds : tie.Need-loop-holds Inv-loop μ-loop
 loop-holds c = (omega arith, refl)
 
-is-free-at-requires : tie.Need-is-free-at-requires Inv-loop μ-loop
-is-free-at-requires c κs =
+has-no-cycle-at-requires : tie.Need-has-no-cycle-at-requires Inv-loop μ-loop
+has-no-cycle-at-requires c κs =
     let s = c .before .before .before .before .before .before .before .before .before in
     let m = c .before .before .before .before .before .both .result in
     (s .pre .0, whole (c .before .before .before .before .before), s .pre .1, reached (s .args .p) m (s .args .rows .now) _ (s .pre .0 .comparable .legal-p) (s .pre .2) (c .before .before .before .reach-all .ensures) .0, c .before .loop-test .taken)
 
 returns : tie.Need-returns Inv-loop μ-loop
-unfolding isFree
+unfolding noCycle
 returns c =
     let d = c .before .before .before in
     let s = d .before .before .before .before .before .before .before .before in
     let a = s .args in (
-      sym (all-not (freeAt (a .p) (a .q) (a .c) (a .d)) (a .p .states) (d .before .loop .v) (d .loop-test .taken) (sym (c .before .is-free-at .ensures) ∙ not-true _ (c .if1 .taken))),
+      sym (all-not (noCycleAt (a .p) (a .q) (a .c) (a .d)) (a .p .states) (d .before .loop .v) (d .loop-test .taken) (sym (c .before .has-no-cycle-at .ensures) ∙ not-true _ (c .if1 .taken))),
       reached (a .p) (d .before .before .before .before .both .result) (a .rows .now) _ (s .pre .0 .comparable .legal-p) (s .pre .2) (d .before .before .reach-all .ensures) .1,
     )
 
@@ -72,19 +72,19 @@ loop-again : tie.Need-loop-again Inv-loop μ-loop
 loop-again c =
     let d = c .before .before .before in
     let a = d .before .before .before .before .before .before .before .before .args in
-    (omega (arith, d .loop-test .taken), all-more (freeAt (a .p) (a .q) (a .c) (a .d)) (d .before .loop .v) (d .before .loop .inv .1) (sym (c .before .is-free-at .ensures) ∙ not-false _ (c .if1 .left)))
+    (omega (arith, d .loop-test .taken), all-more (noCycleAt (a .p) (a .q) (a .c) (a .d)) (d .before .loop .v) (d .before .loop .inv .1) (sym (c .before .has-no-cycle-at .ensures) ∙ not-false _ (c .if1 .left)))
 
 returns-2 : tie.Need-returns-2 Inv-loop μ-loop
-unfolding isFree
+unfolding noCycle
 returns-2 c =
     let s = c .before .before .before .before .before .before .before .before in
     let a = s .args in (
-      sym (ap (λ k. all (freeAt (a .p) (a .q) (a .c) (a .d)) (below k)) (le-antisymm (c .loop-test .left) (c .before .loop .inv .0)) ∙ c .before .loop .inv .1),
+      sym (ap (λ k. all (noCycleAt (a .p) (a .q) (a .c) (a .d)) (below k)) (le-antisymm (c .loop-test .left) (c .before .loop .inv .0)) ∙ c .before .loop .inv .1),
       reached (a .p) (c .before .before .before .before .both .result) (a .rows .now) _ (s .pre .0 .comparable .legal-p) (s .pre .2) (c .before .before .reach-all .ensures) .1,
     )
 
-pub is-free-spec : {M : Type 1} → statement M
-is-free-spec =
+pub has-no-cycle-spec : {M : Type 1} → statement M
+has-no-cycle-spec =
     tie.close
     (tie.spec
     Inv-loop
@@ -95,7 +95,7 @@ is-free-spec =
     both-requires
     reach-all-requires
     loop-holds
-    is-free-at-requires
+    has-no-cycle-at-requires
     returns
     add-v
     loop-less

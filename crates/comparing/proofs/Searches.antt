@@ -1,5 +1,5 @@
--- Which pairs of colour sets are looked at, and by which tables: a pair is suspect only if its edges have all of its colours, in p already those in the colours c alone; any other
--- pair agrees. Assumes nothing.
+-- Which pairs of colour sets are searched for a cycle, and by which tables: a pair is searched only if the verdicts differ and its edges have all of its colours, in p
+-- already those in the colours c alone; any other pair agrees. Assumes nothing.
 use Prim.Native.Nat.{ℕ, _^_}
 use mathlib.Core.Path.{_≡_, refl, sym, ap, ap₂, _∙_, subst}
 use mathlib.Core.Logic.{_⊎_, inl, inr, _≢_}
@@ -19,8 +19,8 @@ use Rattle.policy.specs.Policies.{coloursOf, inFamily}
 use Rattle.policy.specs.ByColour.{edgesIn, tableEdges, tableColours}
 use Rattle.policy.proofs.Laws.{colours-up}
 use Rattle.policy.proofs.ByColour.{table-edges-are, table-colours-are, edges-in-colours}
-use Rattle.comparing.specs.Pairs.{Tables, pairEdges, exactly, isFree, suspect, pairAgrees, setAgrees, exactlyBy, suspectBy}
-use Rattle.comparing.proofs.Pairs.{pair-inside-p, exactly-p, exactly-q, free-missing}
+use Rattle.comparing.specs.Pairs.{Tables, pairEdges, exactly, noCycle, needsSearch, pairAgrees, setAgrees, exactlyBy, needsSearchBy}
+use Rattle.comparing.proofs.Pairs.{pair-inside-p, exactly-p, exactly-q, none-missing}
 
 module _ (p q : Policy) where
   -- ---- where the edges of a pair have all of its colours
@@ -33,27 +33,27 @@ module _ (p q : Policy) where
   whole-q c d t =
       subst (λ (s : ℕ). inside s (coloursOf q (edgesIn p c)) ≡ true) (exactly-q p q c d (pairEdges p q c d) t) (colours-up q (pairEdges p q c d) (edgesIn p c) (pair-inside-p p q c d))
 
-  -- ---- suspect pairs
-  -- a pair that is not suspect agrees
-  pub clear-agrees : (c d : ℕ) → suspect p q c d ≡ false → pairAgrees p q c d ≡ true
-  unfolding suspect pairAgrees
-  clear-agrees c d f = go (test (exactly p q c d (pairEdges p q c d))) (differs (inFamily p c) (inFamily q d)) f
+  -- ---- the pairs that are searched
+  -- a pair that is not searched agrees
+  pub unsearched-agrees : (c d : ℕ) → needsSearch p q c d ≡ false → pairAgrees p q c d ≡ true
+  unfolding needsSearch pairAgrees
+  unsearched-agrees c d f = go (test (exactly p q c d (pairEdges p q c d))) (differs (inFamily p c) (inFamily q d)) f
     where
-      go : (exactly p q c d (pairEdges p q c d) ≡ true) ⊎ (exactly p q c d (pairEdges p q c d) ≡ false) → (b : Bool) → b && exactly p q c d (pairEdges p q c d) ≡ false → not b || isFree p q c d ≡ true
+      go : (exactly p q c d (pairEdges p q c d) ≡ true) ⊎ (exactly p q c d (pairEdges p q c d) ≡ false) → (b : Bool) → b && exactly p q c d (pairEdges p q c d) ≡ false → not b || noCycle p q c d ≡ true
       go (inl t) true g = absurd (true≢false (sym t ∙ g))
-      go (inr z) true g = free-missing p q c d z
+      go (inr z) true g = none-missing p q c d z
       go r false g = refl
 
-  -- one that is suspect agrees if no cycle has its colours
-  pub suspect-agrees : (c d : ℕ) → suspect p q c d ≡ true → pairAgrees p q c d ≡ isFree p q c d
-  unfolding suspect pairAgrees
-  suspect-agrees c d t =
-      ap (λ (b : Bool). not b || isFree p q c d) (and-l (differs (inFamily p c) (inFamily q d)) (exactly p q c d (pairEdges p q c d)) t)
+  -- one that is searched agrees if no cycle has its colours
+  pub searched-agrees : (c d : ℕ) → needsSearch p q c d ≡ true → pairAgrees p q c d ≡ noCycle p q c d
+  unfolding needsSearch pairAgrees
+  searched-agrees c d t =
+      ap (λ (b : Bool). not b || noCycle p q c d) (and-l (differs (inFamily p c) (inFamily q d)) (exactly p q c d (pairEdges p q c d)) t)
 
   -- where the edges in the colours c have not all of them, every pair with c agrees
   pub missing-agrees : (c : ℕ) → coloursOf p (edgesIn p c) ≢ c → setAgrees p q c ≡ true
-  unfolding setAgrees suspect
-  missing-agrees c h = each-all (pairAgrees p q c) (below (2 ^ q .colours)) (λ d j. clear-agrees c d (and-absent (differs (inFamily p c) (inFamily q d)) (exactly p q c d (pairEdges p q c d)) (none d (test (exactly p q c d (pairEdges p q c d))))))
+  unfolding setAgrees needsSearch
+  missing-agrees c h = each-all (pairAgrees p q c) (below (2 ^ q .colours)) (λ d j. unsearched-agrees c d (and-absent (differs (inFamily p c) (inFamily q d)) (exactly p q c d (pairEdges p q c d)) (none d (test (exactly p q c d (pairEdges p q c d))))))
     where
       none : (d : ℕ) → (exactly p q c d (pairEdges p q c d) ≡ true) ⊎ (exactly p q c d (pairEdges p q c d) ≡ false) → exactly p q c d (pairEdges p q c d) ≡ false
       none d (inl t) = absurd (h (whole-p c d t))
@@ -82,9 +82,9 @@ module _ (p q : Policy) where
     unfolding exactlyBy exactly
     exactly-by c d m = ap₂ (λ (a b : ℕ). eqb a c && eqb b d) (colours-p m) (colours-q m)
 
-    pub suspect-by : (c d : ℕ) (b : Bool) (m s : ℕ) → b ≡ inFamily p c → m ≡ tableEdges t c → s ≡ tableColours u m → suspectBy t u (q .family) b m s c d ≡ suspect p q c d
-    unfolding suspectBy suspect inFamily
-    suspect-by c d b m s verdict is used =
+    pub search-by : (c d : ℕ) (b : Bool) (m s : ℕ) → b ≡ inFamily p c → m ≡ tableEdges t c → s ≡ tableColours u m → needsSearchBy t u (q .family) b m s c d ≡ needsSearch p q c d
+    unfolding needsSearchBy needsSearch inFamily
+    search-by c d b m s verdict is used =
         ap₂ (λ (x : Bool) (y : Bool). x && inside d s && y) (ap (λ (x : Bool). differs x (getD (q .family) d false)) verdict)
         (exactly-by c d (bitAnd m (tableEdges u d)) ∙ ap (exactly p q c d) (ap (λ (x : ℕ). bitAnd x (tableEdges u d)) is ∙ pair-edges-by c d))
         ∙ and-implied (differs (inFamily p c) (inFamily q d)) (inside d s) (exactly p q c d (pairEdges p q c d))
@@ -99,13 +99,13 @@ same-is false false = refl
 
 module _ (t u : List ℕ) (f : List Bool) (b : Bool) (m s c d : ℕ) where
   -- one verdict in both
-  pub by-one : Bool·beq (getD f d false) b ≡ true → suspectBy t u f b m s c d ≡ false
-  unfolding suspectBy
+  pub by-one : Bool·beq (getD f d false) b ≡ true → needsSearchBy t u f b m s c d ≡ false
+  unfolding needsSearchBy
   by-one h = rw (same-is (getD f d false) b, h) refl
 
   -- two verdicts, and d has a colour that none of the edges m has in q
-  pub by-outside : inside d s ≡ false → suspectBy t u f b m s c d ≡ false
-  unfolding suspectBy
+  pub by-outside : inside d s ≡ false → needsSearchBy t u f b m s c d ≡ false
+  unfolding needsSearchBy
   by-outside h = go (differs b (getD f d false)) (exactlyBy t u c d (bitAnd m (tableEdges u d)))
     where
       go : (x y : Bool) → x && inside d s && y ≡ false
@@ -113,6 +113,6 @@ module _ (t u : List ℕ) (f : List Bool) (b : Bool) (m s c d : ℕ) where
       go false y = refl
 
   -- two verdicts, and d has only such colours
-  pub by-two : Bool·beq (getD f d false) b ≡ false → inside d s ≡ true → suspectBy t u f b m s c d ≡ exactlyBy t u c d (bitAnd m (tableEdges u d))
-  unfolding suspectBy
+  pub by-two : Bool·beq (getD f d false) b ≡ false → inside d s ≡ true → needsSearchBy t u f b m s c d ≡ exactlyBy t u c d (bitAnd m (tableEdges u d))
+  unfolding needsSearchBy
   by-two h i = rw (same-is (getD f d false) b, h, i) refl

@@ -1,11 +1,11 @@
--- `is_suspect` meets its contract. Assumes nothing.
+-- `needs_search` meets its contract. Assumes nothing.
 use mathlib.Core.Path.{sym, ap, _∙_}
 use lib.Bits.{bitAnd}
 use borrow.Author.Needs.{needs}
 use Rattle.comparing.specs.Pairs.{exactlyBy}
-use Rattle.comparing.proofs.Suspects.{by-one, by-outside, by-two}
-use Rattle.comparing.proofs.is_suspect.Statement.{statement}
-use Rattle.comparing.proofs.is_suspect.Tie as tie
+use Rattle.comparing.proofs.Searches.{by-one, by-outside, by-two}
+use Rattle.comparing.proofs.needs_search.Statement.{statement}
+use Rattle.comparing.proofs.needs_search.Tie as tie
 
 element-copy-out-if1 : tie.Need-element-copy-out-if1
 element-copy-out-if1 c = search needs
@@ -39,8 +39,8 @@ returns-3 c =
     let a = c .before .before .before .before .args in
     sym (by-outside (a .t .now) (a .u .now) (a .family .now) (a .verdict) (a .m) (a .used) (a .c) (a .d) (sym (c .before .set-inside .ensures) ∙ c .if2 .left))
 
-pub is-suspect-spec : {M : Type 1} → statement M
-is-suspect-spec =
+pub needs-search-spec : {M : Type 1} → statement M
+needs-search-spec =
     tie.close
     (tie.spec
     element-copy-out-if1
