@@ -1,4 +1,4 @@
 pub mod Meaning
 pub mod Pairs
 pub mod Searches
-pub mod Tests
+pub mod Answers

@@ -19,7 +19,7 @@ use Rattle.policy.specs.Policies.{coloursOf, inFamily}
 use Rattle.policy.specs.ByColour.{edgesIn, tableEdges, tableColours}
 use Rattle.policy.proofs.Laws.{colours-up}
 use Rattle.policy.proofs.ByColour.{table-edges-are, table-colours-are, edges-in-colours}
-use Rattle.comparing.specs.Pairs.{Tables, pairEdges, exactly, noCycle, needsSearch, pairAgrees, setAgrees, exactlyBy, needsSearchBy}
+use Rattle.comparing.specs.Pairs.{ColourTables, pairEdges, exactly, noCycle, needsSearch, pairAgrees, setAgrees, exactlyBy, needsSearchBy}
 use Rattle.comparing.proofs.Pairs.{pair-inside-p, exactly-p, exactly-q, none-missing}
 
 module _ (p q : Policy) where
@@ -60,7 +60,7 @@ module _ (p q : Policy) where
       none d (inr f) = f
 
   -- ---- by the tables
-  module _ (t u : List ℕ) (k : Tables p q t u) where
+  module _ (t u : List ℕ) (k : ColourTables p q t u) where
     pub edges-p : (c : ℕ) → tableEdges t c ≡ edgesIn p c
     edges-p c = ap (λ (t : List ℕ). tableEdges t c) (k .of-p) ∙ table-edges-are p (k .comparable .legal-p) c
 

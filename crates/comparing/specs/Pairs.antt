@@ -24,7 +24,7 @@ module _ (p q : Policy) where
     pub same-graph : sameGraph p q ≡ true
 
   -- and t and u are the edges of the two by colour
-  pub record Tables (t u : List ℕ) : Type 0 where
+  pub record ColourTables (t u : List ℕ) : Type 0 where
     pub comparable : Comparable
     pub of-p : t ≡ byColour p
     pub of-q : u ≡ byColour q

@@ -8,7 +8,7 @@ ghost use Rattle.policy.specs.Policies.{inFamily, legal};
 ghost use Rattle.graph.specs.Through.{Rows};
 ghost use Rattle.graph.specs.SameGraph.{sameGraph, sameTargets};
 ghost use Rattle.comparing.specs.Comparing.{Compares};
-ghost use Rattle.comparing.specs.Pairs.{Comparable, Tables, pairEdges, exactlyBy, needsSearchBy, noCycleAt, noCycle, setAgrees, pairsAgree};
+ghost use Rattle.comparing.specs.Pairs.{Comparable, ColourTables, pairEdges, exactlyBy, needsSearchBy, noCycleAt, noCycle, setAgrees, pairsAgree};
 use policy::Policy;
 
 // Whether every cycle has the same verdict in both; or document 01's number.
@@ -71,7 +71,7 @@ fn has_no_cycle_at(
     m: u64,
     v: usize,
 ) -> bool
-    requires { ⌜ Tables p q (now t) (now u) × (m ≡ pairEdges p q c d) × (now heads ≡ p .target) × Rows p m (now rows) × (v < p .states) ⌝ }
+    requires { ⌜ ColourTables p q (now t) (now u) × (m ≡ pairEdges p q c d) × (now heads ≡ p .target) × Rows p m (now rows) × (v < p .states) ⌝ }
     ensures { λ r. ⌜ r ≡ noCycleAt p q c d v ⌝ }
 {
     let x = graph::cycle_through(p, heads, rows, m, v);
@@ -92,7 +92,7 @@ fn has_no_cycle(
     c: u8,
     d: u8,
 ) -> bool
-    requires { ⌜ Tables p q (now t) (now u) × (now heads ≡ p .target) × (length (now rows) ≡ 16) ⌝ }
+    requires { ⌜ ColourTables p q (now t) (now u) × (now heads ≡ p .target) × (length (now rows) ≡ 16) ⌝ }
     ensures { λ r. ⌜ (r ≡ noCycle p q c d) × (length (now (rows .exit)) ≡ 16) ⌝ }
 {
     let n = p.states as usize;
@@ -153,7 +153,7 @@ fn set_agrees(
     c: u8,
     verdict: bool,
 ) -> bool
-    requires { ⌜ Tables p q (now t) (now u) × (now heads ≡ p .target) × (now family ≡ q .family) × (verdict ≡ inFamily p c) × (length (now rows) ≡ 16) ⌝ }
+    requires { ⌜ ColourTables p q (now t) (now u) × (now heads ≡ p .target) × (now family ≡ q .family) × (verdict ≡ inFamily p c) × (length (now rows) ≡ 16) ⌝ }
     ensures { λ r. ⌜ (r ≡ setAgrees p q c) × (length (now (rows .exit)) ≡ 16) ⌝ }
 {
     let m = policy::edges_in(t, c);

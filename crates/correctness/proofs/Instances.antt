@@ -12,7 +12,7 @@ use Rattle.tables.specs.Tables.{padded, zeros}
 use Rattle.policy.specs.declared.Policy.{Policy}
 use Rattle.policy.specs.Policies.{edges, edgeOf, source, targetOf, colourOf, edgeColours, coloursOf, inFamily, accepting, countsFit, legalCounts, legalEdge, legalEdges, legalSet, legalFamily, legalGraph, legal, full}
 use Rattle.policy.specs.Making.{counted, zeroPolicy, withEdge, withSet, withTables}
-use Rattle.reading.specs.Reading.{operandCount, commandAt, isShape, isEnd, operandsThere, inPlace, withinLimits, firstTime, allGiven, completeAtEnd, emptyDraft, after, nextOffset, stopMost, stopFrom, stopOf, numberAt, answerAt, readingOf as bytesReadingOf, refusalOf as readRefusalOf, offsetOf, numberOf as readNumberOf}
+use Rattle.reading.specs.Reading.{operandCount, commandAt, isShape, isEnd, operandsThere, inPlace, withinLimits, firstTime, allGiven, completeAtEnd, emptyDraft, draftAfter, nextOffset, stopMost, stopFrom, stopOf, numberAt, answerAt, readingOf as bytesReadingOf, refusalOf as readRefusalOf, offsetOf, numberOf as readNumberOf}
 use Rattle.reading.specs.declared.Answer.{Answer}
 use Rattle.graph.specs.Cycles.{spread, closure, reach, isCycle, contains, cyclesIn}
 use Rattle.forest.specs.Forest.{before, place, inOrder, largest, roots, opposed, children, trees, tree, forest, priority, transientPriority, node, upFrom, chain, childOf, inRoot, nodeMasks, nodeParents, nodePriorities}
@@ -33,7 +33,7 @@ use Rattle.correctness.proofs.Demand3.{translated, wulfrenda-translated
 
 -- ---- by computation
 bytes-give : BytesGiveB
-unfolding has insert edges edgeOf inFamily countsFit legalCounts counted zeroPolicy withTables withEdge withSet operandCount commandAt isShape isEnd operandsThere inPlace withinLimits firstTime allGiven completeAtEnd emptyDraft after nextOffset stopMost stopFrom stopOf numberAt answerAt bytesReadingOf readRefusalOf
+unfolding has insert edges edgeOf inFamily countsFit legalCounts counted zeroPolicy withTables withEdge withSet operandCount commandAt isShape isEnd operandsThere inPlace withinLimits firstTime allGiven completeAtEnd emptyDraft draftAfter nextOffset stopMost stopFrom stopOf numberAt answerAt bytesReadingOf readRefusalOf
 bytes-give = refl
 
 cases-hold : CasesHold cases

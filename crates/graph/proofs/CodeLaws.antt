@@ -24,7 +24,7 @@ use Rattle.policy.specs.declared.Policy.{Policy}
 use Rattle.policy.specs.Policies.{edges, edgeOf, source, targetOf, legal}
 use Rattle.policy.proofs.Laws.{legal-counts, edges-le, legal-target, source-edge, edge-lt, source-lt}
 use Rattle.graph.specs.Cycles.{Path, reach}
-use Rattle.graph.specs.Through.{cycleThrough, Rows, withTarget, edgeRow, edgeRows, States, joinRow, joinRows, joinedRows, mutualTo, inner, innerTo, reachRows}
+use Rattle.graph.specs.Through.{cycleThrough, Rows, withTarget, edgeRow, edgeRows, AreStates, joinRow, joinRows, joinedRows, mutualTo, inner, innerTo, reachRows}
 use Rattle.graph.proofs.Paths.{reach-sound, reach-complete}
 use Rattle.graph.proofs.Through.{Leads, leads-join, leads-edge, through-some, some-through}
 
@@ -338,7 +338,7 @@ module _ (p : Policy) (ok : legal p ≡ true) where
   pub row-few : (v : ℕ) → v < p .states → v * p .letters + p .letters ≤ 64
   row-few v l = omega (arith, row-within v l, edges-le p ok)
 
-  pub row-states : (v : ℕ) → v < p .states → States (p .target) (v * p .letters + p .letters)
+  pub row-states : (v : ℕ) → v < p .states → AreStates (p .target) (v * p .letters + p .letters)
   row-states v l e le = target-few e (omega (arith, row-within v l))
 
 -- ---- one turn of each loop

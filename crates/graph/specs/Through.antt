@@ -42,8 +42,8 @@ edgeRows rows t l m zero = rows
 edgeRows rows t l m (suc n) = set (edgeRows rows t l m n) n (edgeRow t l m n l)
 
 -- the first n entries of a list are states
-abbrev pub States : List ℕ → ℕ → Type 0
-States t n = (e : ℕ) → e < n → getD t e 0 < 16
+abbrev pub AreStates : List ℕ → ℕ → Type 0
+AreStates t n = (e : ℕ) → e < n → getD t e 0 < 16
 
 -- ---- the rows joined at a state
 -- a row that has k, with the row of k

@@ -6,7 +6,7 @@ ghost use Prim.Native.Nat.{_+_, _*_, _<_, _≤_};
 ghost use lib.ListN.{length, getD};
 ghost use Rattle.masks.specs.Masks.{has};
 ghost use Rattle.policy.specs.Policies.{legal};
-ghost use Rattle.graph.specs.Through.{cycleThrough, Rows, reachRows, withTarget, edgeRow, edgeRows, States, joinRow, joinRows, mutualTo, inner};
+ghost use Rattle.graph.specs.Through.{cycleThrough, Rows, reachRows, withTarget, edgeRow, edgeRows, AreStates, joinRow, joinRows, mutualTo, inner};
 use policy::Policy;
 
 // A row, with the target of edge e where e is in m. The targets are t.
@@ -19,7 +19,7 @@ fn with_target(t: &[u8; 64], m: u64, row: u64, e: usize) -> u64
 
 // State v, with the targets of its edges in m.
 fn edge_row(t: &[u8; 64], letters: usize, m: u64, v: usize) -> u64
-    requires { ⌜ (v < 16) × (v * letters + letters ≤ 64) × States (now t) (v * letters + letters) ⌝ }
+    requires { ⌜ (v < 16) × (v * letters + letters ≤ 64) × AreStates (now t) (v * letters + letters) ⌝ }
     ensures { λ r. ⌜ r ≡ edgeRow (now (t .entry)) letters m v letters ⌝ }
 {
     let first = v * letters;
@@ -108,7 +108,7 @@ fn leads_into(m: u64, s: u64, e: usize, t: usize) -> bool
 
 // The edges x, with those of m that leave u and lead to a state of s.
 fn with_inner(heads: &[u8; 64], letters: usize, m: u64, s: u64, u: usize, x: u64) -> u64
-    requires { ⌜ (u < 16) × (u * letters + letters ≤ 64) × States (now heads) (u * letters + letters) ⌝ }
+    requires { ⌜ (u < 16) × (u * letters + letters ≤ 64) × AreStates (now heads) (u * letters + letters) ⌝ }
     ensures { λ r. ⌜ r ≡ inner (now (heads .entry)) letters m s u x letters ⌝ }
 {
     let first = u * letters;

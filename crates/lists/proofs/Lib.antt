@@ -1,7 +1,7 @@
 pub mod Bools
 pub mod Numbers
 pub mod Lists
-pub mod Tests
+pub mod AnyAll
 pub mod Filters
 pub mod Distinct
 pub mod Least

@@ -20,17 +20,17 @@ use Rattle.reading.specs.declared.Outcome.{Outcome}
 use Rattle.reading.specs.declared.Outcome.the-variants.{Read, Refused}
 use Rattle.reading.specs.declared.Command.{Command}
 use Rattle.reading.specs.declared.Command.the-variants.{End, Shape, Edge, Accept}
-use Rattle.reading.specs.Reading.{Stop, after, allGiven, commandAt, completeAtEnd, emptyDraft, inPlace, isEnd, isShape, nextOffset, numberAt, numberOf, readingOf, refusalOf, stopFrom, stopMost, stopOf, withinLimits}
+use Rattle.reading.specs.Reading.{Stop, draftAfter, allGiven, commandAt, completeAtEnd, emptyDraft, inPlace, isEnd, isShape, nextOffset, numberAt, numberOf, readingOf, refusalOf, stopFrom, stopMost, stopOf, withinLimits}
 use Rattle.reading.proofs.Questions.{passed}
-use Rattle.reading.proofs.Turns.{next-within, by-number}
+use Rattle.reading.proofs.Commands.{next-within, by-number}
 
 -- ---- each command keeps it
 -- every draft after the shape command
 abbrev SoundDraft : Draft → Type 0
 SoundDraft d = Sound (d .policy) (d .given)
 
-sound-edge-command : (d : Draft) → SoundDraft d → (v a t k : ℕ) → withinLimits (d .policy) (Edge v a t k) ≡ true → SoundDraft (after d (Edge v a t k))
-unfolding after withinLimits
+sound-edge-command : (d : Draft) → SoundDraft d → (v a t k : ℕ) → withinLimits (d .policy) (Edge v a t k) ≡ true → SoundDraft (draftAfter d (Edge v a t k))
+unfolding draftAfter withinLimits
 sound-edge-command d s v a t k w =
     let p = d .policy in
     let w3 = and-l (ltb v (p .states) && ltb a (p .letters) && ltb t (p .states)) (ltb k (p .colours)) w in
@@ -41,8 +41,8 @@ sound-edge-command d s v a t k w =
     (ltb-true t (p .states) (and-r (ltb v (p .states) && ltb a (p .letters)) (ltb t (p .states)) w3))
     (ltb-true k (p .colours) (and-r (ltb v (p .states) && ltb a (p .letters) && ltb t (p .states)) (ltb k (p .colours)) w))
 
-sound-accept : (d : Draft) → SoundDraft d → (s : ℕ) → withinLimits (d .policy) (Accept s) ≡ true → SoundDraft (after d (Accept s))
-unfolding after withinLimits
+sound-accept : (d : Draft) → SoundDraft d → (s : ℕ) → withinLimits (d .policy) (Accept s) ≡ true → SoundDraft (draftAfter d (Accept s))
+unfolding draftAfter withinLimits
 sound-accept d k s w =
     let most = 2 ^ d .policy .colours in
     sound-set (d .policy) (d .given) k s (ltb-true 0 s (and-l (ltb 0 s) (ltb s most) w)) (ltb-true s most (and-r (ltb 0 s) (ltb s most) w))
@@ -56,8 +56,8 @@ first-shape : (at : ℕ) (c : Command) → at ≡ 0 → inPlace at c ≡ true �
 unfolding inPlace
 first-shape at c e t = rw e at t
 
-sound-after : (at : ℕ) (d : Draft) (c : Command) → Stage at d → inPlace at c ≡ true → withinLimits (d .policy) c ≡ true → SoundDraft (after d c)
-unfolding after withinLimits isShape
+sound-after : (at : ℕ) (d : Draft) (c : Command) → Stage at d → inPlace at c ≡ true → withinLimits (d .policy) c ≡ true → SoundDraft (draftAfter d c)
+unfolding draftAfter withinLimits isShape
 sound-after at d End (inl z) t w = absurd (false≢true (first-shape at End z t))
 sound-after at d End (inr s) t w = s
 sound-after at d (Shape v a k i) s t w = sound-counted v a k i w
@@ -83,13 +83,13 @@ module _ (b : List ℕ) where
   stop-stage : (n at : ℕ) (d : Draft) → Stage at d → Stage (stopMost n b at d .at) (stopMost n b at d .draft)
   unfolding stopMost
   stop-stage zero at d s = s
-  stop-stage (suc n) at d s = go (test (eqb (refusalOf b at d) 0)) (test (isEnd (commandAt b at))) (stop-stage n (nextOffset b at) (after d (commandAt b at)))
+  stop-stage (suc n) at d s = go (test (eqb (refusalOf b at d) 0)) (test (isEnd (commandAt b at))) (stop-stage n (nextOffset b at) (draftAfter d (commandAt b at)))
     where
       later : Stop
-      later = stopMost n b (nextOffset b at) (after d (commandAt b at))
+      later = stopMost n b (nextOffset b at) (draftAfter d (commandAt b at))
 
       go : (eqb (refusalOf b at d) 0 ≡ true) ⊎ (eqb (refusalOf b at d) 0 ≡ false) → (isEnd (commandAt b at) ≡ true) ⊎ (isEnd (commandAt b at) ≡ false)
-          → (Stage (nextOffset b at) (after d (commandAt b at)) → Stage (later .at) (later .draft)) → Stage (stopMost (suc n) b at d .at) (stopMost (suc n) b at d .draft)
+          → (Stage (nextOffset b at) (draftAfter d (commandAt b at)) → Stage (later .at) (later .draft)) → Stage (stopMost (suc n) b at d .at) (stopMost (suc n) b at d .draft)
       go (inr f) e ih = rw f s
       go (inl t) (inl e) ih = rw (t, e) s
       go (inl t) (inr e) ih = let w = passed (eqb-true (refusalOf b at d) 0 t) in rw (t, e) (ih (inr (sound-after at d (commandAt b at) s (w .place) (w .within))))
@@ -98,10 +98,10 @@ module _ (b : List ℕ) where
   stop-ends : (n at : ℕ) (d : Draft) → length b < n + at → numberAt b (stopMost n b at d) ≡ 0 → isEnd (commandAt b (stopMost n b at d .at)) ≡ true
   unfolding stopMost numberAt
   stop-ends zero at d h = λ z. absurd (omega (arith, passed z .byte))
-  stop-ends (suc n) at d h = go (test (eqb (refusalOf b at d) 0)) (test (isEnd (commandAt b at))) (stop-ends n (nextOffset b at) (after d (commandAt b at)))
+  stop-ends (suc n) at d h = go (test (eqb (refusalOf b at d) 0)) (test (isEnd (commandAt b at))) (stop-ends n (nextOffset b at) (draftAfter d (commandAt b at)))
     where
       later : Stop
-      later = stopMost n b (nextOffset b at) (after d (commandAt b at))
+      later = stopMost n b (nextOffset b at) (draftAfter d (commandAt b at))
 
       go : (eqb (refusalOf b at d) 0 ≡ true) ⊎ (eqb (refusalOf b at d) 0 ≡ false) → (isEnd (commandAt b at) ≡ true) ⊎ (isEnd (commandAt b at) ≡ false)
           → (length b < n + nextOffset b at → numberAt b later ≡ 0 → isEnd (commandAt b (later .at)) ≡ true) → numberAt b (stopMost (suc n) b at d) ≡ 0 → isEnd (commandAt b (stopMost (suc n) b at d .at)) ≡ true

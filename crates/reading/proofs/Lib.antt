@@ -1,3 +1,3 @@
 pub mod Legal
 pub mod Questions
-pub mod Turns
+pub mod Commands

@@ -104,13 +104,13 @@ unfoldable pub emptyDraft : Draft
 emptyDraft = record { policy = zeroPolicy; given = 0 }
 
 -- the draft after a command that was not refused
-unfoldable pub after : Draft → Command → Draft
-after d End = d
-after d (Shape states letters colours initial) = record { policy = counted states letters colours initial; given = 0 }
-after d (Edge state letter target colour) =
+unfoldable pub draftAfter : Draft → Command → Draft
+draftAfter d End = d
+draftAfter d (Shape states letters colours initial) = record { policy = counted states letters colours initial; given = 0 }
+draftAfter d (Edge state letter target colour) =
     let e = edgeOf (d .policy) state letter in
     record { policy = withEdge (d .policy) e target colour; given = insert (d .given) e }
-after d (Accept s) = record { policy = withSet (d .policy) s; given = d .given }
+draftAfter d (Accept s) = record { policy = withSet (d .policy) s; given = d .given }
 
 -- where the next command begins
 unfoldable pub nextOffset : List ℕ → ℕ → ℕ
@@ -126,7 +126,7 @@ unfoldable pub stopMost : ℕ → List ℕ → ℕ → Draft → Stop
 stopMost zero bytes at d = record { at = at; draft = d }
 stopMost (suc n) bytes at d =
     let c = commandAt bytes at in
-    let later = stopMost n bytes (nextOffset bytes at) (after d c) in
+    let later = stopMost n bytes (nextOffset bytes at) (draftAfter d c) in
     cond (eqb (refusalOf bytes at d) 0 && not (isEnd c)) later (record { at = at; draft = d })
 
 -- the same with no bound: a command takes a byte or more, so there are at most as many as bytes, and one that is missing

@@ -3,7 +3,7 @@ ghost use mathlib.Core.Path.{_≡_};
 ghost use mathlib.Core.Bool.{true};
 ghost use Prim.Native.Nat.{_+_, _-_, _*_, _<_, _≤_, _^_};
 ghost use lib.ListN.{length};
-ghost use Rattle.policy.specs.Policies.{edgeOf, legalCounts};
+ghost use Rattle.policy.specs.Policies.{edgeOf};
 ghost use Rattle.policy.specs.Making.{counted};
 ghost use Rattle.reading.specs.Reading.{Bounded, HandsBack, ReadsPolicy, allGiven, commandAt, commandKnown, completeAtEnd, firstTime, inPlace, operandCount, operandsThere, refusalOf, withinLimits};
 

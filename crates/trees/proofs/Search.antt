@@ -14,7 +14,7 @@ use Rattle.lists.specs.Lists.{any, filter, Distinct}
 use Rattle.lists.proofs.Bools.{test, ≡eqb, and-l, and-r, both, not-true}
 use Rattle.lists.proofs.Lists.{any-some, none-any, filter-mem, mem-filter, getD-mem, map-mem}
 use Rattle.lists.proofs.Distinct.{distinct-filter}
-use Rattle.lists.proofs.Tests.{any-more, any-at}
+use Rattle.lists.proofs.AnyAll.{any-more, any-at}
 use Rattle.masks.specs.Masks.{inside, properly}
 use Rattle.masks.proofs.Bits.{inside-refl}
 use Rattle.forest.specs.Forest.{before, place, inOrder, largest}

@@ -9,7 +9,7 @@ use Rattle.comparing.specs.Pairs.{Comparable}
 use Rattle.comparing.proofs.Pairs.{pairs-decide}
 use Rattle.comparing.proofs.compare.Statement.{statement}
 use Rattle.comparing.proofs.compare.Tie as tie
-use Rattle.comparing.proofs.Tests.{compares}
+use Rattle.comparing.proofs.Answers.{compares}
 
 is-legal-requires : tie.Need-is-legal-requires
 is-legal-requires c κs = search needs

@@ -8,7 +8,7 @@ use mathlib.Core.Bool.{true}
 use borrow.Author.Needs.{needs}
 use borrow.Author.Tests.{not-true, not-false}
 use Rattle.lists.specs.Lists.{all, below}
-use Rattle.lists.proofs.Tests.{all-more, all-not}
+use Rattle.lists.proofs.AnyAll.{all-more, all-not}
 use Rattle.graph.proofs.CodeLaws.{reached}
 use Rattle.comparing.specs.Pairs.{pairEdges, noCycleAt, noCycle}
 use Rattle.comparing.proofs.Searches.{pair-edges-by}

@@ -4,7 +4,7 @@ use mathlib.Core.Bool.{not}
 use borrow.Author.Needs.{needs}
 use Rattle.graph.specs.Through.{cycleThrough}
 use Rattle.comparing.specs.Pairs.{pairEdges, exactly}
-use Rattle.comparing.proofs.Tests.{none-empty, none-some}
+use Rattle.comparing.proofs.Answers.{none-empty, none-some}
 use Rattle.comparing.proofs.Searches.{exactly-by}
 use Rattle.comparing.proofs.has_no_cycle_at.Statement.{statement}
 use Rattle.comparing.proofs.has_no_cycle_at.Tie as tie

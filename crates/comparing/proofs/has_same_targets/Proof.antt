@@ -6,11 +6,11 @@ use mathlib.Core.Path.{_≡_, refl, sym, ap, _∙_}
 use mathlib.Core.Bool.{true}
 use borrow.Author.Needs.{needs}
 use Rattle.lists.specs.Lists.{all, below}
-use Rattle.lists.proofs.Tests.{all-more, all-not}
+use Rattle.lists.proofs.AnyAll.{all-more, all-not}
 use Rattle.policy.specs.Policies.{edges}
 use Rattle.policy.proofs.Laws.{edges-le}
 use Rattle.comparing.specs.Pairs.{sameHead}
-use Rattle.comparing.proofs.Tests.{head-same, head-other, targets-by}
+use Rattle.comparing.proofs.Answers.{head-same, head-other, targets-by}
 use Rattle.comparing.proofs.has_same_targets.Statement.{statement}
 use Rattle.comparing.proofs.has_same_targets.Tie as tie
 

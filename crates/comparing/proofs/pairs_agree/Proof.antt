@@ -8,7 +8,7 @@ use mathlib.Core.List.{List}
 use lib.ListN.{length, getD, length-replicate}
 use borrow.Author.Tests.{not-true, not-false}
 use Rattle.lists.specs.Lists.{all, below}
-use Rattle.lists.proofs.Tests.{all-more, all-not}
+use Rattle.lists.proofs.AnyAll.{all-more, all-not}
 use Rattle.lists.proofs.Numbers.{set-byte}
 use Rattle.policy.specs.Policies.{inFamily}
 use Rattle.policy.proofs.Laws.{legal-counts}

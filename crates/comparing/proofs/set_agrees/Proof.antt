@@ -10,7 +10,7 @@ use lib.ListN.{length}
 use borrow.Author.Needs.{needs}
 use borrow.Author.Tests.{not-true, not-false}
 use Rattle.lists.specs.Lists.{all, below}
-use Rattle.lists.proofs.Tests.{all-more, all-not}
+use Rattle.lists.proofs.AnyAll.{all-more, all-not}
 use Rattle.lists.proofs.Numbers.{set-byte}
 use Rattle.policy.specs.Policies.{coloursOf}
 use Rattle.policy.proofs.Laws.{legal-counts}

@@ -7,7 +7,7 @@ use native.Mathlib.Nat.{le-antisymm}
 use native.Mathlib.Omega.{arith}
 use borrow.Author.Needs.{needs}
 use Rattle.policy.proofs.Laws.{legal-counts}
-use Rattle.graph.specs.Through.{States, inner, innerTo}
+use Rattle.graph.specs.Through.{AreStates, inner, innerTo}
 use Rattle.graph.proofs.CodeLaws.{state-few, row-few, row-states, inner-to-none, inner-to-in, inner-to-out, rows-through}
 use Rattle.graph.proofs.cycle_through.Statement.{statement}
 use Rattle.graph.proofs.cycle_through.Tie as tie
@@ -43,7 +43,7 @@ with-inner-requires c κs =
     let p = s .args .p in
     let u = c .before .before .before .loop .u in
     let lu = c .before .before .loop-test .taken in
-    (state (c .before .before), row-few p (s .pre .0) u lu, subst (λ (t : List ℕ). States t (u * p .letters + p .letters)) (sym (s .pre .1)) (row-states p (s .pre .0) u lu))
+    (state (c .before .before), row-few p (s .pre .0) u lu, subst (λ (t : List ℕ). AreStates t (u * p .letters + p .letters)) (sym (s .pre .1)) (row-states p (s .pre .0) u lu))
 
 add-u : tie.Need-add-u Inv-loop μ-loop
 add-u c = omega arith

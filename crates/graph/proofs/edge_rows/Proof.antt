@@ -5,7 +5,7 @@ use Prim.Native.Nat.{ℕ, _+_, _*_, _-_, _≤_}
 use native.Mathlib.Nat.{le-antisymm}
 use native.Mathlib.Omega.{arith}
 use borrow.Author.Needs.{needs}
-use Rattle.graph.specs.Through.{edgeRows, States}
+use Rattle.graph.specs.Through.{edgeRows, AreStates}
 use Rattle.graph.proofs.CodeLaws.{state-few, row-few, row-states, edge-rows-none, edge-rows-more}
 use Rattle.graph.proofs.edge_rows.Statement.{statement}
 use Rattle.graph.proofs.edge_rows.Tie as tie
@@ -31,7 +31,7 @@ edge-row-requires c κs =
     let p = s .args .p in
     let v = c .before .loop .v in
     let lv = c .loop-test .taken in
-    (state-few p (s .pre .0) v lv, row-few p (s .pre .0) v lv, subst (λ (t : List ℕ). States t (v * p .letters + p .letters)) (sym (s .pre .1)) (row-states p (s .pre .0) v lv))
+    (state-few p (s .pre .0) v lv, row-few p (s .pre .0) v lv, subst (λ (t : List ℕ). AreStates t (v * p .letters + p .letters)) (sym (s .pre .1)) (row-states p (s .pre .0) v lv))
 
 mul-rows : tie.Need-mul-rows Inv-loop μ-loop
 mul-rows c =

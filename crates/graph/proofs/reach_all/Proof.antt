@@ -1,13 +1,13 @@
 -- `graph::reach_all` meets its contract. The invariant: the rows are joined at the states below k. Assumes nothing.
-use mathlib.Core.Path.{_≡_, sym, ap, _∙_, subst}
+use mathlib.Core.Path.{_≡_, sym, ap, _∙_}
 use mathlib.Core.List.{List}
 use Prim.Native.Nat.{ℕ, _-_, _≤_}
 use native.Mathlib.Nat.{le-antisymm}
 use native.Mathlib.Omega.{arith}
-use lib.ListN.{length, getD}
+use lib.ListN.{getD}
 use borrow.Author.Needs.{needs}
 use Rattle.policy.proofs.Laws.{legal-counts}
-use Rattle.graph.specs.Through.{Rows, edgeRows, joinRows, joinedRows}
+use Rattle.graph.specs.Through.{edgeRows, joinRows, joinedRows}
 use Rattle.graph.proofs.CodeLaws.{joined-none, joined-more, joined-are}
 use Rattle.graph.proofs.reach_all.Statement.{statement}
 use Rattle.graph.proofs.reach_all.Tie as tie

@@ -6,9 +6,9 @@ use mathlib.Core.Path.{_≡_, refl}
 use mathlib.Core.Logic.{⊎-elim, inl, inr}
 use borrow.Author.Needs.{needs}
 use Rattle.lists.specs.Lists.{all, below}
-use Rattle.lists.proofs.Tests.{all-turn-both}
+use Rattle.lists.proofs.AnyAll.{all-turn-both}
 use Rattle.policy.specs.Policies.{edges, targetOf, colourOf, legalEdge, legalEdges}
-use Rattle.policy.proofs.Tests.{legal-edge-by}
+use Rattle.policy.proofs.LegalTests.{legal-edge-by}
 use Rattle.policy.proofs.has_legal_edges.Statement.{statement}
 use Rattle.policy.proofs.has_legal_edges.Tie as tie
 

@@ -7,10 +7,10 @@ use mathlib.Core.Logic.{⊎-elim}
 use borrow.Author.Needs.{needs}
 use lib.Pow.{pow-mono}
 use Rattle.lists.specs.Lists.{all, below}
-use Rattle.lists.proofs.Tests.{all-turn}
+use Rattle.lists.proofs.AnyAll.{all-turn}
 use Rattle.masks.proofs.Bits.{shl-one}
 use Rattle.policy.specs.Policies.{inFamily, legalSet, legalFamily}
-use Rattle.policy.proofs.Tests.{legal-set-outside, legal-sets-within}
+use Rattle.policy.proofs.LegalTests.{legal-set-outside, legal-sets-within}
 use Rattle.policy.proofs.has_legal_family.Statement.{statement}
 use Rattle.policy.proofs.has_legal_family.Tie as tie
 

@@ -2,7 +2,7 @@ use mathlib.Core.Path.{sym, _∙_}
 use borrow.Author.Needs.{needs}
 use Rattle.policy.specs.Policies.{edges}
 use Rattle.policy.proofs.Laws.{counts}
-use Rattle.policy.proofs.Tests.{legal-counted, legal-uncounted}
+use Rattle.policy.proofs.LegalTests.{legal-counted, legal-uncounted}
 use Rattle.policy.proofs.is_legal.Statement.{statement}
 use Rattle.policy.proofs.is_legal.Tie as tie
 

@@ -2,7 +2,7 @@ use mathlib.Core.Path.{sym, _∙_}
 use borrow.Author.Needs.{needs}
 use Rattle.policy.specs.Policies.{edges}
 use Rattle.policy.proofs.Laws.{counts}
-use Rattle.policy.proofs.Tests.{graph-counted, graph-uncounted}
+use Rattle.policy.proofs.LegalTests.{graph-counted, graph-uncounted}
 use Rattle.policy.proofs.is_legal_graph.Statement.{statement}
 use Rattle.policy.proofs.is_legal_graph.Tie as tie
 

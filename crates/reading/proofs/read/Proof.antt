@@ -10,7 +10,7 @@ use Rattle.policy.specs.Making.{withEdge, withSet, withTables}
 use Rattle.reading.specs.declared.Draft.{Draft}
 use Rattle.reading.specs.Reading.{isEnd, refusalOf, withinLimits}
 use Rattle.reading.proofs.Questions.{passed, edge-within}
-use Rattle.reading.proofs.Turns.{Onway, onway-start, onway-refused, onway-end, onway-on, Taken, taken-shape, taken-edge, taken-accept, reads}
+use Rattle.reading.proofs.Commands.{Onway, onway-start, onway-refused, onway-end, onway-on, Taken, taken-shape, taken-edge, taken-accept, reads}
 use Rattle.reading.proofs.read.Statement.{statement}
 use Rattle.reading.proofs.read.Tie as tie
 

@@ -3,7 +3,7 @@
 use mathlib.Core.Path.{sym, ap, _∙_}
 use borrow.Author.Needs.{needs}
 use Rattle.reading.specs.declared.Answer.{Answer}
-use Rattle.reading.proofs.Turns.{end-within, rest-read, rest-refused}
+use Rattle.reading.proofs.Commands.{end-within, rest-read, rest-refused}
 use Rattle.reading.proofs.rest.Statement.{statement}
 use Rattle.reading.proofs.rest.Tie as tie
 

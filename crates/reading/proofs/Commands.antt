@@ -22,7 +22,7 @@ use Rattle.reading.specs.declared.Command.{Command}
 use Rattle.reading.specs.declared.Command.the-variants.{End, Shape, Edge, Accept}
 use Rattle.reading.specs.declared.Outcome.{Outcome}
 use Rattle.reading.specs.declared.Outcome.the-variants.{Read, Refused}
-use Rattle.reading.specs.Reading.{Bounded, HandsBack, ReadsPolicy, after, answerAt, commandAt, emptyDraft, isEnd, nextOffset, numberAt, numberOf, offsetOf, operandCount, partAfter, readingOf, refusalOf, restOf, stopFrom, stopMost, stopOf, withinLimits}
+use Rattle.reading.specs.Reading.{Bounded, HandsBack, ReadsPolicy, draftAfter, answerAt, commandAt, emptyDraft, isEnd, nextOffset, numberAt, numberOf, offsetOf, operandCount, partAfter, readingOf, refusalOf, restOf, stopFrom, stopMost, stopOf, withinLimits}
 use Rattle.reading.proofs.Questions.{passed, room}
 
 module _ (b : List ℕ) where
@@ -38,10 +38,10 @@ module _ (b : List ℕ) where
   unfolding stopMost
   enough zero n at d h g k = absurd (omega arith)
   enough (suc m) zero at d h g k = absurd (omega arith)
-  enough (suc m) (suc n) at d h g k = go (test (eqb (refusalOf b at d) 0)) (test (isEnd (commandAt b at))) (enough m n (nextOffset b at) (after d (commandAt b at)))
+  enough (suc m) (suc n) at d h g k = go (test (eqb (refusalOf b at d) 0)) (test (isEnd (commandAt b at))) (enough m n (nextOffset b at) (draftAfter d (commandAt b at)))
     where
       go : (eqb (refusalOf b at d) 0 ≡ true) ⊎ (eqb (refusalOf b at d) 0 ≡ false) → (isEnd (commandAt b at) ≡ true) ⊎ (isEnd (commandAt b at) ≡ false)
-          → (length b < m + nextOffset b at → length b < n + nextOffset b at → nextOffset b at ≤ length b → stopMost m b (nextOffset b at) (after d (commandAt b at)) ≡ stopMost n b (nextOffset b at) (after d (commandAt b at)))
+          → (length b < m + nextOffset b at → length b < n + nextOffset b at → nextOffset b at ≤ length b → stopMost m b (nextOffset b at) (draftAfter d (commandAt b at)) ≡ stopMost n b (nextOffset b at) (draftAfter d (commandAt b at)))
           → stopMost (suc m) b at d ≡ stopMost (suc n) b at d
       go (inr f) e ih = rw f
       go (inl t) (inl e) ih = rw (t, e)
@@ -61,20 +61,20 @@ module _ (b : List ℕ) where
   unfolding stopFrom stopMost
   stop-end at d h z t = rw (more at h, eq-eqb (refusalOf b at d) 0 z, t)
 
-  pub stop-on : (at : ℕ) (d : Draft) → at ≤ length b → refusalOf b at d ≡ 0 → isEnd (commandAt b at) ≡ false → stopFrom b at d ≡ stopFrom b (nextOffset b at) (after d (commandAt b at))
+  pub stop-on : (at : ℕ) (d : Draft) → at ≤ length b → refusalOf b at d ≡ 0 → isEnd (commandAt b at) ≡ false → stopFrom b at d ≡ stopFrom b (nextOffset b at) (draftAfter d (commandAt b at))
   unfolding stopFrom stopMost
   stop-on at d h z t =
       let w = next-within at d z in
       rw (more at h, eq-eqb (refusalOf b at d) 0 z, t)
-      (enough (length b - at) (length b + 1 - nextOffset b at) (nextOffset b at) (after d (commandAt b at)) (omega arith) (omega arith) (w .1))
+      (enough (length b - at) (length b + 1 - nextOffset b at) (nextOffset b at) (draftAfter d (commandAt b at)) (omega arith) (omega arith) (w .1))
 
 -- ---- the loop
 bounded-zero : Bounded zeroPolicy
 unfolding zeroPolicy counted
 bounded-zero = record { few-edges = lit≤ tt; few-colours = lit≤ tt }
 
-pub bounded-after : (d : Draft) (c : Command) → Bounded (d .policy) → withinLimits (d .policy) c ≡ true → Bounded (after d c .policy)
-unfolding after counted withTables withEdge withSet legalCounts withinLimits
+pub bounded-after : (d : Draft) (c : Command) → Bounded (d .policy) → withinLimits (d .policy) c ≡ true → Bounded (draftAfter d c .policy)
+unfolding draftAfter counted withTables withEdge withSet legalCounts withinLimits
 bounded-after d End h w = h
 bounded-after d (Shape states letters colours initial) h w =
     let f = counts (counted states letters colours initial) w in
@@ -105,7 +105,7 @@ module _ {b : List ℕ} {at : ℕ} {d : Draft} (o : Onway b at d) where
     unfolding readingOf answerAt numberAt
     onway-end t = let s = sym (o .is) ∙ stop-end b at d (o .within) z (rw is-c at t) in rw (s, eq-eqb (refusalOf b at d) 0 z)
 
-    pub onway-on : isEnd c ≡ false → {e : Draft} → e ≡ after d c → {n : ℕ} → n ≡ operandCount (getD b at 0) → Onway b (at + 1 + n) e
+    pub onway-on : isEnd c ≡ false → {e : Draft} → e ≡ draftAfter d c → {n : ℕ} → n ≡ operandCount (getD b at 0) → Onway b (at + 1 + n) e
     unfolding nextOffset
     onway-on t q k =
         let w = passed z in
@@ -119,29 +119,29 @@ module _ {b : List ℕ} {at : ℕ} {d : Draft} (o : Onway b at d) where
 -- p and given are the draft after c, which is not the end command
 pub record Taken (d : Draft) (c : Command) (p : Policy) (given : ℕ) : Type 0 where
   pub goes-on : isEnd c ≡ false
-  pub is : _≡_ {A = Draft} (record { policy = p; given = given }) (after d c)
+  pub is : _≡_ {A = Draft} (record { policy = p; given = given }) (draftAfter d c)
 
 module _ {d : Draft} {c : Command} {p : Policy} {given : ℕ} where
   pub taken-shape : {v a k i : ℕ} → c ≡ Shape v a k i → p ≡ counted v a k i → given ≡ 0 → Taken d c p given
-  unfolding after isEnd
+  unfolding draftAfter isEnd
   taken-shape e q g = rw (e, q, g) (record { goes-on = refl; is = refl })
 
   pub taken-edge : {v a t k e : ℕ} → c ≡ Edge v a t k → e ≡ edgeOf (d .policy) v a → p ≡ withEdge (d .policy) e t k → given ≡ insert (d .given) e → Taken d c p given
-  unfolding after isEnd
+  unfolding draftAfter isEnd
   taken-edge e n q g = rw (e, q, g, n) (record { goes-on = refl; is = refl })
 
   pub taken-accept : {s i : ℕ} → c ≡ Accept s → i ≡ s → p ≡ withSet (d .policy) i → given ≡ d .given → Taken d c p given
-  unfolding after isEnd
+  unfolding draftAfter isEnd
   taken-accept e n q g = rw (e, q, g, n) (record { goes-on = refl; is = refl })
 
 -- ---- where the reading ends
 stop-within : (b : List ℕ) (n at : ℕ) (d : Draft) → at ≤ length b → stopMost n b at d .at ≤ length b
 unfolding stopMost
 stop-within b zero at d h = h
-stop-within b (suc n) at d h = go (test (eqb (refusalOf b at d) 0)) (test (isEnd (commandAt b at))) (stop-within b n (nextOffset b at) (after d (commandAt b at)))
+stop-within b (suc n) at d h = go (test (eqb (refusalOf b at d) 0)) (test (isEnd (commandAt b at))) (stop-within b n (nextOffset b at) (draftAfter d (commandAt b at)))
   where
     go : (eqb (refusalOf b at d) 0 ≡ true) ⊎ (eqb (refusalOf b at d) 0 ≡ false) → (isEnd (commandAt b at) ≡ true) ⊎ (isEnd (commandAt b at) ≡ false)
-        → (nextOffset b at ≤ length b → stopMost n b (nextOffset b at) (after d (commandAt b at)) .at ≤ length b) → stopMost (suc n) b at d .at ≤ length b
+        → (nextOffset b at ≤ length b → stopMost n b (nextOffset b at) (draftAfter d (commandAt b at)) .at ≤ length b) → stopMost (suc n) b at d .at ≤ length b
     go (inr f) e ih = rw f h
     go (inl t) (inl e) ih = rw (t, e) h
     go (inl t) (inr e) ih = rw (t, e) (ih (next-within b at d (eqb-true (refusalOf b at d) 0 t) .1))

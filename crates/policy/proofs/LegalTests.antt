@@ -8,7 +8,7 @@ use lib.Dec.{ltb}
 use lib.Pow.{pow-pos}
 use borrow.Author.Tests.{lt-ltb, le-ltb}
 use Rattle.lists.specs.Lists.{all, below}
-use Rattle.lists.proofs.Tests.{all-snoc}
+use Rattle.lists.proofs.AnyAll.{all-snoc}
 use Rattle.lists.proofs.Numbers.{below-one}
 use Rattle.policy.specs.declared.Policy.{Policy}
 use Rattle.policy.specs.Policies.{edges, targetOf, colourOf, inFamily, legalCounts, legalEdge, legalEdges, legalSet, legalFamily, legalGraph, legal}
