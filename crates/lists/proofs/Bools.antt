@@ -90,7 +90,11 @@ pub and-absent : (a b : Bool) → b ≡ false → a && b ≡ false
 and-absent true b f = f
 and-absent false b f = refl
 
--- a condition that follows from a later one
+-- a condition that follows from the other
+pub and-absorb : (a b : Bool) → (a ≡ true → b ≡ true) → a && b ≡ a
+and-absorb true b h = h refl
+and-absorb false b h = refl
+
 pub and-implied : (a b c : Bool) → (c ≡ true → b ≡ true) → a && b && c ≡ a && c
 and-implied true true c h = refl
 and-implied true false true h = h refl

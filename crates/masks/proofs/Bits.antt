@@ -12,7 +12,8 @@ use lib.Arith.{digits-mod, lt-one}
 use lib.Pow.{shr-shr, shl-exact, pow-pos, pow-lt, field, mod-mod-pow}
 use lib.Bits.{bitAnd, bitOr, bitXor, and-step, or-step, and-shr, or-shr, or-lt, or-zero-r, xor-shr, xor-mod}
 use lib.Count.{ones, onesIn, ones-step}
-use Rattle.lists.proofs.Bools.{test, eqb≡, ≡eqb, and-l, and-r, not-true, bool-ext}
+use Rattle.lists.proofs.Bools.{test, eqb≡, ≡eqb, and-l, and-r, not-true, bool-ext, and-absorb}
+use Rattle.lists.specs.Bools.{differs}
 use Rattle.masks.specs.Masks.{has, insert, minus, inside, properly}
 
 pub has-zero : (m : ℕ) → has m zero ≡ eqb (m % 2) 1
@@ -83,10 +84,6 @@ lt-pow-add n (suc m) = rw (native.Mathlib.Nat.add-suc n m) (omega (arith, lt-pow
 pub mask-ext : (a b : ℕ) → ((e : ℕ) → has a e ≡ has b e) → a ≡ b
 mask-ext a b h = mask-ext-to (a + b) a b (lt-pow-add a b) (rw (add-comm a b) (lt-pow-add b a)) (λ e l. h e)
 
-and-absorb : (a b : Bool) → (a ≡ true → b ≡ true) → a && b ≡ a
-and-absorb true b h = h refl
-and-absorb false b h = refl
-
 pub inside-all : (a b : ℕ) → inside a b ≡ true → (e : ℕ) → has a e ≡ true → has b e ≡ true
 unfolding inside
 inside-all a b h e t = and-r (has a e) (has b e) (sym (has-and e a b) ∙ ap (λ (x : ℕ). has x e) (eqb≡ (bitAnd a b) a h) ∙ t)
@@ -137,18 +134,14 @@ unfolding insert
 insert-lt m e n l h = or-lt n m (2 ^ e) l (pow-lt h)
 
 -- what a has and b lacks
-abbrev differ : Bool → Bool → Bool
-differ true b = not b
-differ false b = b
-
-digit-xor : (x y : ℕ) → x < 2 → y < 2 → eqb (bitXor x y) 1 ≡ differ (eqb x 1) (eqb y 1)
+digit-xor : (x y : ℕ) → x < 2 → y < 2 → eqb (bitXor x y) 1 ≡ differs (eqb x 1) (eqb y 1)
 digit-xor zero y p q = refl
 digit-xor (suc zero) zero p q = refl
 digit-xor (suc zero) (suc zero) p q = refl
 digit-xor (suc zero) (suc (suc y)) p q = absurd (omega arith)
 digit-xor (suc (suc x)) y p q = absurd (omega arith)
 
-has-xor : (a b k : ℕ) → has (bitXor a b) k ≡ differ (has a k) (has b k)
+has-xor : (a b k : ℕ) → has (bitXor a b) k ≡ differs (has a k) (has b k)
 unfolding has
 has-xor a b k =
     ap (λ (x : ℕ). eqb (x % 2) 1) (xor-shr a b k) ∙ ap (λ (x : ℕ). eqb x 1) (xor-mod (a / 2 ^ k) (b / 2 ^ k) 1)
@@ -156,9 +149,9 @@ has-xor a b k =
 
 pub has-minus : (a b k : ℕ) → has (minus a b) k ≡ has a k && not (has b k)
 unfolding minus
-has-minus a b k = has-xor a (bitAnd a b) k ∙ ap (differ (has a k)) (has-and k a b) ∙ go (has a k) (has b k)
+has-minus a b k = has-xor a (bitAnd a b) k ∙ ap (differs (has a k)) (has-and k a b) ∙ go (has a k) (has b k)
   where
-    go : (x y : Bool) → differ x (x && y) ≡ x && not y
+    go : (x y : Bool) → differs x (x && y) ≡ x && not y
     go true y = refl
     go false y = refl
 
