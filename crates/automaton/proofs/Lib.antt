@@ -1,8 +1,10 @@
 pub mod Bounds
 pub mod Branch
 pub mod Closed
+pub mod Columns
 pub mod EdgeRuns
 pub mod Ends
 pub mod Leaves
 pub mod Next
+pub mod Starts
 pub mod Tables

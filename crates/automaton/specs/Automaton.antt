@@ -2,7 +2,7 @@
 use Prim.Native.Nat.{min, ℕ, zero, suc, _+_, _*_}
 use mathlib.Core.Bool.{Bool, not, _&&_, cond}
 use mathlib.Core.List.{List, [], _∷_, map}
-use lib.Dec.{eqb, ltb}
+use lib.Dec.{eqb, ltb, leb}
 use lib.ListN.{length, getD}
 use Rattle.lists.specs.Lists.{any, filter, firstOr, flat, position, below}
 use Rattle.masks.specs.Masks.{has}
@@ -130,3 +130,7 @@ module _ (p : Policy) where
 
   unfoldable pub stateLeaves : List ℕ
   stateLeaves = map (λ (b : Built). b .leaf) (built p)
+
+  -- question 10, from a state table: the built states fit its places
+  unfoldable pub builtFit : List ℕ → Bool
+  builtFit sources = leb (length (built p)) (places sources)

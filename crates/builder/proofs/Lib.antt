@@ -1,2 +1,2 @@
-pub mod FillingLaws
+pub mod StageLaws
 pub mod TranslateLaws

@@ -16,10 +16,11 @@ use Rattle.decomposition.specs.NodeTables.{nodeTables, filledOf}
 use Rattle.forest.specs.Forest.{nodeMasks, nodeParents, nodePriorities}
 use Rattle.builder.specs.declared.Translation.{Translation}
 use Rattle.builder.specs.declared.Translation.the-variants.{Translated, Refused}
-use Rattle.automaton.specs.Automaton.{built, start}
-use Rattle.builder.specs.Tables.{Tables, numberOf, countsOf, lengthsFit, nodesFit, statesFit, filled, cleared, translationOf, refusalOf, countsAfter, tablesAfter, Hold, tables, Translates}
-use Rattle.builder.specs.Filling.{Sized, builtFit, BuiltTables}
-use Rattle.builder.proofs.FillingLaws.{nodes-filled, nodes-cleared}
+use Rattle.automaton.specs.Automaton.{built, start, builtFit}
+use Rattle.builder.specs.Tables.{Tables, numberOf, countsOf, sizesFit, lengthsFit, nodesFit, statesFit, filled, cleared, translationOf, refusalOf, countsAfter, tablesAfter, Hold, tables, Translates}
+use Rattle.filling.specs.declared.Building.{Building}
+use Rattle.filling.specs.Filling.{Sized, Builds}
+use Rattle.builder.proofs.StageLaws.{nodes-filled, nodes-cleared}
 
 -- the first "no" decides
 abbrev decided : Bool → Bool → Bool → Bool → Translation → Translation
@@ -77,7 +78,7 @@ module _ (p : Policy) (m₀ q₀ r₀ s₀ l₀ t₀ k₀ : List ℕ) where
   entry = tables m₀ q₀ r₀ s₀ l₀ t₀ k₀
 
   pub fit-lengths : lengthsFit p entry ≡ true → (length q₀ ≡ length m₀) × (length r₀ ≡ length m₀) × Sized p s₀ l₀ t₀ k₀
-  unfolding lengthsFit
+  unfolding lengthsFit sizesFit
   fit-lengths h = (
     sym (eqb≡ (length m₀) (length q₀) (and-l a b h2)),
     sym (eqb≡ (length m₀) (length r₀) (and-r a b h2)),
@@ -133,7 +134,7 @@ module _ (p : Policy) (m₀ q₀ r₀ s₀ l₀ t₀ k₀ : List ℕ) where
       all-is (n .0) (subst (λ (x : Tables). Hold x m₀ q₀ r₀ s₀ l₀ t₀ k₀) (n .1) same)
 
   module _ (t : legal p ≡ true) (h : lengthsFit p entry ≡ true) (m q r s l w k : List ℕ) where
-    held-filled : (m ≡ padded (length m₀) (nodeMasks p)) × (q ≡ padded (length q₀) (nodeParents p)) × (r ≡ padded (length r₀) (nodePriorities p)) → builtFit p s₀ ≡ true → BuiltTables p s₀ l₀ t₀ k₀ s l w k
+    held-filled : {y : Building} → (m ≡ padded (length m₀) (nodeMasks p)) × (q ≡ padded (length q₀) (nodeParents p)) × (r ≡ padded (length r₀) (nodePriorities p)) → builtFit p s₀ ≡ true → Builds p s₀ l₀ t₀ k₀ y s l w k
         → Hold (filled p entry) m q r s l w k
     unfolding filled
     held-filled n f b = record {
@@ -150,7 +151,7 @@ module _ (p : Policy) (m₀ q₀ r₀ s₀ l₀ t₀ k₀ : List ℕ) where
     unfolding cleared
     held-cleared n b = record { masks-are = n .0; parents-are = n .1; node-priorities-are = n .2; sources-are = b .0; leaves-are = b .1; targets-are = b .2; priorities-are = b .3 }
 
-    built-zero : builtFit p s₀ ≡ false → BuiltTables p s₀ l₀ t₀ k₀ s l w k → (s ≡ zeros s₀) × (l ≡ zeros l₀) × (w ≡ zeros t₀) × (k ≡ zeros k₀)
+    built-zero : {y : Building} → builtFit p s₀ ≡ false → Builds p s₀ l₀ t₀ k₀ y s l w k → (s ≡ zeros s₀) × (l ≡ zeros l₀) × (w ≡ zeros t₀) × (k ≡ zeros k₀)
     built-zero g b = (rw g at (b .sources-are), rw g at (b .leaves-are), rw g at (b .targets-are), rw g at (b .priorities-are))
 
     -- 9 and 10 clear them
@@ -161,7 +162,7 @@ module _ (p : Policy) (m₀ q₀ r₀ s₀ l₀ t₀ k₀ : List ℕ) where
         let n = no-third (legal p) (lengthsFit p entry) (nodesFit p entry) (statesFit p entry) done (filled p entry) (cleared p entry) entry t h f in
         all-is (n .0) (subst (λ (x : Tables). Hold x m q r s l w k) (n .1) (held-cleared (nodes-cleared p m₀ q₀ r₀ m q r e f) b))
 
-    pub refused-ten : node-tables.nodesFit p (nodeTables m₀ q₀ r₀) ≡ true → builtFit p s₀ ≡ false → (m ≡ zeros m₀) × (q ≡ zeros q₀) × (r ≡ zeros r₀) → BuiltTables p s₀ l₀ t₀ k₀ s l w k
+    pub refused-ten : {y : Building} → node-tables.nodesFit p (nodeTables m₀ q₀ r₀) ≡ true → builtFit p s₀ ≡ false → (m ≡ zeros m₀) × (q ≡ zeros q₀) × (r ≡ zeros r₀) → Builds p s₀ l₀ t₀ k₀ y s l w k
         → Translates p entry (Refused 10) (tables m q r s l w k)
     unfolding translationOf tablesAfter nodesFit statesFit builtFit
     refused-ten f g z b =
@@ -169,9 +170,9 @@ module _ (p : Policy) (m₀ q₀ r₀ s₀ l₀ t₀ k₀ : List ℕ) where
         all-is (n .0) (subst (λ (x : Tables). Hold x m q r s l w k) (n .1) (held-cleared z (built-zero g b)))
 
     -- both counts and the start
-    pub translated : {n c a : ℕ} → node-tables.nodesFit p (nodeTables m₀ q₀ r₀) ≡ true → n ≡ length (forest p) → builtFit p s₀ ≡ true → c ≡ length (built p) → a ≡ start p
-        → nodeTables m q r ≡ filledOf p (nodeTables m₀ q₀ r₀) → BuiltTables p s₀ l₀ t₀ k₀ s l w k → Translates p entry (Translated n c a) (tables m q r s l w k)
+    pub translated : {y : Building} {n c a : ℕ} → node-tables.nodesFit p (nodeTables m₀ q₀ r₀) ≡ true → n ≡ length (forest p) → builtFit p s₀ ≡ true → c ≡ length (built p) → a ≡ start p
+        → nodeTables m q r ≡ filledOf p (nodeTables m₀ q₀ r₀) → Builds p s₀ l₀ t₀ k₀ y s l w k → Translates p entry (Translated n c a) (tables m q r s l w k)
     unfolding translationOf tablesAfter nodesFit statesFit builtFit
-    translated {n} {c} {a} f en g ec ea e b =
-        let y = all-four (legal p) (lengthsFit p entry) (nodesFit p entry) (statesFit p entry) done (filled p entry) (cleared p entry) entry t h f g in
-        all-is (three n c a (length (forest p)) (length (built p)) (start p) en ec ea ∙ y .0) (subst (λ (x : Tables). Hold x m q r s l w k) (y .1) (held-filled (nodes-filled p m₀ q₀ r₀ m q r e f) g b))
+    translated {y} {n} {c} {a} f en g ec ea e b =
+        let all = all-four (legal p) (lengthsFit p entry) (nodesFit p entry) (statesFit p entry) done (filled p entry) (cleared p entry) entry t h f g in
+        all-is (three n c a (length (forest p)) (length (built p)) (start p) en ec ea ∙ all .0) (subst (λ (x : Tables). Hold x m q r s l w k) (all .1) (held-filled (nodes-filled p m₀ q₀ r₀ m q r e f) g b))

@@ -4,7 +4,7 @@ use Prim.Native.Nat.{ℕ, _*_}
 use mathlib.Core.Path.{_≡_}
 use mathlib.Core.Bool.{Bool, _&&_, cond}
 use mathlib.Core.List.{List, [], _∷_}
-use lib.Dec.{eqb, leb}
+use lib.Dec.{eqb}
 use lib.ListN.{length}
 use Rattle.lists.specs.Questions.{ask}
 use Rattle.tables.specs.Tables.{padded, zeros}
@@ -14,7 +14,7 @@ use Rattle.forest.specs.Forest.{forest}
 use Rattle.decomposition.specs.NodeTables.{nodeTables}
 use Rattle.forest.specs.Forest.{nodeMasks, nodeParents, nodePriorities}
 use Rattle.decomposition.specs.NodeTables as node-tables
-use Rattle.automaton.specs.Automaton.{places, stateSources, stateLeaves, built, start, rowTargets, rowPriorities}
+use Rattle.automaton.specs.Automaton.{stateSources, stateLeaves, built, start, rowTargets, rowPriorities, builtFit}
 use Rattle.builder.specs.declared.Translation.{Translation}
 use Rattle.builder.specs.declared.Translation.the-variants.{Translated, Refused}
 
@@ -40,21 +40,25 @@ countsOf (Translated nodes states start) = nodes ∷ states ∷ start ∷ []
 countsOf (Refused number) = 0 ∷ 0 ∷ 0 ∷ []
 
 -- ---- the tables
+-- lengths that belong together: the node tables of one length, the state tables of one length, each row table letters times the latter
+unfoldable pub sizesFit : ℕ → ℕ → ℕ → ℕ → ℕ → ℕ → ℕ → ℕ → Bool
+sizesFit letters masks parents node-priorities sources leaves targets priorities =
+    eqb masks parents && eqb masks node-priorities && eqb sources leaves && eqb targets (letters * sources) && eqb priorities (letters * sources)
+
 module _ (p : Policy) where
   -- ---- the questions of translating
   module _ (t : Tables) where
-    -- question 8: the node tables of one length, the state tables of one length, each row table letters times the latter
+    -- question 8
     unfoldable pub lengthsFit : Bool
     lengthsFit =
-        eqb (length (t .masks)) (length (t .parents)) && eqb (length (t .masks)) (length (t .node-priorities)) && eqb (length (t .sources)) (length (t .leaves))
-        && eqb (length (t .targets)) (p .letters * length (t .sources)) && eqb (length (t .priorities)) (p .letters * length (t .sources))
+        sizesFit (p .letters) (length (t .masks)) (length (t .parents)) (length (t .node-priorities)) (length (t .sources)) (length (t .leaves)) (length (t .targets)) (length (t .priorities))
 
     -- questions 9 and 10
     unfoldable pub nodesFit : Bool
     nodesFit = node-tables.nodesFit p (nodeTables (t .masks) (t .parents) (t .node-priorities))
 
     unfoldable pub statesFit : Bool
-    statesFit = leb (length (built p)) (places (t .sources))
+    statesFit = builtFit p (t .sources)
 
     -- ---- the tables at exit
     unfoldable pub filled : Tables

@@ -16,9 +16,9 @@ use Rattle.reading.specs.Reading.{operandCount, commandAt, isShape, isEnd, oper
 use Rattle.reading.specs.declared.Answer.{Answer}
 use Rattle.graph.specs.Cycles.{spread, closure, reach, isCycle, contains, cyclesIn}
 use Rattle.forest.specs.Forest.{before, place, inOrder, largest, roots, opposed, children, trees, tree, forest, priority, transientPriority, node, upFrom, chain, childOf, inRoot, nodeMasks, nodeParents, nodePriorities}
-use Rattle.automaton.specs.Automaton.{places, next, holds, kids, isLeaf, leaves, firstLeaf, statesOver, builtStates, deepest, lead, entered, firstLeafBelow, leafAfter, priorityAfter, built, stateAt, number, start, rowTarget, rowPriority, rowTargets, rowPriorities, stateSources, stateLeaves}
+use Rattle.automaton.specs.Automaton.{places, next, holds, kids, isLeaf, leaves, firstLeaf, statesOver, builtStates, deepest, lead, entered, firstLeafBelow, leafAfter, priorityAfter, built, stateAt, number, start, rowTarget, rowPriority, rowTargets, rowPriorities, stateSources, stateLeaves, builtFit}
 use Rattle.decomposition.specs.NodeTables as node-tables
-use Rattle.builder.specs.Tables.{Tables, Hold, countsOf, numberOf as translateNumberOf, lengthsFit, nodesFit, statesFit, filled, cleared, translationOf, tablesAfter}
+use Rattle.builder.specs.Tables.{Tables, Hold, countsOf, numberOf as translateNumberOf, sizesFit, lengthsFit, nodesFit, statesFit, filled, cleared, translationOf, tablesAfter}
 use Rattle.builder.proofs.TranslateLaws.{number-of, counts-of}
 use Rattle.running.specs.declared.Run.{Run}
 use Rattle.running.specs.Running.{readingOf, runAfter, priorityOf, numberOf}
@@ -37,7 +37,7 @@ unfolding has insert edges edgeOf inFamily countsFit legalCounts counted zeroPol
 bytes-give = refl
 
 cases-hold : CasesHold cases
-unfolding has insert inside properly setOf members submasks padded zeros edges edgeOf source targetOf colourOf edgeColours coloursOf inFamily accepting countsFit legalCounts legalEdge legalEdges legalSet legalFamily legalGraph legal counted zeroPolicy spread closure reach isCycle contains before place inOrder largest full cyclesIn roots opposed children trees tree forest priority transientPriority node upFrom chain childOf inRoot nodeMasks nodeParents nodePriorities places next holds kids isLeaf leaves firstLeaf statesOver builtStates deepest lead entered firstLeafBelow leafAfter priorityAfter built stateAt number start rowTarget rowPriority rowTargets rowPriorities stateSources stateLeaves node-tables.nodesFit lengthsFit nodesFit statesFit filled cleared translationOf tablesAfter
+unfolding has insert inside properly setOf members submasks padded zeros edges edgeOf source targetOf colourOf edgeColours coloursOf inFamily accepting countsFit legalCounts legalEdge legalEdges legalSet legalFamily legalGraph legal counted zeroPolicy spread closure reach isCycle contains before place inOrder largest full cyclesIn roots opposed children trees tree forest priority transientPriority node upFrom chain childOf inRoot nodeMasks nodeParents nodePriorities places next holds kids isLeaf leaves firstLeaf statesOver builtStates deepest lead entered firstLeafBelow leafAfter priorityAfter built stateAt number start rowTarget rowPriority rowTargets rowPriorities stateSources stateLeaves builtFit node-tables.nodesFit sizesFit lengthsFit nodesFit statesFit filled cleared translationOf tablesAfter
 cases-hold = (refl, refl, (refl, refl, (refl, refl, (refl, refl, (refl, refl, tt)))))
 
 policy-back : policyOf (recordOf B) ≡ B

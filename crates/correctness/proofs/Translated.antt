@@ -17,7 +17,7 @@ use Rattle.policy.specs.declared.Policy.{Policy}
 use Rattle.policy.specs.Policies.{legal}
 use Rattle.policy.proofs.Laws.{legal-counts}
 use Rattle.forest.specs.Forest.{forest}
-use Rattle.automaton.specs.Automaton.{Built, built, stateAt, start, places, stateSources, rowTargets, rowPriorities}
+use Rattle.automaton.specs.Automaton.{Built, built, stateAt, start, places, stateSources, rowTargets, rowPriorities, builtFit}
 use Rattle.builder.specs.Tables.{Tables, lengthsFit, nodesFit, statesFit, filled, countsOf, translationOf, tablesAfter, numberOf}
 use Rattle.builder.specs.declared.Translation.the-variants.{Translated, Refused}
 use Rattle.running.specs.declared.Run.{Run}
@@ -109,7 +109,7 @@ module _ (t : Translating) (done : Success t) where
   take-padded n m l e = sym (take-append-seam l (replicate (n - length l) 0)) ∙ ap (λ (k : ℕ). take k (l ++ replicate (n - length l) 0)) e
 
   few : length (built p) ≤ 65535
-  unfolding statesFit places
+  unfolding statesFit builtFit places
   few = omega (arith, le-true (length (built p)) (min (length (t .entry .sources)) 65535) (answered .fourth))
 
   targets-exact : rowTargets p ≡ take (length (built p) * p .letters) (t .exit .targets)

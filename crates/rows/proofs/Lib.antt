@@ -1,4 +1,5 @@
-pub mod RowLaws
+pub mod Climbing
+pub mod Finding
 pub mod RowTables
-pub mod Search
 pub mod Sharing
+pub mod Targets

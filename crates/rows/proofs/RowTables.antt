@@ -1,4 +1,4 @@
--- The row tables, filled in edge by edge: a table on the way to a column, the rows by state and letter, the rows of one edge, and the tables once the rows of
+-- The row tables, filled in edge by edge: a table partly filled with a column, the rows by state and letter, the rows of one edge, and the tables once the rows of
 -- all edges are written. Assumes nothing.
 use Prim.Native.Nat.{ℕ, zero, suc, _+_, _*_, _-_, _/_, _%_, _≤_, _<_}
 use native.Mathlib.Omega.{arith}
@@ -13,22 +13,23 @@ use lib.ListN.{length, getD, set, replicate, length-set}
 use lib.Seq.{getD-set-same, getD-set-other, getD-append-add, ext-getD}
 use Rattle.lists.specs.Lists.{below}
 use Rattle.lists.proofs.Lists.{getD-map-below, length-pieces, getD-pieces, length-map-below}
-use Rattle.tables.specs.Tables.{padded, zeros}
+use Rattle.tables.specs.Tables.{padded, zeros, Column}
 use Rattle.tables.proofs.Tables.{length-padded, getD-padded}
 use Rattle.policy.specs.declared.Policy.{Policy}
 use Rattle.policy.specs.Policies.{legal, edges, edgeOf, source, targetOf}
 use Rattle.policy.proofs.Laws.{legal-counts, legal-target, edges-le, edge-lt}
 use Rattle.forest.specs.Forest.{forest}
 use Rattle.forest.proofs.Forest.{forest-laws}
-use Rattle.automaton.specs.Automaton.{orElse, leaves, leafAfter, priorityAfter, built, stateAt, number, rowTarget, rowPriority, rowTargets, rowPriorities}
-use Rattle.automaton.specs.Stages.{firstOver, Starts}
-use Rattle.rows.specs.Rows.{LeafColumn, RowFrom, Towards, HasRow, Rowed}
+use Rattle.automaton.specs.Automaton.{orElse, leaves, leafAfter, priorityAfter, built, stateAt, number, rowTarget, rowPriority, rowTargets, rowPriorities, stateLeaves}
+use Rattle.automaton.specs.Stages.{firstOver, stateStarts}
+use Rattle.rows.specs.Rows.{RowFrom, PartlyFilled, HasRow, RowsWritten}
 use Rattle.automaton.proofs.EdgeRuns.{Good}
 use Rattle.automaton.proofs.Leaves.{good-leaves}
 use Rattle.automaton.proofs.Tables.{built-good}
-use Rattle.rows.proofs.Search.{over-mono, in-run, run-has}
+use Rattle.automaton.proofs.Columns.{leaf-at, leaves-long, start-at}
+use Rattle.automaton.proofs.Starts.{over-mono, in-run, run-has}
 
--- ---- a table on the way to a column
+-- ---- a table partly filled with a column
 zero-at : (n i : ℕ) → _≡_ {A = ℕ} (getD (replicate n 0) i 0) 0
 zero-at zero i = refl
 zero-at (suc n) zero = refl
@@ -41,19 +42,19 @@ padded-past n l i h =
     ap (λ (j : ℕ). getD (padded n l) j 0) e ∙ getD-append-add l (replicate (n - length l) 0) (i - length l) 0 ∙ zero-at (n - length l) (i - length l)
 
 module _ (l : List ℕ) where
-  pub towards-none : (t : List ℕ) → Towards l t t
-  towards-none t = record { long = refl; each = λ i. inl refl }
+  pub partly-none : (t : List ℕ) → PartlyFilled l t t
+  partly-none t = record { long = refl; each = λ i. inl refl }
 
   -- what the column has in a place is written there
-  pub towards-set : (t : List ℕ) (i x : ℕ) → i < length t → i < length l → x ≡ getD l i 0 → Towards l t (set t i x)
-  towards-set t i x h k e = record { long = length-set t i x; each = λ j. go j (ℕ-discrete j i) }
+  pub partly-set : (t : List ℕ) (i x : ℕ) → i < length t → i < length l → x ≡ getD l i 0 → PartlyFilled l t (set t i x)
+  partly-set t i x h k e = record { long = length-set t i x; each = λ j. go j (ℕ-discrete j i) }
     where
       go : (j : ℕ) → Dec (j ≡ i) → (getD (set t i x) j 0 ≡ getD t j 0) ⊎ ((j < length l) × (getD (set t i x) j 0 ≡ getD l j 0))
       go j (yes q) = inr (omega arith, ap (λ (z : ℕ). getD (set t i x) z 0) q ∙ getD-set-same t i x 0 h ∙ e ∙ ap (λ (z : ℕ). getD l z 0) (sym q))
       go j (no q) = inl (getD-set-other t i j x 0 q)
 
-  pub towards-both : {t₀ t₁ t : List ℕ} → Towards l t₀ t₁ → Towards l t₁ t → Towards l t₀ t
-  towards-both {t₀} {t₁} {t} a b = record { long = b .long ∙ a .long; each = λ i. go i (a .each i) (b .each i) }
+  pub partly-both : {t₀ t₁ t : List ℕ} → PartlyFilled l t₀ t₁ → PartlyFilled l t₁ t → PartlyFilled l t₀ t
+  partly-both {t₀} {t₁} {t} a b = record { long = b .long ∙ a .long; each = λ i. go i (a .each i) (b .each i) }
     where
       go : (i : ℕ) → (getD t₁ i 0 ≡ getD t₀ i 0) ⊎ ((i < length l) × (getD t₁ i 0 ≡ getD l i 0)) → (getD t i 0 ≡ getD t₁ i 0) ⊎ ((i < length l) × (getD t i 0 ≡ getD l i 0)) → (getD t i 0 ≡ getD t₀ i 0) ⊎ ((i < length l) × (getD t i 0 ≡ getD l i 0))
       go i u (inr v) = inr v
@@ -61,17 +62,17 @@ module _ (l : List ℕ) where
       go i (inr u) (inl v) = inr (u .0, v ∙ u .1)
 
   -- what is right stays right
-  pub towards-keeps : {t₀ t : List ℕ} → Towards l t₀ t → (i : ℕ) → getD t₀ i 0 ≡ getD l i 0 → getD t i 0 ≡ getD l i 0
-  towards-keeps {t₀} {t} a i e = go (a .each i)
+  pub partly-keeps : {t₀ t : List ℕ} → PartlyFilled l t₀ t → (i : ℕ) → getD t₀ i 0 ≡ getD l i 0 → getD t i 0 ≡ getD l i 0
+  partly-keeps {t₀} {t} a i e = go (a .each i)
     where
       go : (getD t i 0 ≡ getD t₀ i 0) ⊎ ((i < length l) × (getD t i 0 ≡ getD l i 0)) → getD t i 0 ≡ getD l i 0
       go (inl u) = u ∙ e
       go (inr u) = u .1
 
   -- from a cleared table, once every place of the column is right
-  pub towards-whole : {t₀ t : List ℕ} → Towards l t₀ t → t₀ ≡ zeros t₀ → length l ≤ length t₀ → ((i : ℕ) → i < length l → getD t i 0 ≡ getD l i 0) → t ≡ padded (length t₀) l
+  pub partly-whole : {t₀ t : List ℕ} → PartlyFilled l t₀ t → t₀ ≡ zeros t₀ → length l ≤ length t₀ → ((i : ℕ) → i < length l → getD t i 0 ≡ getD l i 0) → t ≡ padded (length t₀) l
   unfolding zeros
-  towards-whole {t₀} {t} a z h right = ext-getD 0 t (padded (length t₀) l) (a .long ∙ sym (length-padded (length t₀) l h)) (λ i q. go i (decLt i (length l)) (a .each i))
+  partly-whole {t₀} {t} a z h right = ext-getD 0 t (padded (length t₀) l) (a .long ∙ sym (length-padded (length t₀) l h)) (λ i q. go i (decLt i (length l)) (a .each i))
     where
       go : (i : ℕ) → Dec (i < length l) → (getD t i 0 ≡ getD t₀ i 0) ⊎ ((i < length l) × (getD t i 0 ≡ getD l i 0)) → getD t i 0 ≡ getD (padded (length t₀) l) i 0
       go i (yes q) u = right i q ∙ sym (getD-padded (length t₀) l i q)
@@ -105,21 +106,21 @@ module _ (p : Policy) where
     row-lt = digits-lt h k
 
     -- a row that is there stays there
-    pub has-kept : {t₀ k₀ t k : List ℕ} → Towards (rowTargets p) t₀ t → Towards (rowPriorities p) k₀ k → HasRow p t₀ k₀ s a → HasRow p t k s a
+    pub has-kept : {t₀ k₀ t k : List ℕ} → PartlyFilled (rowTargets p) t₀ t → PartlyFilled (rowPriorities p) k₀ k → HasRow p t₀ k₀ s a → HasRow p t k s a
     has-kept u v r = record {
-      target-is = towards-keeps (rowTargets p) u (s * p .letters + a) (r .target-is ∙ sym target-in) ∙ target-in;
-      priority-is = towards-keeps (rowPriorities p) v (s * p .letters + a) (r .priority-is ∙ sym priority-in) ∙ priority-in;
+      target-is = partly-keeps (rowTargets p) u (s * p .letters + a) (r .target-is ∙ sym target-in) ∙ target-in;
+      priority-is = partly-keeps (rowPriorities p) v (s * p .letters + a) (r .priority-is ∙ sym priority-in) ∙ priority-in;
     }
 
 -- ---- the rows of several edges
 module _ (p : Policy) where
-  pub rowed-none : (t k : List ℕ) (n : ℕ) → Rowed p t k t k n n
-  rowed-none t k n = record { targets-are = towards-none (rowTargets p) t; priorities-are = towards-none (rowPriorities p) k; done = λ s a h i j q. absurd (omega arith) }
+  pub written-none : (t k : List ℕ) (n : ℕ) → RowsWritten p t k t k n n
+  written-none t k n = record { targets-are = partly-none (rowTargets p) t; priorities-are = partly-none (rowPriorities p) k; done = λ s a h i j q. absurd (omega arith) }
 
-  pub rowed-both : {t₀ k₀ t₁ k₁ t k : List ℕ} {a b c : ℕ} → Rowed p t₀ k₀ t₁ k₁ a b → Rowed p t₁ k₁ t k b c → Rowed p t₀ k₀ t k a c
-  rowed-both {t₀} {k₀} {t₁} {k₁} {t} {k} {a} {b} {c} u v = record {
-    targets-are = towards-both (rowTargets p) (u .targets-are) (v .targets-are);
-    priorities-are = towards-both (rowPriorities p) (u .priorities-are) (v .priorities-are);
+  pub written-both : {t₀ k₀ t₁ k₁ t k : List ℕ} {a b c : ℕ} → RowsWritten p t₀ k₀ t₁ k₁ a b → RowsWritten p t₁ k₁ t k b c → RowsWritten p t₀ k₀ t k a c
+  written-both {t₀} {k₀} {t₁} {k₁} {t} {k} {a} {b} {c} u v = record {
+    targets-are = partly-both (rowTargets p) (u .targets-are) (v .targets-are);
+    priorities-are = partly-both (rowPriorities p) (u .priorities-are) (v .priorities-are);
     done = λ s x h i j q. go s x h i j q (decLt (edgeOf p (stateAt p s .state) x) b);
   }
     where
@@ -134,12 +135,12 @@ module _ (p : Policy) where
     pub rows-room : (t : List ℕ) → p .letters * length (built p) ≤ length t → length (built p) * p .letters ≤ length t
     rows-room t h = omega (arith, mul-comm (length (built p)) (p .letters))
 
-    pub rowed-all : {t₀ k₀ t k : List ℕ} {n : ℕ} → Rowed p t₀ k₀ t k 0 n → edges p ≤ n → t₀ ≡ zeros t₀ → k₀ ≡ zeros k₀ → p .letters * length (built p) ≤ length t₀
+    pub written-all : {t₀ k₀ t k : List ℕ} {n : ℕ} → RowsWritten p t₀ k₀ t k 0 n → edges p ≤ n → t₀ ≡ zeros t₀ → k₀ ≡ zeros k₀ → p .letters * length (built p) ≤ length t₀
         → p .letters * length (built p) ≤ length k₀ → (t ≡ padded (length t₀) (rowTargets p)) × (k ≡ padded (length k₀) (rowPriorities p))
-    rowed-all {t₀} {k₀} {t} {k} {n} w m zt zk lt lk = (
-      towards-whole (rowTargets p) (w .targets-are) zt (omega (arith, length-targets p, rows-room t₀ lt))
+    written-all {t₀} {k₀} {t} {k} {n} w m zt zk lt lk = (
+      partly-whole (rowTargets p) (w .targets-are) zt (omega (arith, length-targets p, rows-room t₀ lt))
           (λ i h. let r = right i (omega (arith, length-targets p)) in subst (λ (j : ℕ). getD t j 0 ≡ getD (rowTargets p) j 0) (div-add-mod' i (p .letters)) (r .2 .target-is ∙ sym (target-in p (i / p .letters) (i % p .letters) (r .0) (r .1)))),
-      towards-whole (rowPriorities p) (w .priorities-are) zk (omega (arith, length-priorities p, rows-room k₀ lk))
+      partly-whole (rowPriorities p) (w .priorities-are) zk (omega (arith, length-priorities p, rows-room k₀ lk))
           (λ i h. let r = right i (omega (arith, length-priorities p)) in subst (λ (j : ℕ). getD k j 0 ≡ getD (rowPriorities p) j 0) (div-add-mod' i (p .letters)) (r .2 .priority-is ∙ sym (priority-in p (i / p .letters) (i % p .letters) (r .0) (r .1)))),
     )
       where
@@ -151,20 +152,20 @@ module _ (p : Policy) where
 
 -- ---- by states, and by letters
 module _ (p : Policy) where
-  pub rowed-first : (t k : List ℕ) → Rowed p t k t k 0 (edgeOf p 0 0)
+  pub written-first : (t k : List ℕ) → RowsWritten p t k t k 0 (edgeOf p 0 0)
   unfolding edgeOf
-  rowed-first t k = let e : 0 ≡ 0 * p .letters + 0 = omega arith in subst (Rowed p t k t k 0) e (rowed-none p t k 0)
+  written-first t k = let e : 0 ≡ 0 * p .letters + 0 = omega arith in subst (RowsWritten p t k t k 0) e (written-none p t k 0)
 
   module _ {t₀ k₀ t₁ k₁ t k : List ℕ} (v a : ℕ) where
     -- a letter more
-    pub rowed-letter : Rowed p t₀ k₀ t₁ k₁ (edgeOf p v 0) (edgeOf p v a) → Rowed p t₁ k₁ t k (edgeOf p v a) (edgeOf p v a + 1) → Rowed p t₀ k₀ t k (edgeOf p v 0) (edgeOf p v (a + 1))
+    pub written-letter : RowsWritten p t₀ k₀ t₁ k₁ (edgeOf p v 0) (edgeOf p v a) → RowsWritten p t₁ k₁ t k (edgeOf p v a) (edgeOf p v a + 1) → RowsWritten p t₀ k₀ t k (edgeOf p v 0) (edgeOf p v (a + 1))
     unfolding edgeOf
-    rowed-letter u w = let e : v * p .letters + a + 1 ≡ v * p .letters + (a + 1) = omega arith in subst (Rowed p t₀ k₀ t k (edgeOf p v 0)) e (rowed-both p u w)
+    written-letter u w = let e : v * p .letters + a + 1 ≡ v * p .letters + (a + 1) = omega arith in subst (RowsWritten p t₀ k₀ t k (edgeOf p v 0)) e (written-both p u w)
 
     -- a state more, once all its letters are done
-    pub rowed-state : Rowed p t₀ k₀ t₁ k₁ 0 (edgeOf p v 0) → Rowed p t₁ k₁ t k (edgeOf p v 0) (edgeOf p v a) → a ≡ p .letters → Rowed p t₀ k₀ t k 0 (edgeOf p (v + 1) 0)
+    pub written-state : RowsWritten p t₀ k₀ t₁ k₁ 0 (edgeOf p v 0) → RowsWritten p t₁ k₁ t k (edgeOf p v 0) (edgeOf p v a) → a ≡ p .letters → RowsWritten p t₀ k₀ t k 0 (edgeOf p (v + 1) 0)
     unfolding edgeOf
-    rowed-state u w h = let e : v * p .letters + a ≡ (v + 1) * p .letters + 0 = omega (arith, suc-mul v (p .letters)) in subst (Rowed p t₀ k₀ t k 0) e (rowed-both p u w)
+    written-state u w h = let e : v * p .letters + a ≡ (v + 1) * p .letters + 0 = omega (arith, suc-mul v (p .letters)) in subst (RowsWritten p t₀ k₀ t k 0) e (written-both p u w)
 
   pub all-edges : (v : ℕ) → p .states ≤ v → edges p ≤ edgeOf p v 0
   unfolding edgeOf edges
@@ -172,23 +173,35 @@ module _ (p : Policy) where
 
 -- ---- the rows of one edge, that of a state v and a letter a
 -- those of the states over v up to s are written
-pub record Edging (p : Policy) (v a : ℕ) (t₀ k₀ t k : List ℕ) (s : ℕ) : Type 0 where
+pub record EdgeRows (p : Policy) (v a : ℕ) (t₀ k₀ t k : List ℕ) (s : ℕ) : Type 0 where
   pub at-least : firstOver p v ≤ s
   pub at-most : s ≤ firstOver p (v + 1)
-  pub targets-are : Towards (rowTargets p) t₀ t
-  pub priorities-are : Towards (rowPriorities p) k₀ k
+  pub targets-are : PartlyFilled (rowTargets p) t₀ t
+  pub priorities-are : PartlyFilled (rowPriorities p) k₀ k
   pub done : (j : ℕ) → firstOver p v ≤ j → j < s → HasRow p t k j a
 
-module _ (p : Policy) (ok : legal p ≡ true) (v a : ℕ) (hv : v < p .states) (ha : a < p .letters) where
+-- what the rows of an edge are filled in from: the state v, the letter a, the heads of the edges, the leaves and the starts of the states, row tables with places for all rows
+pub record EdgeGiven (p : Policy) (v a : ℕ) (heads entries starts t₀ k₀ : List ℕ) : Type 0 where
+  pub lawful : legal p ≡ true
+  pub state-in : v < p .states
+  pub letter-in : a < p .letters
+  pub heads-are : heads ≡ p .target
+  pub few : length (built p) ≤ 65535
+  pub leaves-are : Column (stateLeaves p) entries
+  pub starts-are : Column (stateStarts p) starts
+  pub targets-long : p .letters * length (built p) ≤ length t₀
+  pub priorities-long : p .letters * length (built p) ≤ length k₀
+
+module _ {p : Policy} {v a : ℕ} {heads entries starts t₀ k₀ : List ℕ} (g : EdgeGiven p v a heads entries starts t₀ k₀) where
   pub edge-in : v * p .letters + a < edges p
   unfolding edgeOf
-  edge-in = edge-lt p v a hv ha
+  edge-in = edge-lt p v a (g .state-in) (g .letter-in)
 
   pub edge-place : v * p .letters + a < 64
-  edge-place = omega (arith, edge-in, edges-le p ok)
+  edge-place = omega (arith, edge-in, edges-le p (g .lawful))
 
   pub source-small : v < 16
-  source-small = omega (arith, legal-counts p ok .states-few)
+  source-small = omega (arith, g .state-in, legal-counts p (g .lawful) .states-few)
 
   edge-is : edgeOf p v a ≡ v * p .letters + a
   unfolding edgeOf
@@ -196,45 +209,52 @@ module _ (p : Policy) (ok : legal p ≡ true) (v a : ℕ) (hv : v < p .states) (
 
   source-is : source p (v * p .letters + a) ≡ v
   unfolding source
-  source-is = digits-div v {m = p .letters} {r = a} ha
+  source-is = digits-div v {m = p .letters} {r = a} (g .letter-in)
 
   -- only a state over v has it, by this letter
   edge-only : (u b : ℕ) → b < p .letters → edgeOf p u b ≡ v * p .letters + a → (u ≡ v) × (b ≡ a)
   unfolding edgeOf
   edge-only u b h q = (
-    sym (digits-div u {m = p .letters} {r = b} h) ∙ ap (λ (x : ℕ). x / p .letters) q ∙ digits-div v {m = p .letters} {r = a} ha,
-    sym (digits-mod u {m = p .letters} {r = b} h) ∙ ap (λ (x : ℕ). x % p .letters) q ∙ digits-mod v {m = p .letters} {r = a} ha,
+    sym (digits-div u {m = p .letters} {r = b} h) ∙ ap (λ (x : ℕ). x / p .letters) q ∙ digits-div v {m = p .letters} {r = a} (g .letter-in),
+    sym (digits-mod u {m = p .letters} {r = b} h) ∙ ap (λ (x : ℕ). x % p .letters) q ∙ digits-mod v {m = p .letters} {r = a} (g .letter-in),
   )
 
-  module _ (starts : List ℕ) (st : Starts p starts) where
-    pub source-run : (getD starts v 0 ≡ firstOver p v) × (getD starts (v + 1) 0 ≡ firstOver p (v + 1))
-    source-run = (st v (omega arith), st (v + 1) (omega arith))
+  -- the states over v
+  module _ {low high : ℕ} (is-low : low ≡ getD starts v 0) (is-high : high ≡ getD starts (v + 1) 0) where
+    pub source-low : low ≡ firstOver p v
+    source-low = is-low ∙ start-at p v (omega (arith, g .state-in)) (g .starts-are)
 
-    pub target-run : (heads : List ℕ) (w : ℕ) → heads ≡ p .target → w ≡ getD heads (v * p .letters + a) 0
-        → (w < 16) × (getD starts w 0 ≡ firstOver p (targetOf p (v * p .letters + a))) × (getD starts (w + 1) 0 ≡ firstOver p (targetOf p (v * p .letters + a) + 1))
+    pub source-high : high ≡ firstOver p (v + 1)
+    source-high = is-high ∙ start-at p (v + 1) (omega (arith, g .state-in)) (g .starts-are)
+
+  -- those over the edge's target w
+  module _ {w : ℕ} (is : w ≡ getD heads (v * p .letters + a) 0) where
+    head-is : w ≡ targetOf p (v * p .letters + a)
     unfolding targetOf
-    target-run heads w h q = (
-      omega (arith, is, legal-target p ok e edge-in, legal-counts p ok .states-few),
-      st w (omega (arith, is, legal-target p ok e edge-in)) ∙ ap (firstOver p) is,
-      st (w + 1) (omega (arith, is, legal-target p ok e edge-in)) ∙ ap (λ (x : ℕ). firstOver p (x + 1)) is,
-    )
-      where
-        e : ℕ
-        e = v * p .letters + a
+    head-is = is ∙ ap (λ (l : List ℕ). getD l (v * p .letters + a) 0) (g .heads-are)
 
-        is : w ≡ targetOf p e
-        is = q ∙ ap (λ (l : List ℕ). getD l e 0) h
+    head-in : w < p .states
+    head-in = omega (arith, head-is, legal-target p (g .lawful) (v * p .letters + a) edge-in)
 
-  pub edging-none : (t k : List ℕ) (s : ℕ) → s ≡ firstOver p v → Edging p v a t k t k s
-  edging-none t k s q = record {
+    pub head-small : w < 16
+    head-small = omega (arith, head-in, legal-counts p (g .lawful) .states-few)
+
+    pub target-low : {low : ℕ} → low ≡ getD starts w 0 → low ≡ firstOver p (targetOf p (v * p .letters + a))
+    target-low q = q ∙ start-at p w (omega (arith, head-in)) (g .starts-are) ∙ ap (firstOver p) head-is
+
+    pub target-high : {high : ℕ} → high ≡ getD starts (w + 1) 0 → high ≡ firstOver p (targetOf p (v * p .letters + a) + 1)
+    target-high q = q ∙ start-at p (w + 1) (omega (arith, head-in)) (g .starts-are) ∙ ap (λ (x : ℕ). firstOver p (x + 1)) head-is
+
+  pub edge-rows-none : {s : ℕ} → s ≡ firstOver p v → EdgeRows p v a t₀ k₀ t₀ k₀ s
+  edge-rows-none {s} q = record {
     at-least = omega arith;
     at-most = omega (arith, over-mono p v);
-    targets-are = towards-none (rowTargets p) t;
-    priorities-are = towards-none (rowPriorities p) k;
+    targets-are = partly-none (rowTargets p) t₀;
+    priorities-are = partly-none (rowPriorities p) k₀;
     done = λ j x y. absurd (omega arith);
   }
 
-  module _ {t₀ k₀ t k : List ℕ} {s : ℕ} (w : Edging p v a t₀ k₀ t k s) where
+  module _ {t k : List ℕ} {s : ℕ} (w : EdgeRows p v a t₀ k₀ t k s) where
     module _ (h : s < firstOver p (v + 1)) where
       in-built : (s < length (built p)) × (stateAt p s .state ≡ v)
       in-built = in-run p v s (w .at-least) h
@@ -243,66 +263,64 @@ module _ (p : Policy) (ok : legal p ≡ true) (v a : ℕ) (hv : v < p .states) (
       unfolding edgeOf
       edge-at = ap (λ (u : ℕ). u * p .letters + a) (in-built .1)
 
-      module _ (entries : List ℕ) (col : LeafColumn p entries) where
-        pub edging-small : (s < length entries) × (s < 65535)
-        edging-small = (omega (arith, in-built .0, col .long), omega (arith, in-built .0, col .few))
+      pub edge-rows-small : (s < length entries) × (s < 65535)
+      edge-rows-small = (omega (arith, in-built .0, leaves-long p (g .leaves-are)), omega (arith, in-built .0, g .few))
 
-        leaf-is : getD entries s 0 ≡ stateAt p s .leaf
-        leaf-is = col .are s (in-built .0)
+      leaf-is : getD entries s 0 ≡ stateAt p s .leaf
+      leaf-is = leaf-at p s (in-built .0) (g .leaves-are)
 
-        pub edging-leaf : (l : ℕ) → l ≡ getD entries s 0 → List·Memᴰ l (orElse 65535 (leaves (forest p) p (source p (v * p .letters + a))))
-        edging-leaf l q =
-            good-leaves p (forest p) (forest-laws p ok) (source p (v * p .letters + a)) l
-            (subst (λ (x : ℕ). Good (forest p) p (source p (v * p .letters + a)) x) (sym (q ∙ leaf-is))
-            (subst (λ (u : ℕ). Good (forest p) p u (stateAt p s .leaf)) (in-built .1 ∙ sym source-is) (built-good p (forest-laws p ok) s (in-built .0) .1)))
+      pub edge-rows-leaf : {l : ℕ} → l ≡ getD entries s 0 → List·Memᴰ l (orElse 65535 (leaves (forest p) p (source p (v * p .letters + a))))
+      edge-rows-leaf {l} q =
+          good-leaves p (forest p) (forest-laws p (g .lawful)) (source p (v * p .letters + a)) l
+          (subst (λ (x : ℕ). Good (forest p) p (source p (v * p .letters + a)) x) (sym (q ∙ leaf-is))
+          (subst (λ (u : ℕ). Good (forest p) p u (stateAt p s .leaf)) (in-built .1 ∙ sym source-is) (built-good p (forest-laws p (g .lawful)) s (in-built .0) .1)))
 
-        edging-row : (l x y : ℕ) → l ≡ getD entries s 0 → RowFrom p (v * p .letters + a) l x y → (x ≡ rowTarget p s a) × (y ≡ rowPriority p s a)
-        unfolding rowTarget rowPriority
-        edging-row l x y q r = (
-          r .target-is ∙ ap₂ (λ (d i : ℕ). number p (targetOf p d) (leafAfter (forest p) p d i)) (sym edge-at) (q ∙ leaf-is),
-          r .priority-is ∙ ap₂ (λ (d i : ℕ). priorityAfter (forest p) p d i) (sym edge-at) (q ∙ leaf-is),
-        )
+      edge-rows-row : {l x y : ℕ} → l ≡ getD entries s 0 → RowFrom p (v * p .letters + a) l x y → (x ≡ rowTarget p s a) × (y ≡ rowPriority p s a)
+      unfolding rowTarget rowPriority
+      edge-rows-row {l} {x} {y} q r = (
+        r .target-is ∙ ap₂ (λ (d i : ℕ). number p (targetOf p d) (leafAfter (forest p) p d i)) (sym edge-at) (q ∙ leaf-is),
+        r .priority-is ∙ ap₂ (λ (d i : ℕ). priorityAfter (forest p) p d i) (sym edge-at) (q ∙ leaf-is),
+      )
 
-        module _ (lt : p .letters * length (built p) ≤ length t₀) (lk : p .letters * length (built p) ≤ length k₀) where
-          at-row : s * p .letters + a < length (built p) * p .letters
-          at-row = row-lt p s a (in-built .0) ha
+      at-row : s * p .letters + a < length (built p) * p .letters
+      at-row = row-lt p s a (in-built .0) (g .letter-in)
 
-          pub edging-in : (s * p .letters + a < length t) × (s * p .letters + a < length k) × (s * p .letters + a < 524280)
-          edging-in = (
-            omega (arith, at-row, w .targets-are .long, rows-room p ok t₀ lt),
-            omega (arith, at-row, w .priorities-are .long, rows-room p ok k₀ lk),
-            omega (arith, at-row, mul-le-mul-right (p .letters) (col .few), legal-counts p ok .letters-few),
-          )
+      pub edge-rows-in : (s * p .letters + a < length t) × (s * p .letters + a < length k) × (s * p .letters + a < 524280)
+      edge-rows-in = (
+        omega (arith, at-row, w .targets-are .long, rows-room p (g .lawful) t₀ (g .targets-long)),
+        omega (arith, at-row, w .priorities-are .long, rows-room p (g .lawful) k₀ (g .priorities-long)),
+        omega (arith, at-row, mul-le-mul-right (p .letters) (g .few), legal-counts p (g .lawful) .letters-few),
+      )
 
-          pub edging-more : (l x y : ℕ) → l ≡ getD entries s 0 → RowFrom p (v * p .letters + a) l x y → Edging p v a t₀ k₀ (set t (s * p .letters + a) x) (set k (s * p .letters + a) y) (s + 1)
-          edging-more l x y q r = record {
-            at-least = omega (arith, w .at-least);
-            at-most = omega arith;
-            targets-are = towards-both (rowTargets p) (w .targets-are) ut;
-            priorities-are = towards-both (rowPriorities p) (w .priorities-are) uk;
-            done = λ j b c. go j b c (ℕ-discrete j s);
-          }
-            where
-              i : ℕ
-              i = s * p .letters + a
+      pub edge-rows-more : {l x y : ℕ} → l ≡ getD entries s 0 → RowFrom p (v * p .letters + a) l x y → EdgeRows p v a t₀ k₀ (set t (s * p .letters + a) x) (set k (s * p .letters + a) y) (s + 1)
+      edge-rows-more {l} {x} {y} q r = record {
+        at-least = omega (arith, w .at-least);
+        at-most = omega arith;
+        targets-are = partly-both (rowTargets p) (w .targets-are) ut;
+        priorities-are = partly-both (rowPriorities p) (w .priorities-are) uk;
+        done = λ j b c. go j b c (ℕ-discrete j s);
+      }
+        where
+          i : ℕ
+          i = s * p .letters + a
 
-              is : (x ≡ rowTarget p s a) × (y ≡ rowPriority p s a)
-              is = edging-row l x y q r
+          is : (x ≡ rowTarget p s a) × (y ≡ rowPriority p s a)
+          is = edge-rows-row q r
 
-              ut : Towards (rowTargets p) t (set t i x)
-              ut = towards-set (rowTargets p) t i x (edging-in .0) (omega (arith, at-row, length-targets p)) (is .0 ∙ sym (target-in p s a (in-built .0) ha))
+          ut : PartlyFilled (rowTargets p) t (set t i x)
+          ut = partly-set (rowTargets p) t i x (edge-rows-in .0) (omega (arith, at-row, length-targets p)) (is .0 ∙ sym (target-in p s a (in-built .0) (g .letter-in)))
 
-              uk : Towards (rowPriorities p) k (set k i y)
-              uk = towards-set (rowPriorities p) k i y (edging-in .1) (omega (arith, at-row, length-priorities p)) (is .1 ∙ sym (priority-in p s a (in-built .0) ha))
+          uk : PartlyFilled (rowPriorities p) k (set k i y)
+          uk = partly-set (rowPriorities p) k i y (edge-rows-in .1) (omega (arith, at-row, length-priorities p)) (is .1 ∙ sym (priority-in p s a (in-built .0) (g .letter-in)))
 
-              go : (j : ℕ) → firstOver p v ≤ j → j < s + 1 → Dec (j ≡ s) → HasRow p (set t i x) (set k i y) j a
-              go j b c (yes z) =
-                  subst (λ (n : ℕ). HasRow p (set t i x) (set k i y) n a) (sym z)
-                  (record { target-is = getD-set-same t i x 0 (edging-in .0) ∙ is .0; priority-is = getD-set-same k i y 0 (edging-in .1) ∙ is .1 })
-              go j b c (no z) = has-kept p j a (omega (arith, in-built .0)) ha ut uk (w .done j b (omega arith))
+          go : (j : ℕ) → firstOver p v ≤ j → j < s + 1 → Dec (j ≡ s) → HasRow p (set t i x) (set k i y) j a
+          go j b c (yes z) =
+              subst (λ (n : ℕ). HasRow p (set t i x) (set k i y) n a) (sym z)
+              (record { target-is = getD-set-same t i x 0 (edge-rows-in .0) ∙ is .0; priority-is = getD-set-same k i y 0 (edge-rows-in .1) ∙ is .1 })
+          go j b c (no z) = has-kept p j a (omega (arith, in-built .0)) (g .letter-in) ut uk (w .done j b (omega arith))
 
-    pub edging-all : firstOver p (v + 1) ≤ s → Rowed p t₀ k₀ t k (edgeOf p v a) (edgeOf p v a + 1)
-    edging-all h = record { targets-are = w .targets-are; priorities-are = w .priorities-are; done = λ j b i l m n. go j b i l (omega arith) }
+    pub edge-rows-all : firstOver p (v + 1) ≤ s → RowsWritten p t₀ k₀ t k (edgeOf p v a) (edgeOf p v a + 1)
+    edge-rows-all h = record { targets-are = w .targets-are; priorities-are = w .priorities-are; done = λ j b i l m n. go j b i l (omega arith) }
       where
         go : (j b : ℕ) → j < length (built p) → b < p .letters → edgeOf p (stateAt p j .state) b ≡ edgeOf p v a → HasRow p t k j b
         go j b i l q =

@@ -22,7 +22,8 @@ use Rattle.rows.specs.Rows.{RowFrom, SharedBy}
 use Rattle.automaton.proofs.Branch.{child-lt, child-between, lead-is, deepest-under, deepest-at}
 use Rattle.automaton.proofs.Leaves.{Meets, entered-next, after-out, after-at, after-in}
 use Rattle.automaton.proofs.Ends.{end-le, under-end, end-under}
-use Rattle.rows.proofs.RowLaws.{Place, Search, lead-self, find-meets, find-rooted, find-child, place-small}
+use Rattle.rows.proofs.Climbing.{lead-self}
+use Rattle.rows.proofs.Finding.{Place, Run, find-meets, find-rooted, find-child, place-small}
 
 -- ---- below one child
 module _ (p : Policy) (ns : List Node) (laws : ForestLaws p ns) (e l : ℕ) (t : inRoot ns e ≡ true) (g : Meets ns p e l) (off : lead ns (deepest ns e l) l ≢ deepest ns e l) where
@@ -95,7 +96,7 @@ unfolding priorityAfter
 priority-out p ns e k l f = rw f refl
 
 -- ---- the row found, and the leaves that share it
-module _ (p : Policy) (ends entries : List ℕ) (e l : ℕ) (met : Bool) (at child priority from to : ℕ) (a : Place p e l met at child priority) (b : Search p ends entries e from to) where
+module _ (p : Policy) (ends entries : List ℕ) (e l : ℕ) (met : Bool) (at child priority from to : ℕ) (a : Place p e l met at child priority) (b : Run p ends entries e from to) where
   row : (r : ℕ) → r ≡ number p (targetOf p e) (leafAfter (forest p) p e l) → RowFrom p e l r priority
   row r q = record { target-is = q; priority-is = a .3 .priority-is }
 

@@ -1,51 +1,14 @@
--- What the functions that fill in the rows hand to one another: columns of the tables, a lower bound in a run of a column, where an edge meets the branch of a
--- leaf, the leaves that share a row, the rows written so far.
+-- What the functions that fill in the rows hand to one another: where an edge meets the branch of a leaf, the leaves that share a row, the rows written so far.
 use Prim.Native.Nat.{ℕ, _+_, _*_, _≤_, _<_}
 use mathlib.Core.Path.{_≡_}
 use mathlib.Core.Logic.{_⊎_}
-use mathlib.Core.Bool.{Bool, true, cond}
+use mathlib.Core.Bool.{Bool, true}
 use mathlib.Core.List.{List}
-use lib.Dec.{ltb}
-use lib.ListN.{length, getD, set}
+use lib.ListN.{length, getD}
 use Rattle.policy.specs.declared.Policy.{Policy}
 use Rattle.policy.specs.Policies.{edgeOf, targetOf}
-use Rattle.forest.specs.Forest.{forest, node, inRoot}
+use Rattle.forest.specs.Forest.{forest, inRoot}
 use Rattle.automaton.specs.Automaton.{built, stateAt, deepest, lead, leafAfter, priorityAfter, number, rowTarget, rowPriority, rowTargets, rowPriorities}
-
--- a table that begins with the parents of the nodes
-pub record ParentColumn (p : Policy) (parents : List ℕ) : Type 0 where
-  pub few : length (forest p) ≤ 65535
-  pub long : length (forest p) ≤ length parents
-  pub are : (n : ℕ) → n < length (forest p) → getD parents n 0 ≡ node (forest p) n .parent
-
--- a table that begins with the leaves of the built states
-pub record LeafColumn (p : Policy) (leaves : List ℕ) : Type 0 where
-  pub few : length (built p) ≤ 65535
-  pub long : length (built p) ≤ length leaves
-  pub are : (s : ℕ) → s < length (built p) → getD leaves s 0 ≡ stateAt p s .leaf
-
--- the entries from `from` up to `to` ascend
-abbrev pub AscendsIn : List ℕ → ℕ → ℕ → Type 0
-AscendsIn l from to = (i j : ℕ) → from ≤ i → i < j → j < to → getD l i 0 < getD l j 0
-
--- r is the first place from `from` up to `to` whose entry is x or more, and `to` where there is none
-pub record LowerBound (l : List ℕ) (from to x r : ℕ) : Type 0 where
-  pub low : from ≤ r
-  pub high : r ≤ to
-  pub before : (i : ℕ) → from ≤ i → i < r → getD l i 0 < x
-  pub after : (i : ℕ) → r ≤ i → i < to → x ≤ getD l i 0
-
--- the first place from `from` up to `to` whose entry is x or more stands from low up to high
-pub record Narrowed (l : List ℕ) (from to x low high : ℕ) : Type 0 where
-  pub from-low : from ≤ low
-  pub low-high : low ≤ high
-  pub high-to : high ≤ to
-  pub before : (i : ℕ) → from ≤ i → i < low → getD l i 0 < x
-  pub after : (i : ℕ) → high ≤ i → i < to → x ≤ getD l i 0
-
--- what stands at `up`, raised to what stands at n
-unfoldable pub raisedTo : List ℕ → ℕ → ℕ → List ℕ
-raisedTo l up n = cond (ltb (getD l up 0) (getD l n 0)) (set l up (getD l n 0)) l
 
 -- where e meets the branch of l: whether it does, the deepest node with e, the child of it that leads to l, the priority met
 pub record Met (p : Policy) (e l : ℕ) (met : Bool) (at child priority : ℕ) : Type 0 where
@@ -59,7 +22,7 @@ pub record RowFrom (p : Policy) (e l target priority : ℕ) : Type 0 where
   pub target-is : target ≡ number p (targetOf p e) (leafAfter (forest p) p e l)
   pub priority-is : priority ≡ priorityAfter (forest p) p e l
 
--- it is the row of e from each leaf from `from` up to `to`
+-- it is the row of e from each leaf from `from` up to `to`: they share it
 abbrev pub Shares : Policy → ℕ → ℕ → ℕ → ℕ → ℕ → Type 0
 Shares p e from to target priority = (l : ℕ) → from ≤ l → l < to → RowFrom p e l target priority
 
@@ -69,8 +32,8 @@ pub record SharedBy (p : Policy) (e l from to target priority : ℕ) : Type 0 wh
   pub high : l < to
   pub all : Shares p e from to target priority
 
--- each place of t is as in t₀, or holds what the column l has in it
-pub record Towards (l t₀ t : List ℕ) : Type 0 where
+-- a table, t₀ before, partly filled with the column l: each place of t is as in t₀, or holds what l has in it
+pub record PartlyFilled (l t₀ t : List ℕ) : Type 0 where
   pub long : length t ≡ length t₀
   pub each : (i : ℕ) → (getD t i 0 ≡ getD t₀ i 0) ⊎ ((i < length l) × (getD t i 0 ≡ getD l i 0))
 
@@ -80,7 +43,7 @@ pub record HasRow (p : Policy) (targets priorities : List ℕ) (s a : ℕ) : Typ
   pub priority-is : getD priorities (s * p .letters + a) 0 ≡ rowPriority p s a
 
 -- row tables, once targets₀ and priorities₀: the rows of the edges from `from` up to `to` are written, and nothing but rows
-pub record Rowed (p : Policy) (targets₀ priorities₀ targets priorities : List ℕ) (from to : ℕ) : Type 0 where
-  pub targets-are : Towards (rowTargets p) targets₀ targets
-  pub priorities-are : Towards (rowPriorities p) priorities₀ priorities
+pub record RowsWritten (p : Policy) (targets₀ priorities₀ targets priorities : List ℕ) (from to : ℕ) : Type 0 where
+  pub targets-are : PartlyFilled (rowTargets p) targets₀ targets
+  pub priorities-are : PartlyFilled (rowPriorities p) priorities₀ priorities
   pub done : (s a : ℕ) → s < length (built p) → a < p .letters → from ≤ edgeOf p (stateAt p s .state) a → edgeOf p (stateAt p s .state) a < to → HasRow p targets priorities s a

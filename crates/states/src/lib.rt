@@ -5,16 +5,16 @@ ghost use mathlib.Core.Bool.{true};
 ghost use Prim.Native.Nat.{_+_, _-_, _≤_, _<_};
 ghost use lib.ListN.{length, set, replicate};
 ghost use lib.Seq.{sets};
-ghost use Rattle.tables.specs.Tables.{zeros, Stored};
+ghost use Rattle.tables.specs.Tables.{zeros, Column, Stored};
 ghost use Rattle.policy.specs.Policies.{legal};
 ghost use Rattle.graph.specs.Cycles.{contains};
-ghost use Rattle.forest.specs.Forest.{forest};
+ghost use Rattle.forest.specs.Forest.{forest, nodeMasks};
 ghost use Rattle.automaton.specs.Automaton.{isLeaf, built, start};
-ghost use Rattle.automaton.specs.Stages.{Ends, Starts};
-ghost use Rattle.states.specs.Placing.{MaskColumn, leavesBelow, leavesOver, Filled};
+ghost use Rattle.automaton.specs.Stages.{nodeEnds, stateStarts};
+ghost use Rattle.states.specs.StateTables.{leavesBelow, leavesOver, StatesFilled};
 
 // Whether an edge of m leaves state v. The edges that leave v stand side by side.
-pub fn contains_state(p: Policy, v: usize, m: u64) -> bool
+fn contains_state(p: Policy, v: usize, m: u64) -> bool
     requires { ⌜ (legal p ≡ true) × (v < p .states) ⌝ }
     ensures { λ r. ⌜ r ≡ contains p v m ⌝ }
 {
@@ -25,8 +25,9 @@ pub fn contains_state(p: Policy, v: usize, m: u64) -> bool
 
 // Whether node n is a leaf of state v: it contains v, and no child of it does. The first child of n is n + 1, and the next one stands where the
 // descendants of the one before end.
-pub fn is_leaf(p: Policy, masks: &[u64], ends: &[u16], v: usize, n: usize) -> bool
-    requires { ⌜ (legal p ≡ true) × MaskColumn p (now masks) × Ends p (now ends) × (v < p .states) × (n < length (forest p)) ⌝ }
+fn is_leaf(p: Policy, masks: &[u64], ends: &[u16], v: usize, n: usize) -> bool
+    requires nodes { ⌜ (legal p ≡ true) × (length (forest p) ≤ 65535) × Column (nodeMasks p) (now masks) × Column (nodeEnds p) (now ends) ⌝ }
+    requires place { ⌜ (v < p .states) × (n < length (forest p)) ⌝ }
     ensures { λ r. ⌜ r ≡ isLeaf (forest p) p v n ⌝ }
 {
     if !contains_state(p, v, masks[n]) {
@@ -74,7 +75,8 @@ fn fill_leaves(
     at: usize,
     leaves: &mut [u16],
 ) -> usize
-    requires { ⌜ (legal p ≡ true) × MaskColumn p (now masks) × Ends p (now ends) × (count ≡ length (forest p)) × (v < p .states) × (at ≤ 1048576) ⌝ }
+    requires nodes { ⌜ (legal p ≡ true) × (length (forest p) ≤ 65535) × Column (nodeMasks p) (now masks) × Column (nodeEnds p) (now ends) ⌝ }
+    requires place { ⌜ (count ≡ length (forest p)) × (v < p .states) × (at ≤ 1048576) ⌝ }
     ensures { λ r. ⌜ Stored (now (leaves .entry)) (now (leaves .exit)) at r (leavesBelow p v count) × (r ≤ at + 65535) ⌝ }
 {
     let mut next = at;
@@ -97,7 +99,8 @@ fn fill_over(
     at: usize,
     leaves: &mut [u16],
 ) -> usize
-    requires { ⌜ (legal p ≡ true) × MaskColumn p (now masks) × Ends p (now ends) × (count ≡ length (forest p)) × (v < p .states) × (at ≤ 1048576) ⌝ }
+    requires nodes { ⌜ (legal p ≡ true) × (length (forest p) ≤ 65535) × Column (nodeMasks p) (now masks) × Column (nodeEnds p) (now ends) ⌝ }
+    requires place { ⌜ (count ≡ length (forest p)) × (v < p .states) × (at ≤ 1048576) ⌝ }
     ensures { λ r. ⌜ Stored (now (leaves .entry)) (now (leaves .exit)) at r (leavesOver p v) × (r ≤ at + 65536) ⌝ }
 {
     let next = fill_leaves(p, masks, ends, count, v, at, leaves);
@@ -119,12 +122,13 @@ fn fill_sources(sources: &mut [u8], from: usize, to: usize, v: usize)
 }
 
 // Whether the built states fit, and how many there are.
-pub struct Placed {
+pub struct Counted {
     pub fits: bool,
     pub count: usize,
 }
 
-// The built states by policy state and then by leaf. Where those over each policy state begin is kept in `starts`; the last start is the end of all.
+// The built states by policy state and then by leaf, in tables that are cleared; where they do not fit, the tables are cleared again. Where those over each policy
+// state begin stands in `starts`; the last start is the end of all. Inner layer: masks and ends are those of a legal policy's forest.
 pub fn fill_states(
     p: Policy,
     masks: &[u64],
@@ -133,10 +137,10 @@ pub fn fill_states(
     sources: &mut [u8],
     leaves: &mut [u16],
     starts: &mut [usize; 17],
-) -> Placed
-    requires nodes { ⌜ (legal p ≡ true) × MaskColumn p (now masks) × Ends p (now ends) × (count ≡ length (forest p)) ⌝ }
-    requires tables { ⌜ (length (now sources) ≡ length (now leaves)) × (now sources ≡ zeros (now sources)) × (now leaves ≡ zeros (now leaves)) × (length (now starts) ≡ 17) ⌝ }
-    ensures { λ r. ⌜ Filled p (now (sources .entry)) (now (leaves .entry)) (now (sources .exit)) (now (leaves .exit)) (r .fits) (r .count) (now (starts .exit)) ⌝ }
+) -> Counted
+    requires nodes { ⌜ (legal p ≡ true) × (length (forest p) ≤ 65535) × Column (nodeMasks p) (now masks) × Column (nodeEnds p) (now ends) ⌝ }
+    requires tables { ⌜ (count ≡ length (forest p)) × (length (now sources) ≡ length (now leaves)) × (now sources ≡ zeros (now sources)) × (now leaves ≡ zeros (now leaves)) ⌝ }
+    ensures { λ r. ⌜ StatesFilled p (now (sources .entry)) (now (leaves .entry)) (now (starts .entry)) (r .fits) (r .count) (now (sources .exit)) (now (leaves .exit)) (now (starts .exit)) ⌝ }
 {
     let states = p.states as usize;
     starts[0] = 0;
@@ -147,15 +151,23 @@ pub fn fill_states(
         starts[v + 1] = next;
         at = next;
     }
-    Placed {
-        fits: (at <= sources.len()) & (at <= 65535),
+    if (at <= sources.len()) & (at <= 65535) {
+        return Counted {
+            fits: true,
+            count: at,
+        };
+    }
+    tables::clear8(sources);
+    tables::clear16(leaves);
+    Counted {
+        fits: false,
         count: at,
     }
 }
 
-// The start: the first state over the initial one.
+// The start: the first state over the initial one. Inner layer: the starts are those of a legal policy.
 pub fn start_of(p: Policy, starts: &[usize; 17]) -> u16
-    requires { ⌜ (legal p ≡ true) × Starts p (now starts) × (length (built p) ≤ 65535) ⌝ }
+    requires { ⌜ (legal p ≡ true) × Column (stateStarts p) (now starts) × (length (built p) ≤ 65535) ⌝ }
     ensures { λ r. ⌜ r ≡ start p ⌝ }
 {
     starts[p.initial as usize] as u16

@@ -1,3 +1,4 @@
 pub mod Clearing
 pub mod Tables
 pub mod Stores
+pub mod Columns

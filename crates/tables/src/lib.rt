@@ -1,5 +1,6 @@
-// Lent tables: every place of one set to 0, at the three widths that tables have.
+// Lent tables: every place of one set to 0, at the three widths that tables have; and an entry as a place.
 ghost use mathlib.Core.Path.{_≡_};
+ghost use Prim.Native.Nat.{_<_};
 ghost use Rattle.tables.specs.Tables.{zeros};
 
 pub fn clear64(t: &mut [u64])
@@ -24,4 +25,11 @@ pub fn clear8(t: &mut [u8])
     for i in 0..t.len() {
         t[i] = 0;
     }
+}
+
+// An entry that is a place of a table.
+pub fn wide(x: u16) -> usize
+    ensures { λ r. ⌜ (r ≡ x) × (r < 65536) ⌝ }
+{
+    x as usize
 }

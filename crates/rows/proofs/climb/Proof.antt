@@ -4,7 +4,7 @@ use native.Mathlib.Omega.{arith}
 use mathlib.Core.Path.{sym, _∙_}
 use borrow.Author.Needs.{needs}
 use Rattle.policy.specs.declared.Policy.{Policy}
-use Rattle.rows.proofs.RowLaws.{Called, Climbing, left, edge-small, walk-small, walk-start, walk-none, walk-in, walk-up, walk-less, walk-met}
+use Rattle.rows.proofs.Climbing.{Called, Climbing, left, edge-small, walk-small, walk-start, walk-none, walk-in, walk-up, walk-less, walk-met}
 use Rattle.rows.proofs.climb.Statement.{statement}
 use Rattle.rows.proofs.climb.Tie as tie
 

@@ -4,7 +4,7 @@ use Prim.Native.Nat.{ℕ, _*_, _/_, _<_, _^_}
 use lib.Bits.{bitAnd}
 use native.Mathlib.Omega.{arith}
 use Rattle.policy.proofs.Laws.{legal-counts}
-use Rattle.states.proofs.StateLaws.{contains-is, leaving-lt}
+use Rattle.states.proofs.LeafTests.{contains-is, leaving-lt}
 use borrow.Author.Needs.{needs}
 use Rattle.states.proofs.contains_state.Statement.{statement}
 use Rattle.states.proofs.contains_state.Tie as tie

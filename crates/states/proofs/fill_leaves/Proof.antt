@@ -5,8 +5,8 @@ use Prim.Native.Nat.{ℕ, _+_, _-_, _≤_}
 use native.Mathlib.Omega.{arith}
 use Rattle.tables.proofs.Stores.{stored-length}
 use Rattle.tables.specs.Tables.{Stored}
-use Rattle.states.specs.Placing.{leavesBelow}
-use Rattle.states.proofs.StateLaws.{leaves-none, leaves-turn}
+use Rattle.states.specs.StateTables.{leavesBelow}
+use Rattle.states.proofs.StatesBelow.{leaves-none, leaves-turn}
 use Rattle.states.proofs.fill_leaves.Statement.{statement}
 use Rattle.states.proofs.fill_leaves.Tie as tie
 
@@ -20,16 +20,16 @@ loop-holds : tie.Need-loop-holds Inv-loop μ-loop
 loop-holds c = let a = c .before .before .before .args in (omega arith, omega arith, leaves-none (a .p) (a .v) (a .leaves .now) (a .leaves .now) (a .at) (a .at) 0 refl refl refl)
 
 is-leaf-requires : tie.Need-is-leaf-requires Inv-loop μ-loop
-is-leaf-requires c κs = let s = c .before .before .before .before .before in (s .pre .0, s .pre .1, s .pre .2, s .pre .4, omega (arith, s .pre .3))
+is-leaf-requires c κs = let s = c .before .before .before .before .before in (s .pre .0, (s .pre .1 .1, omega (arith, s .pre .1 .0)))
 
 put-leaf-requires : tie.Need-put-leaf-requires Inv-loop μ-loop
-put-leaf-requires c κs = let s = c .before .before .before .before .before .before .before .before in omega (arith, s .pre .3, s .pre .1 .few)
+put-leaf-requires c κs = let s = c .before .before .before .before .before .before .before .before in omega (arith, s .pre .1 .0, s .pre .0 .1)
 
 add-next : tie.Need-add-next Inv-loop μ-loop
-add-next c = let s = c .before .before .before .before .before .before .before .before .before .before .before in omega (arith, s .pre .3, s .pre .1 .few, s .pre .5)
+add-next c = let s = c .before .before .before .before .before .before .before .before .before .before .before in omega (arith, s .pre .1 .0, s .pre .0 .1, s .pre .1 .2)
 
 add-n : tie.Need-add-n Inv-loop μ-loop
-add-n c = let s = c .before .before .before .before .before .before .before in omega (arith, s .pre .3, s .pre .1 .few)
+add-n c = let s = c .before .before .before .before .before .before .before in omega (arith, s .pre .1 .0, s .pre .0 .1)
 
 loop-less : tie.Need-loop-less Inv-loop μ-loop
 loop-less c = omega arith
@@ -50,7 +50,7 @@ returns c =
     let s = c .before .before .before .before .before in
     let l = c .before .loop in
     let e : l .n ≡ s .args .count = omega arith in
-    (subst (λ (k : ℕ). Stored (s .args .leaves .now) (l .leaves) (s .args .at) (l .next) (leavesBelow (s .args .p) (s .args .v) k)) e (l .inv .2), omega (arith, l .inv .1, s .pre .3, s .pre .1 .few))
+    (subst (λ (k : ℕ). Stored (s .args .leaves .now) (l .leaves) (s .args .at) (l .next) (leavesBelow (s .args .p) (s .args .v) k)) e (l .inv .2), omega (arith, l .inv .1, s .pre .1 .0, s .pre .0 .1))
 
 pub fill-leaves-spec : {M : Type 1} → statement M
 fill-leaves-spec =

@@ -1,6 +1,6 @@
 -- `states::fill_over` meets its contract. Assumes nothing.
 use native.Mathlib.Omega.{arith}
-use Rattle.states.proofs.StateLaws.{over-none, over-some}
+use Rattle.states.proofs.StatesBelow.{over-none, over-some}
 use borrow.Author.Needs.{needs}
 use Rattle.states.proofs.fill_over.Statement.{statement}
 use Rattle.states.proofs.fill_over.Tie as tie
@@ -21,7 +21,7 @@ returns : tie.Need-returns
 returns c =
     let s = c .before .before .before .before .before .before .before .before .before .before .before .before in
     let r = c .before .before .before .before .before .before .before .fill-leaves in
-    (over-none (s .args .p) (s .args .v) (s .args .leaves .now) _ (s .args .at) (r .result) (s .args .count) (s .pre .3) (r .ensures .0) (omega (arith, c .before .before .before .before .if1 .taken, r .ensures .0 .next-is)) (c .before .before .put-leaf .last .0) (c .before .before .put-leaf .ensures), omega arith)
+    (over-none (s .args .p) (s .args .v) (s .args .leaves .now) _ (s .args .at) (r .result) (s .args .count) (s .pre .1 .0) (r .ensures .0) (omega (arith, c .before .before .before .before .if1 .taken, r .ensures .0 .next-is)) (c .before .before .put-leaf .last .0) (c .before .before .put-leaf .ensures), omega arith)
 
 same-length-2 : tie.Need-same-length-2
 same-length-2 c = search needs
@@ -30,7 +30,7 @@ returns-2 : tie.Need-returns-2
 returns-2 c =
     let s = c .before .before .before .before .before .before .before .before in
     let r = c .before .before .before .fill-leaves in
-    (over-some (s .args .p) (s .args .v) (s .args .leaves .now) _ (s .args .at) (r .result) (s .args .count) (s .pre .3) (r .ensures .0) (λ e. omega (arith, e, c .if1 .left)), omega (arith, r .ensures .1))
+    (over-some (s .args .p) (s .args .v) (s .args .leaves .now) _ (s .args .at) (r .result) (s .args .count) (s .pre .1 .0) (r .ensures .0) (λ e. omega (arith, e, c .if1 .left)), omega (arith, r .ensures .1))
 
 pub fill-over-spec : {M : Type 1} → statement M
 fill-over-spec =

@@ -1,18 +1,27 @@
--- `states::fill_states` meets its contract. The invariant: the states over the policy states below v are written. Assumes nothing.
+-- `fill_states` meets its contract. The invariant: the states over the policy states below v are written. Assumes nothing.
 use Prim.Native.Nat.{_-_}
 use native.Mathlib.Omega.{arith}
+use mathlib.Core.Path.{_∙_}
 use Rattle.policy.proofs.Laws.{legal-counts}
-use Rattle.states.proofs.StateLaws.{Placing, placing-none, placing-more, placing-all}
-use borrow.Author.Needs.{needs}
 use Rattle.tables.proofs.Stores.{stored-length}
+use Rattle.states.proofs.StatesBelow.{WrittenBelow, written-none, written-more, filled-fit, filled-not}
+use borrow.Author.Needs.{needs}
 use Rattle.states.proofs.fill_states.Statement.{statement}
 use Rattle.states.proofs.fill_states.Tie as tie
 
 abbrev Inv-loop : tie.InvT-loop
-Inv-loop p masks ends count sources₀ leaves₀ starts₀ states at₀ v₀ sources leaves starts at v = Placing p sources₀ leaves₀ sources leaves starts v at
+Inv-loop p masks ends count sources₀ leaves₀ starts₀ states at₀ v₀ sources leaves starts at v = WrittenBelow p sources₀ leaves₀ starts₀ sources leaves starts v at
 
 abbrev μ-loop : tie.MeasureT-loop
 μ-loop p masks ends count sources₀ leaves₀ starts₀ states at₀ v₀ sources leaves starts at v = states - v
+
+-- ---- places
+abbrev start : tie.At-loop Inv-loop μ-loop → tie.Start Inv-loop μ-loop
+start l = l .before .before .before .before .before .before
+
+-- after both calls of a turn
+abbrev again : tie.After-slice-known4 Inv-loop μ-loop → tie.At-loop Inv-loop μ-loop
+again c = c .before .before .before .before .before .before .before .before .before
 
 cast-states : tie.Need-cast-states Inv-loop μ-loop
 cast-states c = search needs
@@ -21,52 +30,69 @@ element-write-starts : tie.Need-element-write-starts Inv-loop μ-loop
 element-write-starts c = search needs
 
 loop-holds : tie.Need-loop-holds Inv-loop μ-loop
-loop-holds c = let s = c .before .before .before .before .before in placing-none (s .args .p) (s .args .sources .now) (s .args .leaves .now) (s .args .starts .now) (s .pre .1 .3)
+loop-holds c = let s = c .before .before .before .before .before in written-none (s .args .p) (s .args .sources .now) (s .args .leaves .now) (s .args .starts .now)
 
 fill-over-requires : tie.Need-fill-over-requires Inv-loop μ-loop
 fill-over-requires c κs =
-    let s = c .before .before .before .before .before .before .before .before in
-    let l = c .before .before .loop in
-    (s .pre .0 .0, s .pre .0 .1, s .pre .0 .2, s .pre .0 .3, c .before .loop-test .taken, omega (arith, l .inv .few, legal-counts (s .args .p) (s .pre .0 .0) .states-few))
+    let l = c .before .before in
+    let s = start l in
+    (s .pre .0, (s .pre .1 .0, c .before .loop-test .taken, omega (arith, l .loop .inv .few, legal-counts (s .args .p) (s .pre .0 .0) .states-few)))
 
 fill-sources-requires : tie.Need-fill-sources-requires Inv-loop μ-loop
 fill-sources-requires c κs =
-    let s = c .before .before .before .before .before .before .before .before .before .before .before .before in
+    let s = start (c .before .before .before .before .before .before) in
     (omega (arith, c .before .before .before .fill-over .ensures .0 .next-is), omega (arith, legal-counts (s .args .p) (s .pre .0 .0) .states-few))
 
 add-starts : tie.Need-add-starts Inv-loop μ-loop
-add-starts c = let s = c .before .before .before .before .before .before .before .before .before .before .before .before .before .before .before in omega (arith, legal-counts (s .args .p) (s .pre .0 .0) .states-few)
+add-starts c = let s = start (again c) in omega (arith, legal-counts (s .args .p) (s .pre .0 .0) .states-few)
 
 mul-starts : tie.Need-mul-starts Inv-loop μ-loop
-mul-starts c = let s = c .before .before .before .before .before .before .before .before .before .before .before .before .before .before .before in omega (arith, legal-counts (s .args .p) (s .pre .0 .0) .states-few)
+mul-starts c = let s = start (again c) in omega (arith, legal-counts (s .args .p) (s .pre .0 .0) .states-few)
 
 element-write-starts-2 : tie.Need-element-write-starts-2 Inv-loop μ-loop
-element-write-starts-2 c = let s = c .before .before .before .before .before .before .before .before .before .before .before .before .before .before .before in omega (arith, legal-counts (s .args .p) (s .pre .0 .0) .states-few)
+element-write-starts-2 c = let s = start (again c) in omega (arith, legal-counts (s .args .p) (s .pre .0 .0) .states-few)
 
 add-v : tie.Need-add-v Inv-loop μ-loop
-add-v c = let s = c .before .before .before .before .before .before .before .before .before .before .before .before .before .before .before in omega (arith, legal-counts (s .args .p) (s .pre .0 .0) .states-few)
+add-v c = let s = start (again c) in omega (arith, legal-counts (s .args .p) (s .pre .0 .0) .states-few)
 
 loop-less : tie.Need-loop-less Inv-loop μ-loop
 loop-less c = omega arith
 
 loop-again : tie.Need-loop-again Inv-loop μ-loop
 loop-again c =
-    let l = c .before .before .before .before .before .before .before .before .before .loop in
-    let s = c .before .before .before .before .before .before .before .before .before .before .before .before .before .before .before in
+    let l = again c .loop in
     let o = c .before .before .before .before .before .before .fill-over in
-    placing-more (s .args .p) (s .args .sources .now) (s .args .leaves .now) (l .sources) (l .leaves) (l .starts) (l .v) (l .at) (l .inv) (c .before .before .before .before .before .before .before .before .loop-test .taken) (legal-counts (s .args .p) (s .pre .0 .0) .states-few) _ _ (o .result) (o .ensures .0) (o .ensures .1) (c .before .before .fill-sources .ensures)
+    written-more (start (again c) .args .p) _ _ _ (l .sources) (l .leaves) (l .starts) (l .v) (l .at) (l .inv) (c .before .before .before .before .before .before .before .before .loop-test .taken) _ _ (o .result) (o .ensures .0) (o .ensures .1) (c .before .before .fill-sources .ensures)
 
 same-length : tie.Need-same-length Inv-loop μ-loop
-same-length c = stored-length (c .before .loop .inv .sources-are)
+same-length c = stored-length (c .before .before .loop .inv .sources-are)
 
 same-length-2 : tie.Need-same-length-2 Inv-loop μ-loop
-same-length-2 c = stored-length (c .before .loop .inv .leaves-are)
+same-length-2 c = stored-length (c .before .before .loop .inv .leaves-are)
 
 returns : tie.Need-returns Inv-loop μ-loop
 returns c =
-    let l = c .before .loop in
-    let s = c .before .before .before .before .before .before .before in
-    placing-all (s .args .p) (s .args .sources .now) (s .args .leaves .now) (l .sources) (l .leaves) (l .starts) (l .v) (l .at) (l .inv) (c .loop-test .left) (s .pre .1 .0) (s .pre .1 .1) (s .pre .1 .2)
+    let l = c .before .before in
+    let s = start l in
+    filled-fit (s .args .p) (s .args .sources .now) (s .args .leaves .now) (s .args .starts .now) _ _ _ _ _ (l .loop .inv) (c .before .loop-test .left) (s .pre .1 .1) (s .pre .1 .2) (s .pre .1 .3) (c .if1 .taken)
+
+clear8-requires : tie.Need-clear8-requires Inv-loop μ-loop
+clear8-requires c κs = search needs
+
+clear16-requires : tie.Need-clear16-requires Inv-loop μ-loop
+clear16-requires c κs = search needs
+
+same-length-3 : tie.Need-same-length-3 Inv-loop μ-loop
+same-length-3 c = c .before .before .before .before .before .before .clear8 .kept .0 ∙ stored-length (c .before .before .before .before .before .before .before .before .before .before .loop .inv .sources-are)
+
+same-length-4 : tie.Need-same-length-4 Inv-loop μ-loop
+same-length-4 c = c .before .before .clear16 .kept .0 ∙ stored-length (c .before .before .before .before .before .before .before .before .before .before .loop .inv .leaves-are)
+
+returns-2 : tie.Need-returns-2 Inv-loop μ-loop
+returns-2 c =
+    let l = c .before .before .before .before .before .before .before .before .before .before in
+    let s = start l in
+    filled-not (s .args .p) (s .args .sources .now) (s .args .leaves .now) (s .args .starts .now) _ _ _ _ _ (l .loop .inv) (c .before .before .before .before .before .before .before .before .before .loop-test .left) (s .pre .1 .1) (c .before .before .before .before .before .before .before .before .if1 .left) (c .before .before .before .before .before .before .clear8 .ensures) (c .before .before .clear16 .ensures)
 
 pub fill-states-spec : {M : Type 1} → statement M
 fill-states-spec =
@@ -87,4 +113,9 @@ fill-states-spec =
     loop-again
     same-length
     same-length-2
-    returns)
+    returns
+    clear8-requires
+    clear16-requires
+    same-length-3
+    same-length-4
+    returns-2)

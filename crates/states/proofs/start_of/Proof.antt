@@ -4,12 +4,11 @@ use native.Mathlib.Omega.{arith}
 use lib.ListN.{getD}
 use Rattle.policy.proofs.Laws.{legal-counts}
 use Rattle.automaton.specs.Stages.{firstOver}
-use Rattle.states.proofs.StateLaws.{start-is, start-few}
+use Rattle.automaton.proofs.Columns.{start-at}
+use Rattle.states.proofs.StatesBelow.{start-is, start-few}
 use borrow.Author.Needs.{needs}
 use Rattle.states.proofs.start_of.Statement.{statement}
 use Rattle.states.proofs.start_of.Tie as tie
-use Rattle.states.proofs.start_of.Reads as reads
-use Rattle.states.proofs.start_of.Lts as lts
 
 cast-result : tie.Need-cast-result
 cast-result c = search needs
@@ -18,8 +17,8 @@ mul-result : tie.Need-mul-result
 mul-result c = search needs
 
 -- the initial state's place among the starts
-first-is : (c : lts.After-struct-known reads.Pre reads.Post) → getD (c .before .args .starts .now) (c .before .args .p .initial) 0 ≡ firstOver (c .before .args .p) (c .before .args .p .initial)
-first-is c = let s = c .before in s .pre .1 (s .args .p .initial) (omega (arith, legal-counts (s .args .p) (s .pre .0) .initial-lt))
+first-is : (c : tie.After-struct-known) → getD (c .before .args .starts .now) (c .before .args .p .initial) 0 ≡ firstOver (c .before .args .p) (c .before .args .p .initial)
+first-is c = let s = c .before in start-at (s .args .p) (s .args .p .initial) (omega (arith, legal-counts (s .args .p) (s .pre .0) .initial-lt)) (s .pre .1)
 
 element-copy-out-result : tie.Need-element-copy-out-result
 element-copy-out-result c = let s = c .before in omega (arith, legal-counts (s .args .p) (s .pre .0) .initial-lt, legal-counts (s .args .p) (s .pre .0) .states-few)
@@ -28,7 +27,7 @@ cast-result-2 : tie.Need-cast-result-2
 cast-result-2 c = let s = c .before .before in omega (arith, first-is (c .before), start-few (s .args .p) (s .args .p .initial) (s .pre .2))
 
 returns : tie.Need-returns
-returns c = let s = c .before .before in first-is (c .before) ∙ sym (start-is (s .args .p) (s .pre .0) (s .pre .2))
+returns c = let s = c .before .before in first-is (c .before) ∙ sym (start-is (s .args .p) (s .pre .0))
 
 pub start-of-spec : {M : Type 1} → statement M
 start-of-spec = tie.close (tie.spec cast-result mul-result element-copy-out-result cast-result-2 returns)

@@ -1,0 +1,104 @@
+-- What the stages after the nodes rest on: the tables that one hands to the next, and what they answer and leave. Assumes nothing.
+use Prim.Native.Nat.{ℕ, _+_, _*_, _≤_, min}
+use native.Mathlib.Omega.{arith}
+use native.Mathlib.Nat.{mul-comm, mul-le-mul-right}
+use mathlib.Core.Path.{_≡_, refl, sym, ap, ap₂, _∙_, subst}
+use mathlib.Core.Bool.{Bool, true, false}
+use mathlib.Core.List.{List}
+use lib.ListN.{length}
+use lib.Seq.{sets}
+use Rattle.lists.proofs.Bools.{le-true}
+use Rattle.tables.specs.Tables.{padded, zeros, Column}
+use Rattle.tables.proofs.Tables.{zeros-same, length-zeros}
+use Rattle.tables.proofs.Columns.{column-padded, column-sets}
+use Rattle.policy.specs.declared.Policy.{Policy}
+use Rattle.policy.specs.Policies.{legal}
+use Rattle.policy.proofs.Laws.{legal-counts}
+use Rattle.forest.specs.Forest.{forest}
+use Rattle.automaton.specs.Automaton.{built, start, places, rowTargets, rowPriorities, stateLeaves, builtFit}
+use Rattle.automaton.specs.Stages.{nodeEnds, stateStarts}
+use Rattle.automaton.proofs.Columns.{length-ends, length-leaves, length-starts}
+use Rattle.states.specs.StateTables.{StatesFilled}
+use Rattle.filling.specs.declared.Building.the-variants.{Whole, TooMany}
+use Rattle.filling.specs.declared.Building.{Building}
+use Rattle.filling.specs.Filling.{Sized, Clear, buildingOf, Builds}
+
+-- ---- the ends
+pub ends-column : (p : Policy) (ends₀ : List ℕ) {ends : List ℕ} {count : ℕ} → count ≡ length (forest p) → count ≤ length ends₀ → ends ≡ sets ends₀ 0 (nodeEnds p) → Column (nodeEnds p) ends
+ends-column p ends₀ e h is = subst (Column (nodeEnds p)) (sym is) (column-sets ends₀ (nodeEnds p) (omega (arith, length-ends p)))
+
+module _ {p : Policy} {s₀ l₀ t₀ k₀ : List ℕ} (z : Sized p s₀ l₀ t₀ k₀) where
+  long : {t : List ℕ} (t₀ : List ℕ) → t ≡ zeros t₀ → length t ≡ length t₀
+  long t₀ e = ap length e ∙ length-zeros t₀
+
+  still : {t : List ℕ} (t₀ : List ℕ) → t ≡ zeros t₀ → t ≡ zeros t
+  still {t} t₀ e = e ∙ zeros-same t₀ t (sym (long t₀ e))
+
+  -- ---- tables just cleared
+  module _ {s l t k : List ℕ} (es : s ≡ zeros s₀) (el : l ≡ zeros l₀) (et : t ≡ zeros t₀) (ek : k ≡ zeros k₀) where
+    pub sized-clear : Sized p s l t k × Clear s l t k
+    sized-clear = (
+      record {
+        leaves-long = long l₀ el ∙ z .leaves-long ∙ sym (long s₀ es);
+        targets-long = long t₀ et ∙ z .targets-long ∙ ap (λ (n : ℕ). p .letters * n) (sym (long s₀ es));
+        priorities-long = long k₀ ek ∙ z .priorities-long ∙ ap (λ (n : ℕ). p .letters * n) (sym (long s₀ es));
+      },
+      record { sources-are = still s₀ es; leaves-are = still l₀ el; targets-are = still t₀ et; priorities-are = still k₀ ek },
+    )
+
+    -- what follows goes by the lengths alone
+    pub builds-cleared : {r : Building} {s′ l′ t′ k′ : List ℕ} → Builds p s l t k r s′ l′ t′ k′ → Builds p s₀ l₀ t₀ k₀ r s′ l′ t′ k′
+    unfolding buildingOf builtFit places zeros
+    builds-cleared b = record {
+      answer-is = rw (long s₀ es) at (b .answer-is);
+      sources-are = rw (long s₀ es) at (b .sources-are);
+      leaves-are = rw (long s₀ es, long l₀ el) at (b .leaves-are);
+      targets-are = rw (long s₀ es, long t₀ et) at (b .targets-are);
+      priorities-are = rw (long s₀ es, long k₀ ek) at (b .priorities-are);
+    }
+
+  -- ---- the states written
+  module _ {starts₀ s l starts : List ℕ} {fits : Bool} {count : ℕ} (w : StatesFilled p s₀ l₀ starts₀ fits count s l starts) where
+    -- where they fit
+    module _ (f : fits ≡ true) where
+      fits-so : builtFit p s₀ ≡ true
+      fits-so = sym (w .fits-is) ∙ f
+
+      fit : length (built p) ≤ min (length s₀) 65535
+      unfolding builtFit places
+      fit = le-true (length (built p)) (min (length s₀) 65535) fits-so
+
+      pub built-few : length (built p) ≤ 65535
+      built-few = let h = fit in omega arith
+
+      pub leaves-column : Column (stateLeaves p) l
+      leaves-column =
+          let h = fit in
+          subst (Column (stateLeaves p)) (sym (rw fits-so at (w .leaves-are))) (column-padded (length l₀) (stateLeaves p) (omega (arith, length-leaves p, z .leaves-long)))
+
+      pub starts-column : legal p ≡ true → length starts₀ ≡ 17 → Column (stateStarts p) starts
+      starts-column ok e = subst (Column (stateStarts p)) (sym (w .starts-are)) (column-sets starts₀ (stateStarts p) (omega (arith, length-starts p, legal-counts p ok .states-few)))
+
+      pub rows-fit : (p .letters * length (built p) ≤ length t₀) × (p .letters * length (built p) ≤ length k₀)
+      rows-fit =
+          let g = fit in
+          let q : length (built p) ≤ length s₀ = omega arith in
+          let h = mul-le-mul-right (p .letters) q in
+          (omega (arith, h, mul-comm (p .letters) (length (built p)), mul-comm (p .letters) (length s₀), z .targets-long), omega (arith, h, mul-comm (p .letters) (length (built p)), mul-comm (p .letters) (length s₀), z .priorities-long))
+
+      pub built-whole : {t k : List ℕ} {at : ℕ} → t ≡ padded (length t₀) (rowTargets p) → k ≡ padded (length k₀) (rowPriorities p) → at ≡ start p → Builds p s₀ l₀ t₀ k₀ (Whole count at) s l t k
+      unfolding buildingOf
+      built-whole et ek ea = record {
+        answer-is = rw fits-so (ap₂ (λ (c a : ℕ). Whole c a) (w .count-is) ea);
+        sources-are = w .sources-are;
+        leaves-are = w .leaves-are;
+        targets-are = rw fits-so et;
+        priorities-are = rw fits-so ek;
+      }
+
+    -- where they do not
+    pub built-none : fits ≡ false → Clear s₀ l₀ t₀ k₀ → Builds p s₀ l₀ t₀ k₀ TooMany s l t₀ k₀
+    unfolding buildingOf
+    built-none f c =
+        let fits-not : builtFit p s₀ ≡ false = sym (w .fits-is) ∙ f in
+        record { answer-is = rw fits-not refl; sources-are = w .sources-are; leaves-are = w .leaves-are; targets-are = rw fits-not (c .targets-are); priorities-are = rw fits-not (c .priorities-are) }

@@ -1,0 +1,36 @@
+-- What filling in the automaton's tables asks of their lengths, and what it answers and leaves in the four tables of states and rows.
+use Prim.Native.Nat.{ℕ, _*_}
+use mathlib.Core.Path.{_≡_}
+use mathlib.Core.Bool.{cond}
+use mathlib.Core.List.{List}
+use lib.ListN.{length}
+use Rattle.tables.specs.Tables.{padded, zeros}
+use Rattle.policy.specs.declared.Policy.{Policy}
+use Rattle.automaton.specs.Automaton.{built, start, rowTargets, rowPriorities, stateSources, stateLeaves, builtFit}
+use Rattle.filling.specs.declared.Building.{Building}
+use Rattle.filling.specs.declared.Building.the-variants.{Whole, TooMany}
+
+-- state tables of one length, and row tables of letters times that
+pub record Sized (p : Policy) (sources leaves targets priorities : List ℕ) : Type 0 where
+  pub leaves-long : length leaves ≡ length sources
+  pub targets-long : length targets ≡ p .letters * length sources
+  pub priorities-long : length priorities ≡ p .letters * length sources
+
+-- 0 in every place
+pub record Clear (sources leaves targets priorities : List ℕ) : Type 0 where
+  pub sources-are : sources ≡ zeros sources
+  pub leaves-are : leaves ≡ zeros leaves
+  pub targets-are : targets ≡ zeros targets
+  pub priorities-are : priorities ≡ zeros priorities
+
+-- how many built states there are, and the start; or that they do not fit the state table
+unfoldable pub buildingOf : Policy → List ℕ → Building
+buildingOf p sources = cond (builtFit p sources) (Whole (length (built p)) (start p)) TooMany
+
+-- the answer, and the four tables at the end, from what they were: their columns where the states fit, and otherwise 0 in every place
+pub record Builds (p : Policy) (sources₀ leaves₀ targets₀ priorities₀ : List ℕ) (answer : Building) (sources leaves targets priorities : List ℕ) : Type 0 where
+  pub answer-is : answer ≡ buildingOf p sources₀
+  pub sources-are : sources ≡ cond (builtFit p sources₀) (padded (length sources₀) (stateSources p)) (zeros sources₀)
+  pub leaves-are : leaves ≡ cond (builtFit p sources₀) (padded (length leaves₀) (stateLeaves p)) (zeros leaves₀)
+  pub targets-are : targets ≡ cond (builtFit p sources₀) (padded (length targets₀) (rowTargets p)) (zeros targets₀)
+  pub priorities-are : priorities ≡ cond (builtFit p sources₀) (padded (length priorities₀) (rowPriorities p)) (zeros priorities₀)

@@ -1,0 +1,204 @@
+// The automaton's tables from the node tables: the ends of the nodes, the built states and their rows. Inner layer: the policy is legal, the node tables are its
+// forest's, and the tables have lengths that belong together. Beside a policy stand the targets of its edges, lent as `heads`.
+// Each stage reads and writes tables of the caller, so the functions have more than eight parameters.
+use policy::Policy;
+ghost use mathlib.Core.Path.{_≡_};
+ghost use mathlib.Core.Bool.{true};
+ghost use Prim.Native.Nat.{_≤_};
+ghost use lib.ListN.{length};
+ghost use Rattle.tables.specs.Tables.{zeros};
+ghost use Rattle.policy.specs.Policies.{legal};
+ghost use Rattle.forest.specs.Forest.{forest};
+ghost use Rattle.automaton.specs.Stages.{Nodes};
+ghost use Rattle.filling.specs.Filling.{Sized, Clear, Builds};
+
+// How many built states there are, and the start; or that they do not fit.
+pub enum Building {
+    Whole(usize, u16),
+    TooMany,
+}
+
+// 0 in every place.
+pub fn clear_built(
+    sources: &mut [u8],
+    leaves: &mut [u16],
+    targets: &mut [u16],
+    priorities: &mut [u8],
+)
+    ensures { λ _. ⌜ (now (sources .exit) ≡ zeros (now (sources .entry))) × (now (leaves .exit) ≡ zeros (now (leaves .entry))) × (now (targets .exit) ≡ zeros (now (targets .entry))) × (now (priorities .exit) ≡ zeros (now (priorities .entry))) ⌝ }
+{
+    tables::clear8(sources);
+    tables::clear16(leaves);
+    tables::clear16(targets);
+    tables::clear8(priorities);
+}
+
+// The states and the rows, in tables that are cleared, with a table for the nodes' ends that has a place for each node.
+fn fill_built(
+    p: Policy,
+    heads: &[u8; 64],
+    masks: &[u64],
+    parents: &[u16],
+    node_priorities: &[u8],
+    ends: &mut [u16],
+    count: usize,
+    sources: &mut [u8],
+    leaves: &mut [u16],
+    targets: &mut [u16],
+    priorities: &mut [u8],
+) -> Building
+    requires nodes { ⌜ (legal p ≡ true) × (now heads ≡ p .target) × Nodes p (now masks) (now parents) (now «node_priorities») × (count ≡ length (forest p)) ⌝ }
+    requires room { ⌜ Sized p (now sources) (now leaves) (now targets) (now priorities) × Clear (now sources) (now leaves) (now targets) (now priorities) × (count ≤ length (now ends)) ⌝ }
+    ensures { λ r. ⌜ Builds p (now (sources .entry)) (now (leaves .entry)) (now (targets .entry)) (now (priorities .entry)) r (now (sources .exit)) (now (leaves .exit)) (now (targets .exit)) (now (priorities .exit)) ⌝ }
+{
+    ends::fill_ends(p, parents, count, ends);
+    let mut starts = [0usize; 17];
+    let counted = states::fill_states(p, masks, ends, count, sources, leaves, &mut starts);
+    if !counted.fits {
+        return Building::TooMany;
+    }
+    rows::fill_rows(
+        p,
+        heads,
+        masks,
+        parents,
+        node_priorities,
+        ends,
+        leaves,
+        &starts,
+        targets,
+        priorities,
+    );
+    Building::Whole(counted.count, states::start_of(p, &starts))
+}
+
+// The same with the table for the nodes' ends that is lent, where it has a place for each node, and otherwise with a longer one. A call that calls itself keeps
+// the longest table out of its own frame, so that few nodes take little space.
+fn build_within(
+    p: Policy,
+    heads: &[u8; 64],
+    masks: &[u64],
+    parents: &[u16],
+    node_priorities: &[u8],
+    ends: &mut [u16],
+    count: usize,
+    sources: &mut [u8],
+    leaves: &mut [u16],
+    targets: &mut [u16],
+    priorities: &mut [u8],
+) -> Building
+    requires nodes { ⌜ (legal p ≡ true) × (now heads ≡ p .target) × Nodes p (now masks) (now parents) (now «node_priorities») × (count ≡ length (forest p)) ⌝ }
+    requires room { ⌜ Sized p (now sources) (now leaves) (now targets) (now priorities) × Clear (now sources) (now leaves) (now targets) (now priorities) ⌝ }
+    ensures { λ r. ⌜ Builds p (now (sources .entry)) (now (leaves .entry)) (now (targets .entry)) (now (priorities .entry)) r (now (sources .exit)) (now (leaves .exit)) (now (targets .exit)) (now (priorities .exit)) ⌝ }
+{
+    if count <= ends.len() {
+        return fill_built(
+            p,
+            heads,
+            masks,
+            parents,
+            node_priorities,
+            ends,
+            count,
+            sources,
+            leaves,
+            targets,
+            priorities,
+        );
+    }
+    if count <= 2048 {
+        let mut more = [0u16; 2048];
+        return build_within(
+            p,
+            heads,
+            masks,
+            parents,
+            node_priorities,
+            &mut more,
+            count,
+            sources,
+            leaves,
+            targets,
+            priorities,
+        );
+    }
+    build_large(
+        p,
+        heads,
+        masks,
+        parents,
+        node_priorities,
+        count,
+        sources,
+        leaves,
+        targets,
+        priorities,
+    )
+}
+
+// The same with a table for as many nodes as there can be.
+fn build_large(
+    p: Policy,
+    heads: &[u8; 64],
+    masks: &[u64],
+    parents: &[u16],
+    node_priorities: &[u8],
+    count: usize,
+    sources: &mut [u8],
+    leaves: &mut [u16],
+    targets: &mut [u16],
+    priorities: &mut [u8],
+) -> Building
+    requires nodes { ⌜ (legal p ≡ true) × (now heads ≡ p .target) × Nodes p (now masks) (now parents) (now «node_priorities») × (count ≡ length (forest p)) ⌝ }
+    requires room { ⌜ Sized p (now sources) (now leaves) (now targets) (now priorities) × Clear (now sources) (now leaves) (now targets) (now priorities) ⌝ }
+    ensures { λ r. ⌜ Builds p (now (sources .entry)) (now (leaves .entry)) (now (targets .entry)) (now (priorities .entry)) r (now (sources .exit)) (now (leaves .exit)) (now (targets .exit)) (now (priorities .exit)) ⌝ }
+{
+    let mut ends = [0u16; 65535];
+    build_within(
+        p,
+        heads,
+        masks,
+        parents,
+        node_priorities,
+        &mut ends,
+        count,
+        sources,
+        leaves,
+        targets,
+        priorities,
+    )
+}
+
+// The stages after the nodes. Where the built states do not fit, every place is 0. For few nodes a small table of ends serves, which is quicker to lay out.
+pub fn build(
+    p: Policy,
+    heads: &[u8; 64],
+    masks: &[u64],
+    parents: &[u16],
+    node_priorities: &[u8],
+    count: usize,
+    sources: &mut [u8],
+    leaves: &mut [u16],
+    targets: &mut [u16],
+    priorities: &mut [u8],
+) -> Building
+    requires nodes { ⌜ (legal p ≡ true) × (now heads ≡ p .target) × Nodes p (now masks) (now parents) (now «node_priorities») × (count ≡ length (forest p)) ⌝ }
+    requires room { ⌜ Sized p (now sources) (now leaves) (now targets) (now priorities) ⌝ }
+    ensures { λ r. ⌜ Builds p (now (sources .entry)) (now (leaves .entry)) (now (targets .entry)) (now (priorities .entry)) r (now (sources .exit)) (now (leaves .exit)) (now (targets .exit)) (now (priorities .exit)) ⌝ }
+{
+    clear_built(sources, leaves, targets, priorities);
+    let mut ends = [0u16; 64];
+    build_within(
+        p,
+        heads,
+        masks,
+        parents,
+        node_priorities,
+        &mut ends,
+        count,
+        sources,
+        leaves,
+        targets,
+        priorities,
+    )
+}

@@ -1,0 +1,73 @@
+-- `step_up` meets its contract. The invariant: what is sought lies from `from` up to `to`. Assumes nothing.
+use native.Mathlib.Omega.{arith}
+use Prim.Native.Nat.{_-_, _≤_}
+use Rattle.search.specs.LowerBound.{Narrowed}
+use Rattle.search.proofs.Narrowing.{narrowed-none, narrowed-up, narrowed-down}
+use borrow.Author.Needs.{needs}
+use Rattle.search.proofs.step_up.Statement.{statement}
+use Rattle.search.proofs.step_up.Tie as tie
+
+abbrev Inv-loop : tie.InvT-loop
+Inv-loop entries low high x from₀ to₀ step₀ from to step = (1 ≤ step) × Narrowed entries low high x from to
+
+abbrev μ-loop : tie.MeasureT-loop
+μ-loop entries low high x from₀ to₀ step₀ from to step = to - from
+
+loop-holds : tie.Need-loop-holds Inv-loop μ-loop
+loop-holds c = (omega arith, narrowed-none _ _ _ _ (c .before .pre .0))
+
+sub-loop : tie.Need-sub-loop Inv-loop μ-loop
+sub-loop c = search needs
+
+add-next : tie.Need-add-next Inv-loop μ-loop
+add-next c = search needs
+
+mul-wide : tie.Need-mul-wide Inv-loop μ-loop
+mul-wide c = search needs
+
+shared-slice-read-wide : tie.Need-shared-slice-read-wide Inv-loop μ-loop
+shared-slice-read-wide c = search needs
+
+wide-requires : tie.Need-wide-requires Inv-loop μ-loop
+wide-requires c κs = search needs
+
+add-from : tie.Need-add-from Inv-loop μ-loop
+add-from c = search needs
+
+add-step : tie.Need-add-step Inv-loop μ-loop
+add-step c = search needs
+
+loop-less : tie.Need-loop-less Inv-loop μ-loop
+loop-less c = search needs
+
+loop-again : tie.Need-loop-again Inv-loop μ-loop
+loop-again c = (omega (arith, c .before .before .before .before .loop .inv .0), narrowed-up _ _ _ _ _ _ _ (c .before .before .before .before .before .before .pre .2) (c .before .before .before .before .loop .inv .1) (omega arith) (omega arith) (omega arith))
+
+loop-less-2 : tie.Need-loop-less-2 Inv-loop μ-loop
+loop-less-2 c = search needs
+
+loop-again-2 : tie.Need-loop-again-2 Inv-loop μ-loop
+loop-again-2 c = (omega (arith, c .before .before .before .before .loop .inv .0), narrowed-down _ _ _ _ _ _ _ (c .before .before .before .before .before .before .pre .2) (c .before .before .before .before .loop .inv .1) (omega arith) (omega arith) (omega arith))
+
+returns : tie.Need-returns Inv-loop μ-loop
+returns c = c .before .loop .inv .1
+
+pub step-up-spec : {M : Type 1} → statement M
+step-up-spec =
+    tie.close
+    (tie.spec
+    Inv-loop
+    μ-loop
+    loop-holds
+    sub-loop
+    add-next
+    mul-wide
+    shared-slice-read-wide
+    wide-requires
+    add-from
+    add-step
+    loop-less
+    loop-again
+    loop-less-2
+    loop-again-2
+    returns)

@@ -1,0 +1,52 @@
+-- The laws of a table that begins with a list: a padded table does, and one into which the list was stored; and the places of a list made of others. Assumes nothing.
+use Prim.Native.Nat.{ℕ, zero, suc, _+_, _-_, _≤_, _<_}
+use native.Mathlib.Omega.{arith}
+use native.Mathlib.Decide.{decLt}
+use mathlib.Core.Path.{_≡_, refl, sym, ap, _∙_}
+use mathlib.Core.List.{List, [], _∷_, _++_, map}
+use lib.ListN.{length, getD, drop, length-map, List·getD-append}
+use lib.Seq.{sets, length-sets, sets-eq, getD-drop, getD-append-add, ext-getD}
+use Rattle.tables.specs.Tables.{padded, Column}
+use Rattle.tables.proofs.Tables.{length-padded, getD-padded}
+
+pub column-padded : (n : ℕ) (l : List ℕ) → length l ≤ n → Column l (padded n l)
+column-padded n l h = record { long = omega (arith, length-padded n l h); each = λ i q. getD-padded n l i q }
+
+-- ---- a list stored from the front
+module _ (t l : List ℕ) (h : length l ≤ length t) where
+  sets-is : sets t 0 l ≡ l ++ drop (length l) t
+  sets-is =
+      let e : 0 + length l ≡ length l = omega arith in
+      sets-eq l t 0 (omega arith) ∙ ap (λ (n : ℕ). l ++ drop n t) e
+
+  pub column-sets : Column l (sets t 0 l)
+  column-sets = record { long = omega (arith, length-sets t 0 l); each = λ i q. ap (λ (u : List ℕ). getD u i 0) sets-is ∙ List·getD-append l (drop (length l) t) 0 i q }
+
+  -- the places past it are as they were
+  pub sets-past : (i : ℕ) → length l ≤ i → getD (sets t 0 l) i 0 ≡ getD t i 0
+  sets-past i q =
+      let e : i ≡ length l + (i - length l) = omega arith in
+      ap (λ (j : ℕ). getD (sets t 0 l) j 0) e ∙ ap (λ (u : List ℕ). getD u (length l + (i - length l)) 0) sets-is
+      ∙ getD-append-add l (drop (length l) t) (i - length l) 0 ∙ getD-drop (length l) t (i - length l) 0 ∙ ap (λ (j : ℕ). getD t j 0) (sym e)
+
+  -- a table with these places is that table
+  pub sets-ext : (u : List ℕ) → Column l u → length u ≡ length t → ((i : ℕ) → length l ≤ i → getD u i 0 ≡ getD t i 0) → u ≡ sets t 0 l
+  sets-ext u c e past = ext-getD 0 u (sets t 0 l) (e ∙ sym (length-sets t 0 l)) (λ i q. go i (decLt i (length l)))
+    where
+      go : (i : ℕ) → Dec (i < length l) → getD u i 0 ≡ getD (sets t 0 l) i 0
+      go i (yes k) = c .each i k ∙ sym (column-sets .each i k)
+      go i (no k) = past i (omega arith) ∙ sym (sets-past i (omega arith))
+
+-- ---- a number of each member of a list
+module _ {A : Type 0} (f : A → ℕ) where
+  pub map-at : (l : List A) (d : A) (i : ℕ) → i < length l → getD (map f l) i 0 ≡ f (getD l i d)
+  map-at [] d i h = absurd (omega arith)
+  map-at (x ∷ l) d zero h = refl
+  map-at (x ∷ l) d (suc i) h = map-at l d i (omega arith)
+
+  module _ (l : List A) {t : List ℕ} (c : Column (map f l) t) where
+    pub column-long : length l ≤ length t
+    column-long = omega (arith, c .long, length-map l f)
+
+    pub column-at : (d : A) (i : ℕ) → i < length l → getD t i 0 ≡ f (getD l i d)
+    column-at d i h = c .each i (omega (arith, length-map l f)) ∙ map-at l d i h
