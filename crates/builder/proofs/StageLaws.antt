@@ -10,8 +10,8 @@ use Rattle.lists.proofs.Bools.{test, le-true}
 use Rattle.tables.specs.Tables.{padded, zeros, Column}
 use Rattle.tables.proofs.Columns.{column-padded}
 use Rattle.policy.specs.declared.Policy.{Policy}
-use Rattle.decomposition.specs.declared.nodes.Filled as node-filled
-use Rattle.decomposition.specs.declared.nodes.Filled.the-variants as node-variants
+use Rattle.decomposition.specs.declared.Filled as node-filled
+use Rattle.decomposition.specs.declared.Filled.the-variants as node-variants
 use Rattle.forest.specs.Forest.{forest, nodeMasks, nodeParents, nodePriorities}
 use Rattle.decomposition.specs.NodeTables.{NodeTables, nodeTables, nodesFit, fillingOf, filledOf}
 use Rattle.automaton.specs.Automaton.{built, start, places, builtFit}

@@ -1,5 +1,5 @@
 // Translating: the questions 7 to 10, then the nodes of the forest, the built states of the parity automaton and their rows, each stage into the caller's tables.
-use decomposition::nodes::Filled;
+use decomposition::Filled;
 use filling::Building;
 use policy::Policy;
 ghost use mathlib.Core.Path.{_≡_};
@@ -102,7 +102,7 @@ pub fn translate_legal(
     ) {
         return Translation::Refused(8);
     }
-    let Filled::Nodes(nodes) = decomposition::nodes::fill_nodes(
+    let Filled::Nodes(nodes) = decomposition::fill_nodes(
         p,
         &p.target,
         &p.colour,

@@ -1,23 +1,25 @@
--- The laws behind the listing of candidates: appending to a list, and the candidates state by state and colour set by colour set. Assumes nothing.
+-- The laws behind the listing of candidates: what is stored, and the candidates state by state and colour set by colour set. Assumes nothing.
 use Prim.Native.Nat.{ℕ, _+_, _*_, _-_, _^_, _≤_, _<_}
 use native.Mathlib.Omega.{arith}
 use native.Mathlib.Decide.{decLt}
 use native.Mathlib.Nat.{mul-le-mul-right, mul-comm, suc-mul}
 use native.Mathlib.Numerals.{add-one}
-use mathlib.Core.Path.{_≡_, refl, sym, ap, _∙_, subst}
+use mathlib.Core.Path.{_≡_, refl, sym, ap, ap₂, _∙_, subst}
 use mathlib.Core.Logic.{_⊎_, inl, inr, _≢_}
 use mathlib.Core.Bool.{Bool, true, false, not, cond, true≢false, false≢true}
-use mathlib.Core.List.{List, [], _∷_, _++_, map, append-nil, append-assoc, List·Memᴰ}
+use mathlib.Core.List.{List, [], _∷_, _++_, map, append-nil, List·Memᴰ}
 use lib.Bits.{bitOr, or-zero-r}
 use lib.Dec.{eqb}
-use lib.ListN.{length, take, getD, set, length-set, length-append}
+use lib.ListN.{length, take, getD, set}
 use lib.Pow.{pow-mono, pow-pos}
-use lib.Seq.{take-suc, take-suc-set}
+use lib.Seq.{take-suc}
 use Rattle.lists.specs.Lists.{filter, flat, below}
 use Rattle.lists.proofs.Bools.{≡eqb, neqb, bool-ext, same-or-not, differs-other, differs-same}
 use Rattle.lists.proofs.Lists.{flat-next, none-mem}
 use Rattle.lists.proofs.Filters.{filter-append, filter-all, filter-none, filter-same}
 use Rattle.lists.specs.Bools.{differs}
+use Rattle.tables.specs.Tables.{Stored}
+use Rattle.tables.proofs.Stores.{front-more, stored-none, stored-length, stored-join, stored-more}
 use Rattle.masks.specs.Masks.{has, inside}
 use Rattle.masks.proofs.Bits.{has-high, has-none, mask-ext, inside-all, inside-trans}
 use Rattle.policy.specs.declared.Policy.{Policy}
@@ -28,12 +30,12 @@ use Rattle.policy.proofs.ByColour.{edges-in-some, some-edges-in, table-edges-ar
 use Rattle.graph.specs.Through.{cycleThrough}
 use Rattle.graph.proofs.Through.{through-inside}
 use Rattle.candidates.specs.declared.Counts.{Counts}
-use Rattle.candidates.specs.Candidates.{lowestIs, largestAt, largestIn, candidatesOf, coloursAt, candidates, judged, rootCandidates}
-use Rattle.candidates.specs.Listed.{single, Appended, isOpen, lowestCycle, keptIn, largestTo, judgedOf, judgedTo, Found, Finding, Put, Listing, Listed}
+use Rattle.candidates.specs.Candidates.{lowestIs, largestAt, largestIn, candidatesOf, coloursAt, candidates, mostCandidates, judged, rootCandidates}
+use Rattle.candidates.specs.Listed.{single, isOpen, lowestCycle, keptIn, largestTo, judgedOf, judgedTo, Found, Finding, Put, Listing, Listed}
 use Rattle.candidates.proofs.Candidates.{lowest-some, largest-in-mem, of-mem, of-colours, of-few}
 use Rattle.candidates.proofs.Covered.{open-cycle, shut-cycle, covered-none, covered-next}
 
--- ---- appending
+-- ---- what is stored
 pub single-none : (x : ℕ) → x ≡ 0 → single x ≡ []
 unfolding single
 single-none x e = rw (≡eqb x 0 e)
@@ -42,35 +44,17 @@ pub single-one : (x : ℕ) → x ≢ 0 → single x ≡ x ∷ []
 unfolding single
 single-one x e = rw (neqb x 0 e)
 
-pub appended-none : (t : List ℕ) (n : ℕ) (xs : List ℕ) → xs ≡ [] → Appended t t n n xs
-appended-none t n xs e = record {
-  first-are = sym (append-nil (take n t)) ∙ ap (λ (l : List ℕ). take n t ++ l) (sym e);
-  next-is = omega (arith, ap length e);
-  long = refl;
-}
+pub stored-is : {t₀ t : List ℕ} {n r : ℕ} {xs : List ℕ} → Stored t₀ t n r xs → (ys : List ℕ) → ys ≡ xs → Stored t₀ t n r ys
+stored-is {t₀} {t} {n} {r} s ys e = subst (Stored t₀ t n r) (sym e) s
 
-pub appended-one : (t : List ℕ) (n x : ℕ) → n < length t → Appended t (set t n x) n (n + 1) (x ∷ [])
-appended-one t n x h = record {
-  first-are = ap (λ (r : ℕ). take r (set t n x)) (add-one n) ∙ take-suc-set t n x h;
-  next-is = omega arith;
-  long = length-set t n x;
-}
-
-pub appended-join : {t₀ t₁ t₂ : List ℕ} {n i j : ℕ} {xs ys : List ℕ} → Appended t₀ t₁ n i xs → Appended t₁ t₂ i j ys → (zs : List ℕ) → zs ≡ xs ++ ys → Appended t₀ t₂ n j zs
-appended-join {t₀} {t₁} {t₂} {n} {i} {j} {xs} {ys} a b zs e = record {
-  first-are = b .first-are ∙ ap (λ (l : List ℕ). l ++ ys) (a .first-are) ∙ append-assoc (take n t₀) xs ys ∙ ap (λ (l : List ℕ). take n t₀ ++ l) (sym e);
-  next-is = omega (arith, a .next-is, b .next-is, length-append xs ys, ap length e);
-  long = b .long ∙ a .long;
-}
-
-pub appended-is : {t₀ t : List ℕ} {n r : ℕ} {xs : List ℕ} → Appended t₀ t n r xs → (ys : List ℕ) → ys ≡ xs → Appended t₀ t n r ys
-appended-is {t₀} {t} {n} {r} {xs} a ys e = subst (Appended t₀ t n r) (sym e) a
+pub stored-nothing : (t : List ℕ) (n : ℕ) (xs : List ℕ) → xs ≡ [] → Stored t t n n xs
+stored-nothing t n xs e = stored-is (stored-none t n) xs e
 
 -- ---- by verdict
 pub put-none : (b : Bool) (xs a r : List ℕ) (n : Counts) → xs ≡ [] → Put b xs a a r r n n
 put-none b xs a r n e = record {
-  accepting-are = appended-none a (n .accepting) (cond b xs []) (go b);
-  rejecting-are = appended-none r (n .rejecting) (cond b [] xs) (stop b);
+  accepting-are = stored-nothing a (n .accepting) (cond b xs []) (go b);
+  rejecting-are = stored-nothing r (n .rejecting) (cond b [] xs) (stop b);
   roots-same = refl;
 }
   where
@@ -82,19 +66,19 @@ put-none b xs a r n e = record {
     stop true = refl
     stop false = e
 
-pub put-accepting : {b : Bool} {xs a₀ a : List ℕ} (k : Counts) {m : ℕ} → b ≡ true → Appended a₀ a (k .accepting) m xs → (r : List ℕ)
+pub put-accepting : {b : Bool} {xs a₀ a : List ℕ} (k : Counts) {m : ℕ} → b ≡ true → Stored a₀ a (k .accepting) m xs → (r : List ℕ)
     → Put b xs a₀ a r r k (record { accepting = m; rejecting = k .rejecting; roots = k .roots })
 put-accepting {b} {xs} {a₀} {a} k {m} e h r = record {
-  accepting-are = appended-is h (cond b xs []) (rw e refl);
-  rejecting-are = appended-none r (k .rejecting) (cond b [] xs) (rw e refl);
+  accepting-are = stored-is h (cond b xs []) (rw e refl);
+  rejecting-are = stored-nothing r (k .rejecting) (cond b [] xs) (rw e refl);
   roots-same = refl;
 }
 
-pub put-rejecting : {b : Bool} {xs r₀ r : List ℕ} (k : Counts) {m : ℕ} → b ≡ false → (a : List ℕ) → Appended r₀ r (k .rejecting) m xs
+pub put-rejecting : {b : Bool} {xs r₀ r : List ℕ} (k : Counts) {m : ℕ} → b ≡ false → (a : List ℕ) → Stored r₀ r (k .rejecting) m xs
     → Put b xs a a r₀ r k (record { accepting = k .accepting; rejecting = m; roots = k .roots })
 put-rejecting {b} {xs} {r₀} {r} k {m} e a h = record {
-  accepting-are = appended-none a (k .accepting) (cond b xs []) (rw e refl);
-  rejecting-are = appended-is h (cond b [] xs) (rw e refl);
+  accepting-are = stored-nothing a (k .accepting) (cond b xs []) (rw e refl);
+  rejecting-are = stored-is h (cond b [] xs) (rw e refl);
   roots-same = refl;
 }
 
@@ -127,19 +111,19 @@ kept-next by c l i h =
     ∙ filter-append (λ (x : ℕ). eqb (tableColours by x) c) (take i l) (getD l i 0 ∷ [])
 
 -- one turn: the member at place i, whose colours are d
-pub kept-in : {t₀ t u : List ℕ} {at next k : ℕ} (by : List ℕ) (c : ℕ) (l : List ℕ) (i : ℕ) {d : ℕ} → Appended t₀ t at next (keptIn by c (take i l)) → i < length l → next < length t
-    → d ≡ tableColours by (getD l i 0) → d ≡ c → u ≡ set t next (getD l i 0) → k ≡ next + 1 → Appended t₀ u at k (keptIn by c (take (i + 1) l))
+pub kept-in : {t₀ t u : List ℕ} {at next k : ℕ} (by : List ℕ) (c : ℕ) (l : List ℕ) (i : ℕ) {d : ℕ} → Stored t₀ t at next (keptIn by c (take i l)) → i < length l
+    → d ≡ tableColours by (getD l i 0) → d ≡ c → u ≡ set t next (getD l i 0) → k ≡ next + 1 → Stored t₀ u at k (keptIn by c (take (i + 1) l))
 unfolding keptIn
-kept-in {t₀} {t} {u} {at} {next} {k} by c l i {d} a h room e q eu ek =
-    rw (eu, ek) (appended-join a (appended-one t next (getD l i 0) room) (keptIn by c (take (i + 1) l)) is)
+kept-in {t₀} {t} {u} {at} {next} {k} by c l i {d} a h e q eu ek =
+    rw (eu, ek) (stored-is (stored-more a (getD l i 0)) (keptIn by c (take (i + 1) l)) is)
   where
     is : keptIn by c (take (i + 1) l) ≡ keptIn by c (take i l) ++ (getD l i 0 ∷ [])
     is = kept-next by c l i h ∙ ap (λ (b : Bool). keptIn by c (take i l) ++ cond b (getD l i 0 ∷ []) []) (≡eqb (tableColours by (getD l i 0)) c (sym e ∙ q))
 
-pub kept-out : {t₀ t u : List ℕ} {at next k : ℕ} (by : List ℕ) (c : ℕ) (l : List ℕ) (i : ℕ) {d : ℕ} → Appended t₀ t at next (keptIn by c (take i l)) → i < length l
-    → d ≡ tableColours by (getD l i 0) → d ≢ c → u ≡ t → k ≡ next → Appended t₀ u at k (keptIn by c (take (i + 1) l))
+pub kept-out : {t₀ t u : List ℕ} {at next k : ℕ} (by : List ℕ) (c : ℕ) (l : List ℕ) (i : ℕ) {d : ℕ} → Stored t₀ t at next (keptIn by c (take i l)) → i < length l
+    → d ≡ tableColours by (getD l i 0) → d ≢ c → u ≡ t → k ≡ next → Stored t₀ u at k (keptIn by c (take (i + 1) l))
 unfolding keptIn
-kept-out {t₀} {t} {u} {at} {next} {k} by c l i {d} a h e q eu ek = rw (eu, ek) (appended-is a (keptIn by c (take (i + 1) l)) is)
+kept-out {t₀} {t} {u} {at} {next} {k} by c l i {d} a h e q eu ek = rw (eu, ek) (stored-is a (keptIn by c (take (i + 1) l)) is)
   where
     is : keptIn by c (take (i + 1) l) ≡ keptIn by c (take i l)
     is =
@@ -168,17 +152,17 @@ module _ (p : Policy) where
 
   module _ (lawful : legal p ≡ true) (m : ℕ) where
     pub finding-none : (t : List ℕ) → Finding p m t t 0 0 0
-    finding-none t = record { at-most = omega arith; seen-is = sym (covered-none p lawful m); found = appended-none t 0 (largestTo p m 0) (to-none m) }
+    finding-none t = record { at-most = omega arith; seen-is = sym (covered-none p lawful m); found = stored-nothing t 0 (largestTo p m 0) (to-none m) }
 
     -- a state that is open: the largest cycle through it
     pub finding-open : {t₀ t t₁ : List ℕ} {seen n v : ℕ} → Finding p m t₀ t seen n v → v < p .states → isOpen p m seen v ≡ true
-        → (x s k : ℕ) → x ≡ cycleThrough p m v → s ≡ bitOr seen x → Appended t t₁ n k (single x) → Finding p m t₀ t₁ s k (v + 1)
+        → (x s k : ℕ) → x ≡ cycleThrough p m v → s ≡ bitOr seen x → Stored t t₁ n k (single x) → Finding p m t₀ t₁ s k (v + 1)
     finding-open {t₀} {t} {t₁} {seen} {n} {v} f l o x s k ex es a =
         let e = ex ∙ open-cycle p lawful m v l seen (f .seen-is) o in
         record {
           at-most = omega (arith, f .at-most, a .next-is, single-few x);
           seen-is = covered-next p lawful m v seen x s (f .seen-is) e es;
-          found = appended-join (f .found) a (largestTo p m (v + 1)) (to-next m v x e);
+          found = stored-is (stored-join (f .found) a) (largestTo p m (v + 1)) (to-next m v x e);
         }
 
     -- one that is not: nothing
@@ -188,14 +172,14 @@ module _ (p : Policy) where
         record {
           at-most = omega (arith, f .at-most);
           seen-is = covered-next p lawful m v seen 0 seen (f .seen-is) e (sym (or-zero-r seen));
-          found = appended-is (f .found) (largestTo p m (v + 1)) (to-next m v 0 e ∙ ap (λ (l : List ℕ). largestTo p m v ++ l) (single-none 0 refl) ∙ append-nil (largestTo p m v));
+          found = stored-is (f .found) (largestTo p m (v + 1)) (to-next m v 0 e ∙ ap (λ (l : List ℕ). largestTo p m v ++ l) (single-none 0 refl) ∙ append-nil (largestTo p m v));
         }
 
     pub finding-is : {t₀ t u : List ℕ} {seen n v s k : ℕ} → Finding p m t₀ t seen n v → u ≡ t → s ≡ seen → k ≡ n → Finding p m t₀ u s k v
     finding-is {t₀} {t} {u} {seen} {n} {v} {s} {k} f eu es ek = rw (eu, es, ek) f
 
-    pub finding-all : {t₀ t : List ℕ} {seen n v : ℕ} → Finding p m t₀ t seen n v → v ≡ p .states → length t₀ ≡ 16 → Found p m t n
-    finding-all {t₀} {t} {seen} {n} {v} f e l = record { cycles-are = f .found .first-are ∙ to-all m v e; few = omega (arith, f .at-most); long = f .found .long ∙ l }
+    pub finding-all : {t₀ t : List ℕ} {seen n v : ℕ} → Finding p m t₀ t seen n v → v ≡ p .states → length t₀ ≡ 16 → Found p m t₀ t n
+    finding-all {t₀} {t} {seen} {n} {v} f e l = record { cycles-are = stored-is (f .found) (largestIn p m) (sym (to-all m v e)); few = omega (arith, f .at-most); long = stored-length (f .found) ∙ l }
 
   -- ---- the candidates of a colour set
   of-inside : (c x : ℕ) → List·Memᴰ x (candidatesOf p c) → inside x (full p) ≡ true
@@ -275,18 +259,13 @@ module _ (p : Policy) where
   sets-few h n e = omega (arith, pow-mono (legal-counts p h .colours-few))
 
   -- room for the candidates: at most one for each set of colours and each state
-  pub room-left : (i n k l : ℕ) → k ≡ 2 ^ p .colours → i < k → n ≤ i * p .states → p .states * 2 ^ p .colours ≤ l → n + p .states ≤ l
+  pub room-left : (i n k l : ℕ) → k ≡ 2 ^ p .colours → i < k → n ≤ i * p .states → mostCandidates p ≤ l → n + p .states ≤ l
+  unfolding mostCandidates
   room-left i n k l e lt h r =
       omega (arith, mul-le-mul-right (p .states) lt, suc-mul i (p .states), mul-comm (p .states) k, subst (λ (x : ℕ). p .states * x ≤ l) (sym e) r)
 
   pub room-next : (i n m b : ℕ) → n ≤ i * p .states → m ≡ n + b → b ≤ p .states → m ≤ (i + 1) * p .states
   room-next i n m b h e l = rw (add-one i) (omega (arith, suc-mul i (p .states)))
-
-  pub room-all : (i n : ℕ) → i ≡ 2 ^ p .colours → n ≤ i * p .states → n ≤ p .states * 2 ^ p .colours
-  room-all i n e h = subst (λ (x : ℕ). n ≤ x) (mul-comm i (p .states) ∙ ap (λ (x : ℕ). p .states * x) e) h
-
-  pub room-few : legal p ≡ true → p .states * 2 ^ p .colours ≤ 4096
-  room-few h = omega (arith, mul-le-mul-right (2 ^ p .colours) (legal-counts p h .states-few), pow-mono (legal-counts p h .colours-few))
 
   pub judged-none : (b : Bool) → judgedTo p b 0 ≡ []
   unfolding judgedTo
@@ -306,8 +285,8 @@ module _ (p : Policy) where
   -- ---- listing, colour set by colour set
   pub listing-none : (a r : List ℕ) (k : ℕ) → Listing p 0 a a r r (record { accepting = 0; rejecting = 0; roots = k })
   listing-none a r k = record {
-    accepting-are = appended-none a 0 (judgedTo p true 0) (judged-none true);
-    rejecting-are = appended-none r 0 (judgedTo p false 0) (judged-none false);
+    accepting-are = stored-nothing a 0 (judgedTo p true 0) (judged-none true);
+    rejecting-are = stored-nothing r 0 (judgedTo p false 0) (judged-none false);
     accepting-few = omega arith;
     rejecting-few = omega arith;
   }
@@ -316,8 +295,8 @@ module _ (p : Policy) where
       → Put (inFamily p (sets - 1 - i)) (candidatesOf p (sets - 1 - i)) a a₁ r r₁ k n → Listing p (i + 1) a₀ a₁ r₀ r₁ n
   unfolding judgedOf
   listing-next {i} {a₀} {a} {a₁} {r₀} {r} {r₁} {k} {n} l sets e q = record {
-    accepting-are = appended-join (l .accepting-are) (q .accepting-are) (judgedTo p true (i + 1)) (judged-next true i sets e ∙ ap (λ (x : List ℕ). judgedTo p true i ++ x) (turned (inFamily p c)));
-    rejecting-are = appended-join (l .rejecting-are) (q .rejecting-are) (judgedTo p false (i + 1)) (judged-next false i sets e);
+    accepting-are = stored-is (stored-join (l .accepting-are) (q .accepting-are)) (judgedTo p true (i + 1)) (judged-next true i sets e ∙ ap (λ (x : List ℕ). judgedTo p true i ++ x) (turned (inFamily p c)));
+    rejecting-are = stored-is (stored-join (l .rejecting-are) (q .rejecting-are)) (judgedTo p false (i + 1)) (judged-next false i sets e);
     accepting-few = room-next i (k .accepting) (n .accepting) _ (l .accepting-few) (q .accepting-are .next-is) (some-few (inFamily p c));
     rejecting-few = room-next i (k .rejecting) (n .rejecting) _ (l .rejecting-few) (q .rejecting-are .next-is) (none-few (inFamily p c));
   }
@@ -337,22 +316,23 @@ module _ (p : Policy) where
       none-few true = omega arith
       none-few false = of-few p c
 
-  pub listing-all : {i : ℕ} {a₀ a r₀ r : List ℕ} {n : Counts} → Listing p i a₀ a r₀ r n → i ≡ 2 ^ p .colours → Listed p a₀ a r₀ r n
-  listing-all {i} {a₀} {a} {r₀} {r} {n} l e = record {
-    accepting-are = l .accepting-are .first-are ∙ judged-all true i e;
-    rejecting-are = l .rejecting-are .first-are ∙ judged-all false i e;
-    accepting-few = room-all i (n .accepting) e (l .accepting-few);
-    rejecting-few = room-all i (n .rejecting) e (l .rejecting-few);
-    accepting-long = l .accepting-are .long;
-    rejecting-long = l .rejecting-are .long;
+  pub listing-all : {i : ℕ} {a₀ a r₀ r s₀ s : List ℕ} {n : Counts} → Listing p i a₀ a r₀ r n → i ≡ 2 ^ p .colours → {m j : ℕ} → Found p m s₀ s j → m ≡ full p → n .roots ≡ j → Listed p a₀ a r₀ r s₀ s n
+  unfolding rootCandidates
+  listing-all {i} {a₀} {a} {r₀} {r} {s₀} {s} {n} l e {m} {j} f q h = record {
+    accepting-are = stored-is (l .accepting-are) (judged p true) (sym (judged-all true i e));
+    rejecting-are = stored-is (l .rejecting-are) (judged p false) (sym (judged-all false i e));
+    roots-are = stored-is (subst (λ (j : ℕ). Stored s₀ s 0 j (largestIn p m)) (sym h) (f .cycles-are)) (largestIn p (full p)) (ap (largestIn p) (sym q));
   }
 
-  pub found-is : {m k n j : ℕ} {t : List ℕ} → Found p m t n → m ≡ k → j ≡ n → Found p k t j
-  found-is {m} {k} {n} {j} {t} f e q = rw (← e, q) f
+  -- the cycles found, as they are read
+  pub found-first : legal p ≡ true → {m n : ℕ} {t₀ t : List ℕ} → Found p m t₀ t n → take n t ≡ largestIn p m
+  found-first lawful {m} {n} {t₀} {t} f =
+      let e : n ≡ 0 + n = omega arith in
+      ap₂ (λ (i : ℕ) (l : List ℕ). take i l) e (f .cycles-are .now-is)
+      ∙ front-more t₀ (largestIn p m) 0 n (omega (arith, f .cycles-are .next-is)) (omega (arith, f .few, f .long, stored-length (f .cycles-are), legal-counts p lawful .states-few))
 
-  pub found-roots : {n : ℕ} {t : List ℕ} → Found p (full p) t n → take n t ≡ rootCandidates p
-  unfolding rootCandidates
-  found-roots f = f .cycles-are
+  pub found-roots : legal p ≡ true → {m n j : ℕ} {t₀ t : List ℕ} → Found p m t₀ t n → m ≡ full p → j ≡ n → take j t ≡ largestIn p (full p)
+  found-roots lawful {m} {n} {j} {t₀} {t} f e q = ap (λ (i : ℕ). take i t) q ∙ found-first lawful f ∙ ap (largestIn p) e
 
   pub full-is : (n m : ℕ) → n ≡ edges p → m ≡ 2 ^ n - 1 → m ≡ full p
   unfolding full

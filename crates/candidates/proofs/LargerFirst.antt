@@ -1,6 +1,6 @@
 -- The candidates stand larger first: a candidate that lies properly inside another has fewer colours, so its colours are the lesser mask, and masks of
 -- colours fall along the list. Assumes nothing.
-use Prim.Native.Nat.{ℕ, zero, suc, _-_, _^_, _≤_, _<_}
+use Prim.Native.Nat.{ℕ, zero, suc, _^_, _≤_, _<_}
 use native.Mathlib.Omega.{arith}
 use native.Mathlib.Decide.{ℕ-discrete}
 use mathlib.Core.Path.{_≡_, refl, sym, subst}

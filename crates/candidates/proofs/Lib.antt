@@ -1,4 +1,5 @@
 pub mod Distinct
+pub mod Few
 pub mod Full
 pub mod Candidates
 pub mod LargerFirst

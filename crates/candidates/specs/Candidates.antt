@@ -1,5 +1,5 @@
 -- Where nodes are looked for: one list of cycles for the whole policy, by colour sets, holds every node of the forest.
-use Prim.Native.Nat.{ℕ, _-_, _^_}
+use Prim.Native.Nat.{ℕ, _-_, _*_, _^_}
 use mathlib.Core.Bool.{Bool, not, _&&_, cond}
 use mathlib.Core.List.{List, [], _∷_, map}
 use lib.Dec.{eqb}
@@ -35,6 +35,10 @@ module _ (p : Policy) where
   -- for every set of colours, by falling mask, and every state
   unfoldable pub candidates : List ℕ
   candidates = flat (map (λ i. candidatesOf (coloursAt i)) (below (2 ^ p .colours)))
+
+  -- how many there can be: one for each set of colours and each state
+  unfoldable pub mostCandidates : ℕ
+  mostCandidates = p .states * 2 ^ p .colours
 
   -- those with a given verdict
   unfoldable pub judged : Bool → List ℕ

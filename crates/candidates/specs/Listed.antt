@@ -1,13 +1,14 @@
--- Candidates as they stand in the lists that a caller lends: what appending to a list does, what is appended, and what the lists hold in the end.
+-- Candidates as they stand in the lists that a caller lends: what is stored, and what the lists hold in the end.
 use Prim.Native.Nat.{ℕ, zero, suc, _+_, _-_, _*_, _^_, _≤_}
 use mathlib.Core.Path.{_≡_}
 use mathlib.Core.Bool.{Bool, true, false, not, _&&_, cond}
-use mathlib.Core.List.{List, [], _∷_, _++_, map}
+use mathlib.Core.List.{List, [], _∷_, map}
 use lib.Bits.{bitOr}
 use lib.Dec.{eqb}
 use lib.ListN.{length, take}
 use Rattle.lists.specs.Lists.{filter, flat, below}
 use Rattle.lists.specs.Bools.{differs}
+use Rattle.tables.specs.Tables.{Stored}
 use Rattle.masks.specs.Masks.{minus}
 use Rattle.policy.specs.declared.Policy.{Policy}
 use Rattle.policy.specs.Policies.{coloursOf, inFamily, accepting, legal, full}
@@ -15,17 +16,11 @@ use Rattle.policy.specs.ByColour.{byColour, tableColours}
 use Rattle.graph.specs.Cycles.{contains}
 use Rattle.graph.specs.Through.{cycleThrough}
 use Rattle.candidates.specs.declared.Counts.{Counts}
-use Rattle.candidates.specs.Candidates.{lowestIs, largestAt, largestIn, candidatesOf, coloursAt, judged}
+use Rattle.candidates.specs.Candidates.{lowestIs, largestAt, largestIn, candidatesOf, coloursAt, judged, rootCandidates}
 
 -- x alone; nothing where x is 0
 unfoldable pub single : ℕ → List ℕ
 single x = cond (eqb x 0) [] (x ∷ [])
-
--- from t₀ to t: xs stands after the first n members, which stay, and ends before place r
-pub record Appended (t₀ t : List ℕ) (n r : ℕ) (xs : List ℕ) : Type 0 where
-  pub first-are : take r t ≡ take n t₀ ++ xs
-  pub next-is : r ≡ n + length xs
-  pub long : length t ≡ length t₀
 
 -- of l letters: the edges that leave state v
 unfoldable pub ownEdges : ℕ → ℕ → ℕ
@@ -64,9 +59,9 @@ module _ (p : Policy) where
   judgedTo b n = filter (λ m. not (differs b (accepting p m))) (flat (map (λ i. candidatesOf p (coloursAt p i)) (below n)))
 
 -- ---- what is listed
--- a list of 16 places begins with the n largest cycles inside m
-pub record Found (p : Policy) (m : ℕ) (t : List ℕ) (n : ℕ) : Type 0 where
-  pub cycles-are : take n t ≡ largestIn p m
+-- a list of 16 places, t₀ before, begins with the n largest cycles inside m
+pub record Found (p : Policy) (m : ℕ) (t₀ t : List ℕ) (n : ℕ) : Type 0 where
+  pub cycles-are : Stored t₀ t 0 n (largestIn p m)
   pub few : n ≤ p .states
   pub long : length t ≡ 16
 
@@ -74,7 +69,7 @@ pub record Found (p : Policy) (m : ℕ) (t : List ℕ) (n : ℕ) : Type 0 where
 pub record Finding (p : Policy) (m : ℕ) (t₀ t : List ℕ) (seen n v : ℕ) : Type 0 where
   pub at-most : n ≤ v
   pub seen-is : seen ≡ covered p m v
-  pub found : Appended t₀ t 0 n (largestTo p m v)
+  pub found : Stored t₀ t 0 n (largestTo p m v)
 
 -- what listing the candidates of a colour set looks at: the targets of the edges, the edges of each colour, the family, the colours on edges, and the n roots
 pub record Ready (p : Policy) (heads by : List ℕ) (family : List Bool) (used : ℕ) (roots : List ℕ) (n : ℕ) : Type 0 where
@@ -83,26 +78,31 @@ pub record Ready (p : Policy) (heads by : List ℕ) (family : List Bool) (used :
   pub by-is : by ≡ byColour p
   pub family-is : family ≡ p .family
   pub used-are : used ≡ coloursOf p (full p)
-  pub rooted : Found p (full p) roots n
+  pub roots-are : take n roots ≡ largestIn p (full p)
+  pub roots-few : n ≤ p .states
+  pub roots-long : length roots ≡ 16
 
--- two lists, a₀ and r₀ before: xs is appended to the first if the verdict is b, else to the second; the counts were k and are n
+-- two lists, a₀ and r₀ before: xs is stored after the first if the verdict is b, else after the second; the counts were k and are n
 pub record Put (b : Bool) (xs a₀ a r₀ r : List ℕ) (k n : Counts) : Type 0 where
-  pub accepting-are : Appended a₀ a (k .accepting) (n .accepting) (cond b xs [])
-  pub rejecting-are : Appended r₀ r (k .rejecting) (n .rejecting) (cond b [] xs)
+  pub accepting-are : Stored a₀ a (k .accepting) (n .accepting) (cond b xs [])
+  pub rejecting-are : Stored r₀ r (k .rejecting) (n .rejecting) (cond b [] xs)
   pub roots-same : n .roots ≡ k .roots
 
 -- two lists, a₀ and r₀ before, begin with the candidates of the sets of colours before position i, by their verdicts; n says how many
 pub record Listing (p : Policy) (i : ℕ) (a₀ a r₀ r : List ℕ) (n : Counts) : Type 0 where
-  pub accepting-are : Appended a₀ a 0 (n .accepting) (judgedTo p true i)
-  pub rejecting-are : Appended r₀ r 0 (n .rejecting) (judgedTo p false i)
+  pub accepting-are : Stored a₀ a 0 (n .accepting) (judgedTo p true i)
+  pub rejecting-are : Stored r₀ r 0 (n .rejecting) (judgedTo p false i)
   pub accepting-few : n .accepting ≤ i * p .states
   pub rejecting-few : n .rejecting ≤ i * p .states
 
--- the lists begin with all candidates
-pub record Listed (p : Policy) (a₀ a r₀ r : List ℕ) (n : Counts) : Type 0 where
-  pub accepting-are : take (n .accepting) a ≡ judged p true
-  pub rejecting-are : take (n .rejecting) r ≡ judged p false
-  pub accepting-few : n .accepting ≤ p .states * 2 ^ p .colours
-  pub rejecting-few : n .rejecting ≤ p .states * 2 ^ p .colours
-  pub accepting-long : length a ≡ length a₀
-  pub rejecting-long : length r ≡ length r₀
+-- the lists, a₀, r₀ and s₀ before, begin with all candidates, by their verdicts, and with those for a root; n says how many, and the other places stay
+pub record Listed (p : Policy) (a₀ a r₀ r s₀ s : List ℕ) (n : Counts) : Type 0 where
+  pub accepting-are : Stored a₀ a 0 (n .accepting) (judged p true)
+  pub rejecting-are : Stored r₀ r 0 (n .rejecting) (judged p false)
+  pub roots-are : Stored s₀ s 0 (n .roots) (rootCandidates p)
+
+-- what a search for nodes goes by: the candidates of a legal policy, by their verdicts
+pub record Candidates (p : Policy) (accepting rejecting : List ℕ) : Type 0 where
+  pub lawful : legal p ≡ true
+  pub accepting-are : accepting ≡ judged p true
+  pub rejecting-are : rejecting ≡ judged p false

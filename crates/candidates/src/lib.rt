@@ -5,8 +5,9 @@ ghost use Prim.Native.Nat.{_+_, _*_, _^_, _<_, _≤_};
 ghost use lib.ListN.{length, take};
 ghost use Rattle.policy.specs.Policies.{inFamily, legal};
 ghost use Rattle.policy.specs.ByColour.{byColour};
-ghost use Rattle.candidates.specs.Candidates.{candidatesOf, rootCandidates};
-ghost use Rattle.candidates.specs.Listed.{single, Appended, ownEdges, isOpen, keptIn, Found, Put, Ready, Listed};
+ghost use Rattle.tables.specs.Tables.{Stored};
+ghost use Rattle.candidates.specs.Candidates.{candidatesOf, mostCandidates};
+ghost use Rattle.candidates.specs.Listed.{single, ownEdges, isOpen, keptIn, Found, Put, Ready, Listed};
 use policy::Policy;
 
 // How many candidates each list holds, and how many candidates for a root there are.
@@ -35,10 +36,10 @@ fn is_open(p: Policy, m: u64, k: u64, v: usize) -> bool
     (masks::both(own, m) != 0) & (masks::both(own, k) == 0)
 }
 
-// x after the first n cycles of a list; nothing where x is 0.
+// x stored after the first n cycles of a list; nothing where x is 0.
 fn append(cycles: &mut [u64; 16], n: usize, x: u64) -> usize
     requires { ⌜ (n < 16) × (length (now cycles) ≡ 16) ⌝ }
-    ensures { λ r. ⌜ Appended (now (cycles .entry)) (now (cycles .exit)) n r (single x) ⌝ }
+    ensures { λ r. ⌜ Stored (now (cycles .entry)) (now (cycles .exit)) n r (single x) ⌝ }
 {
     if x == 0 {
         return n;
@@ -57,7 +58,7 @@ fn fill_cycles(
     cycles: &mut [u64; 16],
 ) -> usize
     requires { ⌜ (legal p ≡ true) × (now heads ≡ p .target) × (length (now rows) ≡ 16) × (length (now cycles) ≡ 16) ⌝ }
-    ensures { λ r. ⌜ Found p m (now (cycles .exit)) r × (length (now (rows .exit)) ≡ 16) ⌝ }
+    ensures { λ r. ⌜ Found p m (now (cycles .entry)) (now (cycles .exit)) r × (length (now (rows .exit)) ≡ 16) ⌝ }
 {
     graph::reach_all(p, heads, m, rows);
     let states = p.states as usize;
@@ -83,7 +84,7 @@ fn append_kept(
     at: usize,
 ) -> usize
     requires { ⌜ (n ≤ 16) × (length (now cycles) ≡ 16) × (at + n ≤ length (now list)) ⌝ }
-    ensures { λ r. ⌜ Appended (now (list .entry)) (now (list .exit)) at r (keptIn (now (by .entry)) c (take n (now (cycles .entry)))) ⌝ }
+    ensures { λ r. ⌜ Stored (now (list .entry)) (now (list .exit)) at r (keptIn (now (by .entry)) c (take n (now (cycles .entry)))) ⌝ }
 {
     let mut next = at;
     for i in 0..n {
@@ -178,8 +179,8 @@ fn set_count(p: Policy) -> usize
     1 << p.colours
 }
 
-// The candidates of a policy by verdict, each list by falling masks of their colours and then by their lowest states; and the candidates for a root. `by` has the
-// edges of each colour.
+// The candidates of a policy by verdict, each list by falling masks of their colours and then by their lowest states; and the candidates for a root. Places past
+// them stay. `by` has the edges of each colour. This is an inner layer: its callers have asked whether the policy is legal, and lend enough places.
 pub fn fill_candidates(
     p: Policy,
     heads: &[u8; 64],
@@ -189,9 +190,10 @@ pub fn fill_candidates(
     rejecting: &mut [u64],
     roots: &mut [u64; 16],
 ) -> Counts
-    requires { ⌜ (legal p ≡ true) × (now heads ≡ p .target) × (now by ≡ byColour p) × (now family ≡ p .family) × (p .states * 2 ^ p .colours ≤ length (now accepting)) × (p .states * 2 ^ p .colours ≤ length (now rejecting)) × (length (now roots) ≡ 16) ⌝ }
-    ensures listed { λ r. ⌜ Listed p (now (accepting .entry)) (now (accepting .exit)) (now (rejecting .entry)) (now (rejecting .exit)) r ⌝ }
-    ensures rooted { λ r. ⌜ (take (r .roots) (now (roots .exit)) ≡ rootCandidates p) × (r .roots ≤ 16) × (length (now (roots .exit)) ≡ 16) ⌝ }
+    requires lawful { ⌜ legal p ≡ true ⌝ }
+    requires lent { ⌜ (now heads ≡ p .target) × (now by ≡ byColour p) × (now family ≡ p .family) ⌝ }
+    requires places { ⌜ (mostCandidates p ≤ length (now accepting)) × (mostCandidates p ≤ length (now rejecting)) × (length (now roots) ≡ 16) ⌝ }
+    ensures { λ r. ⌜ Listed p (now (accepting .entry)) (now (accepting .exit)) (now (rejecting .entry)) (now (rejecting .exit)) (now (roots .entry)) (now (roots .exit)) r ⌝ }
 {
     let all = masks::full(policy::edges(p));
     let used = policy::colours_in(by, all);

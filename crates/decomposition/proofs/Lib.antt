@@ -1,1 +1,1 @@
-pub mod NodeColumns
+pub mod NodeTables

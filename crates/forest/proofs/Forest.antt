@@ -1,6 +1,6 @@
 -- The forest of every legal policy has the laws of specs/Laws; and the descendants of a node have the numbers from its own up to some end,
 -- without a gap. Assumes nothing.
-use Prim.Native.Nat.{ℕ, suc, _+_, _-_, _≤_, _<_}
+use Prim.Native.Nat.{ℕ, suc, _+_, _≤_, _<_}
 use native.Mathlib.Omega.{arith}
 use native.Mathlib.Decide.{decLt}
 use native.Mathlib.Numerals.{add-one}

@@ -1,5 +1,6 @@
 pub mod Chains
 pub mod Children
+pub mod Columns
 pub mod Forest
 pub mod Largest
 pub mod Levels
@@ -7,3 +8,4 @@ pub mod Numbered
 pub mod Order
 pub mod Planted
 pub mod Priorities
+pub mod Subtrees

@@ -1,2 +1,3 @@
 pub mod Forest
 pub mod Laws
+pub mod Subtrees

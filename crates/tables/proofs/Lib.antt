@@ -1,4 +1,5 @@
 pub mod Clearing
+pub mod Copies
 pub mod Tables
 pub mod Stores
 pub mod Columns

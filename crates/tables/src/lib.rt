@@ -1,7 +1,21 @@
-// Lent tables: every place of one set to 0, at the three widths that tables have; and an entry as a place.
+// Lent tables: how many places count; every place of one set to 0, at the three widths that tables have; a part of one copied to a later place; and an entry as a place.
 ghost use mathlib.Core.Path.{_≡_};
-ghost use Prim.Native.Nat.{_<_};
+ghost use mathlib.Core.List.{List·Memᴰ};
+ghost use Prim.Native.Nat.{ℕ, _+_, _-_, _<_, _≤_, min};
+ghost use lib.ListN.{length};
+ghost use lib.Seq.{sets};
 ghost use Rattle.tables.specs.Tables.{zeros};
+ghost use Rattle.tables.specs.Copies.{part, moved};
+
+// How many places of a table of n places count.
+pub fn places(n: usize) -> usize
+    ensures { λ r. ⌜ r ≡ min n 65535 ⌝ }
+{
+    if n < 65535 {
+        return n;
+    }
+    65535
+}
 
 pub fn clear64(t: &mut [u64])
     ensures { λ _. ⌜ now (t .exit) ≡ zeros (now (t .entry)) ⌝ }
@@ -32,4 +46,25 @@ pub fn wide(x: u16) -> usize
     ensures { λ r. ⌜ (r ≡ x) × (r < 65536) ⌝ }
 {
     x as usize
+}
+
+// `size` places from place `from` on, copied to place `at`, which stands past them. This is an inner layer: its callers see that there are so many places.
+pub fn copy64(t: &mut [u64], from: usize, at: usize, size: usize)
+    requires { ⌜ (from + size ≤ at) × (at + size ≤ length (now t)) ⌝ }
+    ensures { λ _. ⌜ now (t .exit) ≡ sets (now (t .entry)) at (part size from (now (t .entry))) ⌝ }
+{
+    for j in 0..size {
+        t[at + j] = t[from + j];
+    }
+}
+
+// The same of numbers that count places: each is moved on with the copy.
+pub fn copy_moved16(t: &mut [u16], from: usize, at: usize, size: usize)
+    requires { ⌜ (from + size ≤ at) × (at + size ≤ length (now t)) × (at < 65536) × ((x : ℕ) → List·Memᴰ x (part size from (now t)) → x + (at - from) < 65536) ⌝ }
+    ensures { λ _. ⌜ now (t .exit) ≡ sets (now (t .entry)) at (moved (at - from) (part size from (now (t .entry)))) ⌝ }
+{
+    let shift = (at - from) as u16;
+    for j in 0..size {
+        t[at + j] = t[from + j] + shift;
+    }
 }

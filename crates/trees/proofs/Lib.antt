@@ -1,6 +1,4 @@
 pub mod Growing
+pub mod NextRoot
 pub mod Roots
 pub mod Search
-pub mod Siblings
-pub mod Stores
-pub mod Subtrees

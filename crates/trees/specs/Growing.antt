@@ -1,69 +1,81 @@
--- Trees grown in the node tables: the nodes of a tree are written one after the other, and a tree that stands in the tables already is copied.
-use Prim.Native.Nat.{ℕ, _+_, _*_, _/_, _%_, _≤_, _<_, min, max}
+-- Trees grown in the node tables: the nodes of a tree are written one after the other, and a tree that stands in the tables already is copied. The scratch has two
+-- places for each candidate, where its tree is recorded, and past them the positions of children, level by level.
+use Prim.Native.Nat.{ℕ, _+_, _*_, _≤_, _<_, min, max}
 use mathlib.Core.Path.{_≡_}
 use mathlib.Core.Logic.{_≢_}
-use mathlib.Core.Bool.{Bool, true, false}
+use mathlib.Core.Bool.{Bool, cond}
 use mathlib.Core.List.{List, _++_, List·Memᴰ}
+use lib.Dec.{leb}
 use lib.ListN.{length, getD}
 use lib.Seq.{sets}
+use Rattle.tables.specs.Tables.{zeros}
+use Rattle.tables.specs.Copies.{part}
 use Rattle.policy.specs.declared.Policy.{Policy}
-use Rattle.policy.specs.Policies.{accepting, legal}
-use Rattle.candidates.specs.Candidates.{candidates, judged}
-use Rattle.forest.specs.Forest.{forest, levelsLeft, nodeMasks, nodeParents}
-use Rattle.trees.specs.Subtrees.{treeMasks, treeParents, treeSize}
-use Rattle.trees.specs.Stores.{part}
+use Rattle.policy.specs.Policies.{accepting}
+use Rattle.forest.specs.Forest.{forest, mostLevels, levelsLeft, nodeMasks, nodeParents}
+use Rattle.forest.specs.Subtrees.{treeMasks, treeParents, treeSize}
+use Rattle.candidates.specs.Candidates.{candidates}
+use Rattle.candidates.specs.Listed.{Candidates}
 
--- the candidates of either verdict, as they are listed
-pub record Ground (p : Policy) (accepting rejecting : List ℕ) : Type 0 where
-  pub lawful : legal p ≡ true
-  pub accepting-are : accepting ≡ judged p true
-  pub rejecting-are : rejecting ≡ judged p false
-  pub accepting-few : length accepting ≤ 4096
-  pub rejecting-few : length rejecting ≤ 4096
-
+-- ---- trees that stand in the tables
 -- the tree of m stands at number k, before `end`
-pub record Stands (p : Policy) (masks parents : List ℕ) (end m k : ℕ) : Type 0 where
+pub record StandsAt (p : Policy) (masks parents : List ℕ) (end m k : ℕ) : Type 0 where
   pub before : k + treeSize p m ≤ end
   pub masks-are : part (treeSize p m) k masks ≡ treeMasks p m
   pub parent : ℕ
   pub parent-before : parent < k
   pub parents-are : part (treeSize p m) k parents ≡ treeParents p parent k m
 
--- where the tree of each mask of a list was first grown: 0 for nowhere yet, or its number * 65,536 + its size
-pub record Seen (p : Policy) (list masks parents seen : List ℕ) (end : ℕ) : Type 0 where
-  pub size-is : (i : ℕ) → i < length list → getD seen i 0 ≢ 0 → getD seen i 0 % 65536 ≡ treeSize p (getD list i 0)
-  pub stands : (i : ℕ) → i < length list → getD seen i 0 ≢ 0 → Stands p masks parents end (getD list i 0) (getD seen i 0 / 65536)
+-- where the tree of each mask of a list was first written: its number, and after it its size; size 0 where it does not stand yet
+pub record Recorded (p : Policy) (list masks parents scratch : List ℕ) (end : ℕ) : Type 0 where
+  pub size-is : (i : ℕ) → i < length list → getD scratch (2 * i + 1) 0 ≢ 0 → getD scratch (2 * i + 1) 0 ≡ treeSize p (getD list i 0)
+  pub stands : (i : ℕ) → i < length list → getD scratch (2 * i + 1) 0 ≢ 0 → StandsAt p masks parents end (getD list i 0) (getD scratch (2 * i) 0)
 
 -- tables with `places` places, the first n of which are written
-pub record Room (p : Policy) (list masks parents seen : List ℕ) (places n : ℕ) : Type 0 where
+pub record Places (p : Policy) (list masks parents scratch : List ℕ) (places n : ℕ) : Type 0 where
   pub few : places ≤ 65535
   pub at-most : n ≤ places
   pub masks-long : places ≤ length masks
   pub parents-long : places ≤ length parents
-  pub seen-long : length list ≤ length seen
-  pub seen-are : Seen p list masks parents seen n
+  pub recorded : Recorded p list masks parents scratch n
 
--- a mask whose tree is to be grown; there is room for the positions of the children on each level
-pub record Seed (p : Policy) (accepting′ rejecting′ : List ℕ) (m : ℕ) (verdict : Bool) (kids : List ℕ) : Type 0 where
+-- the root of a tree to be written: a candidate, with its verdict. The scratch is free from place `free` on, with room for the positions of the children on each level
+pub record TreeRoot (p : Policy) (accepting′ rejecting′ : List ℕ) (m : ℕ) (verdict : Bool) (scratch : List ℕ) (free : ℕ) : Type 0 where
   pub candidate : List·Memᴰ m (candidates p)
   pub verdict-is : verdict ≡ accepting p m
-  pub kids-long : levelsLeft p m * max (length accepting′) (length rejecting′) ≤ length kids
+  pub past-records : 2 * length (accepting′ ++ rejecting′) ≤ free
+  pub room : free + levelsLeft p m * max (length accepting′) (length rejecting′) ≤ length scratch
 
--- what the growing of the tree of m asks of a policy
-pub record Growable (p : Policy) (accepting rejecting : List ℕ) (m : ℕ) (verdict : Bool) (places n : ℕ) (masks parents seen kids : List ℕ) : Type 0 where
-  pub ground : Ground p accepting rejecting
-  pub room : Room p (accepting ++ rejecting) masks parents seen places n
-  pub seed : Seed p accepting rejecting m verdict kids
+-- ---- one tree
+-- before: the lists, the tables and the root
+pub record TreeToWrite (p : Policy) (accepting rejecting : List ℕ) (m : ℕ) (verdict : Bool) (places n : ℕ) (masks parents scratch : List ℕ) (free : ℕ) : Type 0 where
+  pub lists : Candidates p accepting rejecting
+  pub tables : Places p (accepting ++ rejecting) masks parents scratch places n
+  pub root : TreeRoot p accepting rejecting m verdict scratch free
 
--- from masks₀ and parents₀: the tree of m, whose root has the parent q, is written from number n on, and `next` comes after it; or `next` is past the places, if it does not fit
-pub record Grown (p : Policy) (list : List ℕ) (places m q n next : ℕ) (masks₀ parents₀ masks parents seen : List ℕ) : Type 0 where
+-- after, from masks₀ and parents₀: the tree of m, whose root has the parent q, is written from number n on, and `next` comes after it; or `next` is past the places, if it does not fit
+pub record TreeWritten (p : Policy) (list : List ℕ) (places m q n next : ℕ) (masks₀ parents₀ masks parents scratch : List ℕ) : Type 0 where
   pub next-is : next ≡ min (n + treeSize p m) (places + 1)
   pub masks-are : next ≤ places → masks ≡ sets masks₀ n (treeMasks p m)
   pub parents-are : next ≤ places → parents ≡ sets parents₀ n (treeParents p q n m)
-  pub seen-are : next ≤ places → Seen p list masks parents seen next
+  pub recorded : next ≤ places → Recorded p list masks parents scratch next
 
--- from masks₀ and parents₀: the trees of all roots are written, from number 0 on, and `next` comes after them; or `next` is past the places, if they do not fit
-pub record AllGrown (p : Policy) (places next : ℕ) (masks₀ parents₀ masks parents : List ℕ) : Type 0 where
-  pub next-is : next ≡ min (length (forest p)) (places + 1)
-  pub masks-are : next ≤ places → masks ≡ sets masks₀ 0 (nodeMasks p)
-  pub parents-are : next ≤ places → parents ≡ sets parents₀ 0 (nodeParents p)
+-- the places from a up to b are as they were
+abbrev pub Kept : ℕ → ℕ → List ℕ → List ℕ → Type 0
+Kept a b t₀ t = (j : ℕ) → a ≤ j → j < b → getD t j 0 ≡ getD t₀ j 0
+
+-- ---- the forest
+-- scratch for n candidates: no tree is recorded, and there is room for the positions of the children on each level
+pub record Scratch (p : Policy) (n : ℕ) (scratch : List ℕ) : Type 0 where
+  pub long : 2 * n + mostLevels p * n ≤ length scratch
+  pub none : (i : ℕ) → getD scratch i 0 ≡ 0
+
+-- the nodes fit. Only the first 65,535 places of a table count
+unfoldable pub forestFits : Policy → List ℕ → Bool
+forestFits p masks = leb (length (forest p)) (min (length masks) 65535)
+
+-- how many nodes there are, or one more than fit; the tables at exit, from masks₀ and parents₀: the columns of the forest where the nodes fit, and otherwise 0 in every place
+pub record ForestWritten (p : Policy) (masks₀ parents₀ masks parents : List ℕ) (count : ℕ) : Type 0 where
+  pub count-is : count ≡ min (length (forest p)) (min (length masks₀) 65535 + 1)
+  pub masks-are : masks ≡ cond (forestFits p masks₀) (sets masks₀ 0 (nodeMasks p)) (zeros masks₀)
+  pub parents-are : parents ≡ cond (forestFits p masks₀) (sets parents₀ 0 (nodeParents p)) (zeros parents₀)

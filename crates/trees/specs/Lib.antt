@@ -1,4 +1,2 @@
 pub mod Growing
 pub mod Search
-pub mod Stores
-pub mod Subtrees

@@ -14,7 +14,7 @@ fn is_before(list: &[u64], a: u16, b: u16) -> bool
 {
     let i = a as usize;
     let j = b as usize;
-    crate::stands_before(list[i], list[j])
+    crate::siblings::stands_before(list[i], list[j])
 }
 
 // Position i, put in its place among the first `count`.

@@ -84,8 +84,8 @@ returns-2 c =
     let n = c .before .before .before .before .before .before .before .before .before .before .before .before .before .before .before .before .before .before .before .before .before in
     let q = fitting n in
     let s = asked q in
-    let f = nodes-none (s .args .t1) (s .args .masks .now) (s .args .parents .now) (s .args .node-priorities .now) (n .fill-nodes .ensures .0) (c .before .before .before .before .before .before .before .before .before .before .before .before .before .enum-told .given .1) in
-    refused-nine (s .args .t1) (s .args .masks .now) (s .args .parents .now) (s .args .node-priorities .now) (s .args .sources .now) (s .args .leaves .now) (s .args .targets .now) (s .args .priorities .now) (s .pre) (fit q) _ _ _ _ _ _ _ f (n .fill-nodes .ensures .1) (c .before .before .before .before .before .before .before .before .clear-built .ensures)
+    let f = nodes-none (s .args .t1) (s .args .masks .now) (s .args .parents .now) (s .args .node-priorities .now) (n .fill-nodes .ensures .answer-is) (c .before .before .before .before .before .before .before .before .before .before .before .before .before .enum-told .given .1) in
+    refused-nine (s .args .t1) (s .args .masks .now) (s .args .parents .now) (s .args .node-priorities .now) (s .args .sources .now) (s .args .leaves .now) (s .args .targets .now) (s .args .priorities .now) (s .pre) (fit q) _ _ _ _ _ _ _ f (n .fill-nodes .ensures .tables-are) (c .before .before .before .before .before .before .before .before .clear-built .ensures)
 
 build-requires : tie.Need-build-requires
 build-requires c κs =
@@ -93,8 +93,8 @@ build-requires c κs =
     let q = fitting n in
     let s = asked q in
     let z = fit-lengths (s .args .t1) (s .args .masks .now) (s .args .parents .now) (s .args .node-priorities .now) (s .args .sources .now) (s .args .leaves .now) (s .args .targets .now) (s .args .priorities .now) (fit q) in
-    let f = nodes-fits (s .args .t1) (s .args .masks .now) (s .args .parents .now) (s .args .node-priorities .now) (n .fill-nodes .ensures .0) (c .before .before .before .before .before .before .before .before .before .before .nodes .given .1) in
-    ((s .pre, refl, nodes-are (s .args .t1) (s .args .masks .now) (s .args .parents .now) (s .args .node-priorities .now) _ _ _ (n .fill-nodes .ensures .1) (f .0) (z .0) (z .1), f .1), z .2)
+    let f = nodes-fits (s .args .t1) (s .args .masks .now) (s .args .parents .now) (s .args .node-priorities .now) (n .fill-nodes .ensures .answer-is) (c .before .before .before .before .before .before .before .before .before .before .nodes .given .1) in
+    ((s .pre, refl, nodes-are (s .args .t1) (s .args .masks .now) (s .args .parents .now) (s .args .node-priorities .now) _ _ _ (n .fill-nodes .ensures .tables-are) (f .0) (z .0) (z .1), f .1), z .2)
 
 enum-known-states : tie.Need-enum-known-states
 enum-known-states c = search needs
@@ -138,7 +138,7 @@ returns-3 c =
     let n = filled b in
     let q = fitting n in
     let s = asked q in
-    let f = nodes-fits (s .args .t1) (s .args .masks .now) (s .args .parents .now) (s .args .node-priorities .now) (n .fill-nodes .ensures .0) (counted b .nodes .given .1) in
+    let f = nodes-fits (s .args .t1) (s .args .masks .now) (s .args .parents .now) (s .args .node-priorities .now) (n .fill-nodes .ensures .answer-is) (counted b .nodes .given .1) in
     let g = none-fits (s .args .t1) (s .args .sources .now) (b .build .ensures .answer-is) (c .before .before .before .before .before .before .before .before .before .before .before .before .enum-told2 .given .1) in
     refused-ten (s .args .t1) (s .args .masks .now) (s .args .parents .now) (s .args .node-priorities .now) (s .args .sources .now) (s .args .leaves .now) (s .args .targets .now) (s .args .priorities .now) (s .pre) (fit q) _ _ _ _ _ _ _ (f .0) g (
       c .before .before .before .before .before .before .before .before .before .before .clear64 .ensures ∙ zeros-same (n .fill-nodes .last .1 .1 .1 .1 .0) (s .args .masks .now) (n .fill-nodes .kept .1 .1 .1 .1 .0),
@@ -152,7 +152,7 @@ cast-t66 c =
     let n = filled b in
     let q = fitting n in
     let s = asked q in
-    let f = nodes-fits (s .args .t1) (s .args .masks .now) (s .args .parents .now) (s .args .node-priorities .now) (n .fill-nodes .ensures .0) (counted b .nodes .given .1) in
+    let f = nodes-fits (s .args .t1) (s .args .masks .now) (s .args .parents .now) (s .args .node-priorities .now) (n .fill-nodes .ensures .answer-is) (counted b .nodes .given .1) in
     omega (arith, f .1, nodes-few (s .args .t1) (s .args .masks .now) (s .args .parents .now) (s .args .node-priorities .now) (f .0))
 
 cast-t67 : tie.Need-cast-t67
@@ -189,9 +189,9 @@ returns-4 c =
     let n = filled b in
     let q = fitting n in
     let s = asked q in
-    let f = nodes-fits (s .args .t1) (s .args .masks .now) (s .args .parents .now) (s .args .node-priorities .now) (n .fill-nodes .ensures .0) (counted b .nodes .given .1) in
+    let f = nodes-fits (s .args .t1) (s .args .masks .now) (s .args .parents .now) (s .args .node-priorities .now) (n .fill-nodes .ensures .answer-is) (counted b .nodes .given .1) in
     let g = whole-fits (s .args .t1) (s .args .sources .now) (b .build .ensures .answer-is) (c .before .states .given .1) in
-    translated (s .args .t1) (s .args .masks .now) (s .args .parents .now) (s .args .node-priorities .now) (s .args .sources .now) (s .args .leaves .now) (s .args .targets .now) (s .args .priorities .now) (s .pre) (fit q) _ _ _ _ _ _ _ (f .0) (f .1) (g .0) (g .1) (g .2) (n .fill-nodes .ensures .1) (b .build .ensures)
+    translated (s .args .t1) (s .args .masks .now) (s .args .parents .now) (s .args .node-priorities .now) (s .args .sources .now) (s .args .leaves .now) (s .args .targets .now) (s .args .priorities .now) (s .pre) (fit q) _ _ _ _ _ _ _ (f .0) (f .1) (g .0) (g .1) (g .2) (n .fill-nodes .ensures .tables-are) (b .build .ensures)
 
 pub translate-legal-spec : {M : Type 1} → statement M
 translate-legal-spec =

@@ -1,13 +1,13 @@
--- `decomposition::listing::append` meets its contract. Assumes nothing.
+-- `candidates::append` meets its contract. Assumes nothing.
 use Rattle.candidates.specs.Listed.{single}
-use Rattle.candidates.proofs.CandidateLaws.{single-none, single-one, appended-none, appended-one, appended-is}
-use native.Mathlib.Omega.{arith}
+use Rattle.candidates.proofs.CandidateLaws.{single-none, single-one, stored-nothing, stored-is}
+use Rattle.tables.proofs.Stores.{stored-one}
 use borrow.Author.Needs.{needs}
 use Rattle.candidates.proofs.append.Statement.{statement}
 use Rattle.candidates.proofs.append.Tie as tie
 
 returns : tie.Need-returns
-returns c = appended-none (c .before .args .cycles .now) (c .before .args .n) (single (c .before .args .x)) (single-none (c .before .args .x) (c .if1 .taken))
+returns c = stored-nothing (c .before .args .cycles .now) (c .before .args .n) (single (c .before .args .x)) (single-none (c .before .args .x) (c .if1 .taken))
 
 mul-cycles : tie.Need-mul-cycles
 mul-cycles c = search needs
@@ -21,7 +21,7 @@ add-result c = search needs
 returns-2 : tie.Need-returns-2
 returns-2 c =
     let s = c .before in
-    appended-is (appended-one (s .args .cycles .now) (s .args .n) (s .args .x) (omega (arith, s .pre .0, s .pre .1))) (single (s .args .x)) (single-one (s .args .x) (c .if1 .left))
+    stored-is (stored-one (s .args .cycles .now) (s .args .n) (s .args .x)) (single (s .args .x)) (single-one (s .args .x) (c .if1 .left))
 
 pub append-spec : {M : Type 1} → statement M
 append-spec =

@@ -1,4 +1,4 @@
--- `decomposition::listing::append_judged` meets its contract. Assumes nothing.
+-- `candidates::append_judged` meets its contract. Assumes nothing.
 use Rattle.candidates.proofs.CandidateLaws.{put-accepting, put-rejecting}
 use borrow.Author.Needs.{needs}
 use Rattle.candidates.proofs.append_judged.Statement.{statement}

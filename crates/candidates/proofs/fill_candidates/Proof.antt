@@ -1,4 +1,4 @@
--- `decomposition::listing::fill_candidates` meets its contract. The invariant: the candidates of the sets of colours before position i are listed, at most one for
+-- `candidates::fill_candidates` meets its contract. The invariant: the candidates of the sets of colours before position i are listed, at most one for
 -- each such set and each state in either list. Assumes nothing.
 use Prim.Native.Nat.{ℕ, _-_, _≤_}
 use mathlib.Core.Path.{_≡_, refl, ap, _∙_}
@@ -8,10 +8,11 @@ use native.Mathlib.Omega.{arith}
 use borrow.Author.Needs.{needs}
 use Rattle.policy.specs.Policies.{coloursOf, full}
 use Rattle.policy.specs.ByColour.{tableColours}
-use Rattle.policy.proofs.Laws.{legal-counts, edges-le}
+use Rattle.policy.proofs.Laws.{edges-le}
 use Rattle.policy.proofs.ByColour.{table-colours-are}
+use Rattle.tables.proofs.Stores.{stored-length}
 use Rattle.candidates.specs.Listed.{Listing}
-use Rattle.candidates.proofs.CandidateLaws.{full-is, sets-few, room-left, listing-none, listing-next, listing-all, found-is, found-roots}
+use Rattle.candidates.proofs.CandidateLaws.{full-is, sets-few, room-left, listing-none, listing-next, listing-all, found-roots}
 use Rattle.candidates.proofs.fill_candidates.Statement.{statement}
 use Rattle.candidates.proofs.fill_candidates.Tie as tie
 
@@ -35,7 +36,7 @@ set-count-requires : tie.Need-set-count-requires Inv-loop μ-loop
 set-count-requires c κs = c .before .before .before .before .before .pre .0
 
 fill-cycles-requires : tie.Need-fill-cycles-requires Inv-loop μ-loop
-fill-cycles-requires c κs = let s = c .before .before .before .before .before .before .before .before in (s .pre .0, s .pre .1, length-replicate {A = ℕ} 16 0, s .pre .6)
+fill-cycles-requires c κs = let s = c .before .before .before .before .before .before .before .before in (s .pre .0, s .pre .1 .0 .0, length-replicate {A = ℕ} 16 0, s .pre .1 .1 .2)
 
 loop-holds : tie.Need-loop-holds Inv-loop μ-loop
 loop-holds c =
@@ -65,20 +66,23 @@ list-set-requires c κs =
     let sets = c .before .before .before .before .before .before .before .before .before .before .set-count in
     let all = c .before .before .before .before .before .before .before .before .before .before .before .before .full .result in
     let is = all-are (c .before .before .before .before .before .before .before .before .before .before .before .before) in
+    let found = c .before .before .before .before .before .before .before .fill-cycles .ensures .0 in
     let at = c .before .before .before .before .before .before .loop in
     let i = at .inv in (
       record {
         lawful = s .pre .0;
-        heads-are = s .pre .1;
-        by-is = s .pre .2;
-        family-is = s .pre .3;
-        used-are = c .before .before .before .before .before .before .before .before .before .before .before .colours-in .ensures ∙ ap (λ (t : List ℕ). tableColours t all) (s .pre .2) ∙ table-colours-are p (s .pre .0) all ∙ ap (coloursOf p) is;
-        rooted = found-is p (c .before .before .before .before .before .before .before .fill-cycles .ensures .0) is (i .4);
+        heads-are = s .pre .1 .0 .0;
+        by-is = s .pre .1 .0 .1;
+        family-is = s .pre .1 .0 .2;
+        used-are = c .before .before .before .before .before .before .before .before .before .before .before .colours-in .ensures ∙ ap (λ (t : List ℕ). tableColours t all) (s .pre .1 .0 .1) ∙ table-colours-are p (s .pre .0) all ∙ ap (coloursOf p) is;
+        roots-are = found-roots p (s .pre .0) found is (i .4);
+        roots-few = omega (arith, i .4, found .few);
+        roots-long = found .long;
       },
       i .2,
       i .3,
-      room-left p (at .i) (at .listed .accepting) (sets .result) (length (at .accepting)) (sets .ensures) (c .before .before .before .before .before .loop-test .taken) (i .1 .accepting-few) (omega (arith, i .1 .accepting-are .long, s .pre .4)),
-      room-left p (at .i) (at .listed .rejecting) (sets .result) (length (at .rejecting)) (sets .ensures) (c .before .before .before .before .before .loop-test .taken) (i .1 .rejecting-few) (omega (arith, i .1 .rejecting-are .long, s .pre .5)),
+      room-left p (at .i) (at .listed .accepting) (sets .result) (length (at .accepting)) (sets .ensures) (c .before .before .before .before .before .loop-test .taken) (i .1 .accepting-few) (omega (arith, stored-length (i .1 .accepting-are), s .pre .1 .1 .0)),
+      room-left p (at .i) (at .listed .rejecting) (sets .result) (length (at .rejecting)) (sets .ensures) (c .before .before .before .before .before .loop-test .taken) (i .1 .rejecting-few) (omega (arith, stored-length (i .1 .rejecting-are), s .pre .1 .1 .1)),
     )
 
 add-i : tie.Need-add-i Inv-loop μ-loop
@@ -96,10 +100,10 @@ loop-again c =
     (omega arith, listing-next p (i .1) (sets .result) (sets .ensures) (e .0), e .1, e .2, e .0 .roots-same ∙ i .4)
 
 same-length : tie.Need-same-length Inv-loop μ-loop
-same-length c = c .before .loop .inv .1 .accepting-are .long
+same-length c = stored-length (c .before .loop .inv .1 .accepting-are)
 
 same-length-2 : tie.Need-same-length-2 Inv-loop μ-loop
-same-length-2 c = c .before .loop .inv .1 .rejecting-are .long
+same-length-2 c = stored-length (c .before .loop .inv .1 .rejecting-are)
 
 returns : tie.Need-returns Inv-loop μ-loop
 returns c =
@@ -108,11 +112,8 @@ returns c =
     let at = c .before .loop in
     let i = at .inv in
     let sets = c .before .before .before .before .before .set-count in
-    let found = found-is p (c .before .before .fill-cycles .ensures .0) (all-are (c .before .before .before .before .before .before .before)) (i .4) in
-    let last : at .i ≡ sets .result = omega arith in (
-      listing-all p (i .1) (last ∙ sets .ensures),
-      (found-roots p found, omega (arith, found .few, legal-counts p (s .pre .0) .states-few), found .long),
-    )
+    let last : at .i ≡ sets .result = omega arith in
+    listing-all p (i .1) (last ∙ sets .ensures) (c .before .before .fill-cycles .ensures .0) (all-are (c .before .before .before .before .before .before .before)) (i .4)
 
 pub fill-candidates-spec : {M : Type 1} → statement M
 fill-candidates-spec =

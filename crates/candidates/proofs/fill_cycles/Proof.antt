@@ -1,8 +1,9 @@
--- `decomposition::listing::fill_cycles` meets its contract. The invariant: `seen` has the cycles found at the states below v, and they are listed. Assumes nothing.
+-- `candidates::fill_cycles` meets its contract. The invariant: `seen` has the cycles found at the states below v, and they are listed. Assumes nothing.
 use Prim.Native.Nat.{_-_, _≤_}
 use mathlib.Core.Path.{_≡_, sym, _∙_}
 use mathlib.Core.Logic.{⊎-elim}
 use Rattle.policy.proofs.Laws.{legal-counts}
+use Rattle.tables.proofs.Stores.{stored-length}
 use Rattle.candidates.specs.Listed.{Finding}
 use Rattle.candidates.proofs.CandidateLaws.{finding-none, finding-open, finding-shut, finding-is, finding-all}
 use native.Mathlib.Omega.{arith}
@@ -39,7 +40,7 @@ append-requires : tie.Need-append-requires Inv-loop μ-loop
 append-requires c κs =
     let s = c .before .before .before .before .before .before .before .before .before .before .before in
     let i = c .before .before .before .before .before .before .before .loop .inv .1 in
-    (omega (arith, i .at-most, c .before .before .before .before .before .before .loop-test .taken, legal-counts (s .args .p) (s .pre .0) .states-few), i .found .long ∙ s .pre .3)
+    (omega (arith, i .at-most, c .before .before .before .before .before .before .loop-test .taken, legal-counts (s .args .p) (s .pre .0) .states-few), stored-length (i .found) ∙ s .pre .3)
 
 add-v : tie.Need-add-v Inv-loop μ-loop
 add-v c = omega arith

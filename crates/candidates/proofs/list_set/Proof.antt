@@ -1,4 +1,4 @@
--- `decomposition::listing::list_set` meets its contract. Assumes nothing.
+-- `candidates::list_set` meets its contract. Assumes nothing.
 use mathlib.Core.Path.{sym, ap, _∙_}
 use mathlib.Core.Bool.{Bool, false}
 use mathlib.Core.List.{List}
@@ -7,7 +7,7 @@ use native.Mathlib.Omega.{arith}
 use Rattle.policy.specs.Policies.{inFamily, full}
 use Rattle.policy.proofs.Laws.{legal-counts}
 use Rattle.candidates.specs.Candidates.{candidatesOf}
-use Rattle.candidates.proofs.CandidateLaws.{put-none, put-is, candidates-none, candidates-empty, kept-candidates, all-coloured, edges-are}
+use Rattle.candidates.proofs.CandidateLaws.{put-none, put-is, candidates-none, candidates-empty, kept-candidates, all-coloured, edges-are, found-first}
 use borrow.Author.Needs.{needs}
 use Rattle.candidates.proofs.list_set.Statement.{statement}
 use Rattle.candidates.proofs.list_set.Tie as tie
@@ -28,7 +28,7 @@ append-judged-requires : tie.Need-append-judged-requires
 append-judged-requires c κs =
     let s = c .before .before .before .before .before .before .before .before .before in
     let r = s .pre .0 in
-    (omega (arith, r .rooted .few, legal-counts (s .args .p) (r .lawful) .states-few), r .rooted .long, omega (arith, r .rooted .few, s .pre .3), omega (arith, r .rooted .few, s .pre .4))
+    (omega (arith, r .roots-few, legal-counts (s .args .p) (r .lawful) .states-few), r .roots-long, omega (arith, r .roots-few, s .pre .3), omega (arith, r .roots-few, s .pre .4))
 
 same-length : tie.Need-same-length
 same-length c = search needs
@@ -43,7 +43,7 @@ returns-2 c =
     let a = s .args in
     let r = s .pre .0 in (
       put-is (c .before .before .before .before .append-judged .ensures) (ap (λ (l : List Bool). getD l (a .c) false) (r .family-is))
-          (kept-candidates (a .p) (r .lawful) (a .by .now) (a .c) (full (a .p)) (take (a .listed .roots) (a .roots .now)) (r .by-is) (all-coloured (a .p) (a .c) (c .before .before .before .before .before .before .before .if3 .taken ∙ r .used-are)) (r .rooted .cycles-are)),
+          (kept-candidates (a .p) (r .lawful) (a .by .now) (a .c) (full (a .p)) (take (a .listed .roots) (a .roots .now)) (r .by-is) (all-coloured (a .p) (a .c) (c .before .before .before .before .before .before .before .if3 .taken ∙ r .used-are)) (r .roots-are)),
       s .pre .1,
       s .pre .2,
     )
@@ -75,7 +75,7 @@ returns-3 c =
     let m = c .before .before .before .before .before .before .before .before .before .before .before .edges-in in
     let cycles = c .before .before .before .before .before .before .before .before .fill-cycles in (
       put-is (c .before .before .before .before .append-judged2 .ensures) (ap (λ (l : List Bool). getD l (a .c) false) (r .family-is))
-          (kept-candidates (a .p) (r .lawful) (a .by .now) (a .c) (m .result) _ (r .by-is) (edges-are (a .p) (r .lawful) (a .by .now) (a .c) (m .result) (r .by-is) (m .ensures)) (cycles .ensures .0 .cycles-are)),
+          (kept-candidates (a .p) (r .lawful) (a .by .now) (a .c) (m .result) _ (r .by-is) (edges-are (a .p) (r .lawful) (a .by .now) (a .c) (m .result) (r .by-is) (m .ensures)) (found-first (a .p) (r .lawful) (cycles .ensures .0))),
       cycles .ensures .1,
       cycles .ensures .0 .long,
     )
