@@ -1,55 +1,59 @@
-// Document 01's number and values for each case of each answer, as the definitions beside the answers give them.
+// Document 01's number and values for each case of a reading and of a translation, as the definitions beside the answers give them.
 use builder::Translation;
-use comparing::Comparison;
-use judging::PolicyVerdict;
-use judging::RowsVerdict;
 use reading::Outcome;
-use running::Reading;
 ghost use mathlib.Core.Path.{_≡_};
 ghost use mathlib.Core.Bool.{cond};
 ghost use lib.Dec.{eqb};
 ghost use Rattle.reading.specs.Reading.{offsetOf, numberOf as readNumberOf};
 ghost use Rattle.builder.specs.Tables.{countsOf, numberOf as translateNumberOf};
-ghost use Rattle.running.specs.Running.{runAfter, priorityOf, numberOf as runNumberOf};
-ghost use Rattle.judging.specs.Judging.{policyNumberOf, policyColoursOf, policyAcceptedOf, rowsNumberOf, rowsLeastOf};
-ghost use Rattle.comparing.specs.Comparing.{sameOf, numberOf as compareNumberOf};
+ghost use Rattle.wulfrenda.specs.Records.{flag};
 
-// ---- reading
-pub fn read_number(o: Outcome) -> u8
-    ensures { λ r. ⌜ r ≡ readNumberOf o ⌝ }
+// Yes or no as a byte.
+pub fn flag(b: bool) -> u8
+    ensures { λ r. ⌜ r ≡ flag b ⌝ }
 {
-    match o {
-        Outcome::Read(_) => 0,
-        Outcome::Refused(number, _) => number,
-    }
+    if b { 1 } else { 0 }
 }
 
-pub fn read_offset(o: Outcome) -> usize
-    ensures { λ r. ⌜ r ≡ offsetOf o ⌝ }
+// ---- reading
+pub struct ReadingValues {
+    pub number: u8,
+    pub offset: usize,
+}
+
+pub fn of_reading(o: Outcome) -> ReadingValues
+    ensures { λ r. ⌜ (r .number ≡ readNumberOf o) × (r .offset ≡ offsetOf o) ⌝ }
 {
     match o {
-        Outcome::Read(end) => end,
-        Outcome::Refused(_, at) => at,
+        Outcome::Read(end) => ReadingValues {
+            number: 0,
+            offset: end,
+        },
+        Outcome::Refused(number, at) => ReadingValues { number, offset: at },
     }
 }
 
 // ---- translating
-pub fn translate_number(t: Translation) -> u8
-    ensures { λ r. ⌜ r ≡ translateNumberOf t ⌝ }
-{
-    match t {
-        Translation::Translated(_, _, _) => 0,
-        Translation::Refused(number) => number,
-    }
+// The counts: how many nodes and built states there are, and the start.
+pub struct TranslationValues {
+    pub number: u8,
+    pub counts: [u16; 3],
 }
 
-// How many nodes and built states there are, and the start.
-pub fn translate_counts(t: Translation) -> [u16; 3]
-    ensures { λ r. ⌜ r ≡ countsOf t ⌝ }
+pub fn of_translation(t: Translation) -> TranslationValues
+    ensures { λ r. ⌜ (r .number ≡ translateNumberOf t) × (r .counts ≡ countsOf t) ⌝ }
 {
     match t {
-        Translation::Translated(nodes, states, start) => [nodes, states, start],
-        Translation::Refused(_) => [0, 0, 0],
+        Translation::Translated(nodes, states, start) => {
+            TranslationValues {
+                number: 0,
+                counts: [nodes, states, start],
+            }
+        }
+        Translation::Refused(number) => TranslationValues {
+            number,
+            counts: [0, 0, 0],
+        },
     }
 }
 
@@ -58,99 +62,4 @@ pub fn unless_refused(number: u8, offset: usize) -> usize
     ensures { λ r. ⌜ r ≡ cond (eqb number 0) offset 0 ⌝ }
 {
     if number == 0 { offset } else { 0 }
-}
-
-// ---- running
-pub fn run_number(x: Reading) -> u8
-    ensures { λ r. ⌜ r ≡ runNumberOf x ⌝ }
-{
-    match x {
-        Reading::Moved(_, _) => 0,
-        Reading::Refused(number, _) => number,
-    }
-}
-
-pub fn run_state(x: Reading) -> u16
-    ensures { λ r. ⌜ r ≡ runAfter x .state ⌝ }
-{
-    match x {
-        Reading::Moved(run, _) => run.state,
-        Reading::Refused(_, run) => run.state,
-    }
-}
-
-pub fn run_priority(x: Reading) -> u8
-    ensures { λ r. ⌜ r ≡ priorityOf x ⌝ }
-{
-    match x {
-        Reading::Moved(_, priority) => priority,
-        Reading::Refused(_, _) => 0,
-    }
-}
-
-// ---- judging
-pub fn policy_number(v: PolicyVerdict) -> u8
-    ensures { λ r. ⌜ r ≡ policyNumberOf v ⌝ }
-{
-    match v {
-        PolicyVerdict::Judged(_, _) => 0,
-        PolicyVerdict::Refused(number) => number,
-    }
-}
-
-pub fn policy_colours(v: PolicyVerdict) -> u8
-    ensures { λ r. ⌜ r ≡ policyColoursOf v ⌝ }
-{
-    match v {
-        PolicyVerdict::Judged(colours, _) => colours,
-        PolicyVerdict::Refused(_) => 0,
-    }
-}
-
-pub fn policy_accepted(v: PolicyVerdict) -> bool
-    ensures { λ r. ⌜ r ≡ policyAcceptedOf v ⌝ }
-{
-    match v {
-        PolicyVerdict::Judged(_, accepted) => accepted,
-        PolicyVerdict::Refused(_) => false,
-    }
-}
-
-pub fn rows_number(v: RowsVerdict) -> u8
-    ensures { λ r. ⌜ r ≡ rowsNumberOf v ⌝ }
-{
-    match v {
-        RowsVerdict::Least(_) => 0,
-        RowsVerdict::Refused(number) => number,
-    }
-}
-
-pub fn rows_least(v: RowsVerdict) -> u8
-    ensures { λ r. ⌜ r ≡ rowsLeastOf v ⌝ }
-{
-    match v {
-        RowsVerdict::Least(priority) => priority,
-        RowsVerdict::Refused(_) => 0,
-    }
-}
-
-// ---- comparing
-pub fn compare_number(c: Comparison) -> u8
-    ensures { λ r. ⌜ r ≡ compareNumberOf c ⌝ }
-{
-    match c {
-        Comparison::Same => 0,
-        Comparison::Different => 0,
-        Comparison::Refused(number) => number,
-    }
-}
-
-pub fn compare_same(c: Comparison) -> bool
-    ensures { λ r. ⌜ r ≡ sameOf c ⌝ }
-{
-    match c {
-        Comparison::Same => true,
-        Comparison::Different => false,
-        Comparison::Refused(_) => false,
-    }
 }

@@ -1,9 +1,13 @@
 // The functions of the static library, for C and for Rust (include/wulfrenda.h). A policy crosses the boundary as a record of 388 bytes (specs/Records.antt), lent with its length;
 // bytes of another length are no policy's, and refused with 7. Each function that can refuse returns document 01's number, 0 where nothing was refused, and writes what else it answers
-// into places that the caller lends.
+// into places that the caller lends. The seven tables are seven parameters: each crosses as a pointer and a length.
 mod answers;
 mod records;
 
+use comparing::Comparison;
+use judging::PolicyVerdict;
+use judging::RowsVerdict;
+use running::Reading;
 use running::Run;
 ghost use mathlib.Core.Path.{_≡_};
 ghost use mathlib.Core.Bool.{cond};
@@ -48,8 +52,9 @@ pub extern "C" fn wulfrenda_read(bytes: &[u8], packed: &mut [u8], offset: &mut u
     let p = answer.policy;
     let outcome = answer.outcome;
     records::put_record(packed, p);
-    *offset = answers::read_offset(outcome);
-    answers::read_number(outcome)
+    let values = answers::of_reading(outcome);
+    *offset = values.offset;
+    values.number
 }
 
 // The forest and the automaton in the seven tables; the numbers of nodes and states, and the start, in counts.
@@ -80,8 +85,10 @@ pub extern "C" fn wulfrenda_translate(
         targets,
         priorities,
     );
-    *counts = answers::translate_counts(t);
-    answers::translate_number(t)
+    let values = answers::of_translation(t);
+    let found = values.counts;
+    *counts = found;
+    values.number
 }
 
 // The two in one: the command bytes are read, and the policy that they give is translated. What was read is legal, so question 7 is not asked again; after a refused reading the policy
@@ -107,12 +114,11 @@ pub extern "C" fn wulfrenda_translate_bytes(
     let answer = reading::read(bytes);
     let p = answer.policy;
     let outcome = answer.outcome;
-    let at = answers::read_offset(outcome);
-    let number = answers::read_number(outcome);
-    if number != 0 {
+    let read = answers::of_reading(outcome);
+    if read.number != 0 {
         *counts = [0, 0, 0];
-        *offset = at;
-        return number;
+        *offset = read.offset;
+        return read.number;
     }
     let t = builder::translate_legal(
         p,
@@ -124,10 +130,11 @@ pub extern "C" fn wulfrenda_translate_bytes(
         targets,
         priorities,
     );
-    *counts = answers::translate_counts(t);
-    let refusal = answers::translate_number(t);
-    *offset = answers::unless_refused(refusal, at);
-    refusal
+    let values = answers::of_translation(t);
+    let found = values.counts;
+    *counts = found;
+    *offset = answers::unless_refused(values.number, read.offset);
+    values.number
 }
 
 // A letter more: the state moves, or stays after a refusal; the priority is that met, or 0 after a refusal.
@@ -146,9 +153,18 @@ pub extern "C" fn wulfrenda_run(
 {
     let run = Run { state: *state };
     let x = run.read(letter, letters, targets, priorities);
-    *state = answers::run_state(x);
-    *priority = answers::run_priority(x);
-    answers::run_number(x)
+    match x {
+        Reading::Moved(moved, met) => {
+            *state = moved.state;
+            *priority = met;
+            0
+        }
+        Reading::Refused(number, kept) => {
+            *state = kept.state;
+            *priority = 0;
+            number
+        }
+    }
 }
 
 // The colours that recur on a policy from a state over the stem and then the loop without end, and whether their set is in the family.
@@ -167,9 +183,18 @@ pub extern "C" fn wulfrenda_judge_policy(
 {
     let p = records::policy_of(packed);
     let v = judging::judge_policy(p, state, stem, period);
-    *colours = answers::policy_colours(v);
-    *accepted = records::flag(answers::policy_accepted(v));
-    answers::policy_number(v)
+    match v {
+        PolicyVerdict::Judged(set, yes) => {
+            *colours = set;
+            *accepted = answers::flag(yes);
+            0
+        }
+        PolicyVerdict::Refused(number) => {
+            *colours = 0;
+            *accepted = 0;
+            number
+        }
+    }
 }
 
 // The least priority that recurs over rows from a state over the stem and then the loop without end.
@@ -187,8 +212,16 @@ pub extern "C" fn wulfrenda_judge_rows(
     ensures least { λ _. ⌜ now (least .exit) ≡ rowsLeastOf (rowsVerdict letters (now (targets .entry)) (now (priorities .entry)) (record { state = state }) (now (stem .entry)) (now (period .entry))) ⌝ }
 {
     let v = judging::judge_rows(letters, targets, priorities, state, stem, period);
-    *least = answers::rows_least(v);
-    answers::rows_number(v)
+    match v {
+        RowsVerdict::Least(priority) => {
+            *least = priority;
+            0
+        }
+        RowsVerdict::Refused(number) => {
+            *least = 0;
+            number
+        }
+    }
 }
 
 // Whether every cycle has the same verdict in both policies.
@@ -200,6 +233,18 @@ pub extern "C" fn wulfrenda_compare(first: &[u8], second: &[u8], same: &mut u8) 
     let p = records::policy_of(first);
     let q = records::policy_of(second);
     let c = comparing::compare(p, q);
-    *same = records::flag(answers::compare_same(c));
-    answers::compare_number(c)
+    match c {
+        Comparison::Same => {
+            *same = 1;
+            0
+        }
+        Comparison::Different => {
+            *same = 0;
+            0
+        }
+        Comparison::Refused(number) => {
+            *same = 0;
+            number
+        }
+    }
 }

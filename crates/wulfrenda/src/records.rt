@@ -1,4 +1,5 @@
 // A policy as a record of 388 bytes, and back. Bytes of another length are no record.
+use crate::answers;
 use policy::Policy;
 ghost use mathlib.Core.Path.{_≡_};
 ghost use mathlib.Core.List.{map};
@@ -9,13 +10,6 @@ ghost use Rattle.wulfrenda.specs.Records.{flag, recordLength, bytesAt, f
 
 // How long a record is (recordLength).
 pub const LENGTH: usize = 388;
-
-// Yes or no as a byte.
-pub fn flag(b: bool) -> u8
-    ensures { λ r. ⌜ r ≡ flag b ⌝ }
-{
-    if b { 1 } else { 0 }
-}
 
 // ---- from a record
 // 64 bytes of a record, from a place on.
@@ -77,7 +71,7 @@ fn put_flags(packed: &mut [u8], at: usize, flags: &[bool])
     ensures { λ _. ⌜ now (packed .exit) ≡ sets (now (packed .entry)) at (map flag (now (flags .entry))) ⌝ }
 {
     for i in 0..flags.len() {
-        packed[at + i] = flag(flags[i]);
+        packed[at + i] = answers::flag(flags[i]);
     }
 }
 

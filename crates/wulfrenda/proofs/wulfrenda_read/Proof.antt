@@ -17,33 +17,23 @@ read-requires c κs = search needs
 put-record-requires : tie.Need-put-record-requires
 put-record-requires c κs = search needs
 
-read-offset-requires : tie.Need-read-offset-requires
-read-offset-requires c κs = search needs
-
-read-number-requires : tie.Need-read-number-requires
-read-number-requires c κs = search needs
+of-reading-requires : tie.Need-of-reading-requires
+of-reading-requires c κs = search needs
 
 same-length : tie.Need-same-length
 same-length c = search needs
 
 returns-2 : tie.Need-returns-2
 returns-2 c =
-    let stored = c .before .before .before .before in
+    let stored = c .before .before .before in
     let read = stored .before .before .before in
     let is = read .read .ensures .answer-is in
-    let number = c .read-number .ensures ∙ ap (λ (a : Answer). numberOf (a .outcome)) is in
+    let values = c .of-reading .ensures in
+    let number = values .0 ∙ ap (λ (a : Answer). numberOf (a .outcome)) is in
     let policy = stored .put-record .ensures ∙ ap (λ (a : Answer). recordOf (a .policy)) is in
-    let offset = c .before .read-offset .ensures ∙ ap (λ (a : Answer). offsetOf (a .outcome)) is in
+    let offset = values .1 ∙ ap (λ (a : Answer). offsetOf (a .outcome)) is in
     rw (eq-eqb _ recordLength (read .before .if1 .left)) (number, (policy, offset))
 
 pub wulfrenda-read-spec : {M : Type 1} → statement M
 wulfrenda-read-spec =
-    tie.close
-    (tie.spec
-    returns
-    read-requires
-    put-record-requires
-    read-offset-requires
-    read-number-requires
-    same-length
-    returns-2)
+    tie.close (tie.spec returns read-requires put-record-requires of-reading-requires same-length returns-2)

@@ -13,42 +13,38 @@ use borrow.Author.Needs.{needs}
 use Rattle.wulfrenda.proofs.wulfrenda_translate_bytes.Statement.{statement}
 use Rattle.wulfrenda.proofs.wulfrenda_translate_bytes.Tie as tie
 
--- the places that the answers look back to
+-- the places that the answers look back to: the number of the reading was asked about, and the policy translated
 abbrev start : tie.After-read → tie.Start
 start c = c .before .before .before .before .before .before .before .before .before
 
-abbrev read : tie.After-read-number → tie.After-read
-read c = c .before .before .before
-
-abbrev asked : tie.Else1 → tie.After-read-number
-asked c = c .before
+abbrev read : tie.After-of-reading → tie.After-read
+read c = c .before .before
 
 abbrev passed : tie.After-translate-legal-arg7 → tie.Else1
 passed c = c .before .before .before .before .before .before .before
 
+abbrev asked : tie.Else1 → tie.After-of-reading
+asked c = c .before .before
+
 abbrev translated : tie.After-unless-refused → tie.After-translate-legal
 translated c = c .before .before .before .before .before .before .before .before .before .before .before .before .before .before .before .before .before
 
--- the number of the reading
-number-read : (c : tie.After-read-number) → c .read-number .result ≡ readNumberOf (readingOf (start (read c) .args .bytes .now) .outcome)
-number-read c = c .read-number .ensures ∙ ap (λ (x : Answer). readNumberOf (x .outcome)) (read c .read .ensures .answer-is)
+-- the number and the offset of the reading
+number-read : (c : tie.After-of-reading) → c .of-reading .result .number ≡ readNumberOf (readingOf (start (read c) .args .bytes .now) .outcome)
+number-read c = c .of-reading .ensures .0 ∙ ap (λ (x : Answer). readNumberOf (x .outcome)) (read c .read .ensures .answer-is)
 
--- the offset of the reading
-offset-read : (c : tie.After-read-number) → c .before .read-offset .result ≡ offsetOf (readingOf (start (read c) .args .bytes .now) .outcome)
-offset-read c = c .before .read-offset .ensures ∙ ap (λ (x : Answer). offsetOf (x .outcome)) (read c .read .ensures .answer-is)
+offset-read : (c : tie.After-of-reading) → c .of-reading .result .offset ≡ offsetOf (readingOf (start (read c) .args .bytes .now) .outcome)
+offset-read c = c .of-reading .ensures .1 ∙ ap (λ (x : Answer). offsetOf (x .outcome)) (read c .read .ensures .answer-is)
 
 read-requires : tie.Need-read-requires
 read-requires c κs = search needs
 
-read-offset-requires : tie.Need-read-offset-requires
-read-offset-requires c κs = search needs
-
-read-number-requires : tie.Need-read-number-requires
-read-number-requires c κs = search needs
+of-reading-requires : tie.Need-of-reading-requires
+of-reading-requires c κs = search needs
 
 returns : tie.Need-returns
 returns c =
-    let r = c .before .before in
+    let r = c .before .before .before in
     let a = start (read r) .args in
     let n = number-read r in
     let refused = c .before .if1 .taken in
@@ -64,66 +60,47 @@ translate-legal-requires c κs =
     let r = asked (passed c) in
     ap (λ (x : Answer). legal (x .policy)) (read r .read .ensures .answer-is) ∙ number-legal (start (read r) .args .bytes .now) (sym (number-read r) ∙ passed c .if1 .left)
 
-translate-counts-requires : tie.Need-translate-counts-requires
-translate-counts-requires c κs = search needs
-
-translate-number-requires : tie.Need-translate-number-requires
-translate-number-requires c κs = search needs
+of-translation-requires : tie.Need-of-translation-requires
+of-translation-requires c κs = search needs
 
 unless-refused-requires : tie.Need-unless-refused-requires
 unless-refused-requires c κs = search needs
 
 same-length : tie.Need-same-length
-same-length c = search needs
+same-length c = translated c .translate-legal .kept .1 .0
 
 same-length-2 : tie.Need-same-length-2
-same-length-2 c = search needs
+same-length-2 c = translated c .translate-legal .kept .1 .1 .0
 
 same-length-3 : tie.Need-same-length-3
-same-length-3 c = search needs
+same-length-3 c = translated c .translate-legal .kept .1 .1 .1 .0
 
 same-length-4 : tie.Need-same-length-4
-same-length-4 c = search needs
+same-length-4 c = translated c .translate-legal .kept .1 .1 .1 .1 .0
 
 same-length-5 : tie.Need-same-length-5
-same-length-5 c = search needs
+same-length-5 c = translated c .translate-legal .kept .1 .1 .1 .1 .1 .0
 
 same-length-6 : tie.Need-same-length-6
-same-length-6 c = search needs
+same-length-6 c = translated c .translate-legal .kept .1 .1 .1 .1 .1 .1 .0
 
 same-length-7 : tie.Need-same-length-7
-same-length-7 c = search needs
+same-length-7 c = translated c .translate-legal .kept .1 .1 .1 .1 .1 .1 .1 .0
 
 returns-2 : tie.Need-returns-2
 returns-2 c =
     let call = translated c in
-    let passing = call .before .before .before .before .before .before .before .before in
+    let passing = passed (call .before) in
     let r = asked passing in
     let t = same-policy (ap (λ (x : Answer). x .policy) (read r .read .ensures .answer-is)) (call .translate-legal .ensures) in
+    let values = c .before .before .of-translation in
     let zero = sym (number-read r) ∙ passing .if1 .left in
-    let n = c .before .translate-number .ensures ∙ ap numberOf (t .answer-is) in
+    let n = values .ensures .0 ∙ ap numberOf (t .answer-is) in
     let number = first-passed _ _ _ 0 zero n in
-    let counts = c .before .before .translate-counts .ensures ∙ ap countsOf (t .answer-is) in
-    let offset = c .unless-refused .ensures ∙ ap (λ (x : ℕ). cond (eqb (c .before .translate-number .result) 0) x 0) (offset-read r) ∙ offset-passed _ _ _ _ zero n in
+    let counts = values .ensures .1 ∙ ap countsOf (t .answer-is) in
+    let offset = c .unless-refused .ensures ∙ ap (λ (x : ℕ). cond (eqb (values .result .number) 0) x 0) (offset-read r) ∙ offset-passed _ _ _ _ zero n in
     (number, (counts, (t .tables-are, offset)))
 
 pub wulfrenda-translate-bytes-spec : {M : Type 1} → statement M
 wulfrenda-translate-bytes-spec =
-    tie.close
-    (tie.spec
-    read-requires
-    read-offset-requires
-    read-number-requires
-    returns
-    translate-legal-requires
-    translate-counts-requires
-    translate-number-requires
-    unless-refused-requires
-    same-length
-    same-length-2
-    same-length-3
-    same-length-4
-    same-length-5
-    same-length-6
-    same-length-7
-    returns-2)
+    tie.close (tie.spec read-requires of-reading-requires returns translate-legal-requires of-translation-requires unless-refused-requires same-length same-length-2 same-length-3 same-length-4 same-length-5 same-length-6 same-length-7 returns-2)
