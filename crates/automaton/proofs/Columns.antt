@@ -1,14 +1,13 @@
 -- Tables that begin with a column of the nodes or of the built states: how long they are, and what stands in each place. Assumes nothing.
 use Prim.Native.Nat.{ℕ, _+_, _≤_, _<_}
 use native.Mathlib.Omega.{arith}
-use mathlib.Core.Path.{_≡_, ap, _∙_}
+use mathlib.Core.Path.{_≡_, _∙_}
 use mathlib.Core.Bool.{false}
 use mathlib.Core.List.{List}
 use lib.ListN.{length, getD, length-map}
-use Rattle.lists.specs.Lists.{below}
 use Rattle.lists.proofs.Lists.{length-map-below, getD-map-below}
 use Rattle.tables.specs.Tables.{Column}
-use Rattle.tables.proofs.Columns.{column-long, column-at}
+use Rattle.tables.proofs.Columns.{column-at}
 use Rattle.policy.specs.declared.Policy.{Policy}
 use Rattle.forest.specs.Forest.{Node, forest, node, priority, nodeMasks, nodeParents, nodePriorities}
 use Rattle.forest.specs.Laws.{maskAt, parentAt}

@@ -1,5 +1,5 @@
 -- The built automaton (document 01, "The built automaton"; document 004, Definition 5.12), over the numbered nodes ns of the forest.
-use Prim.Native.Nat.{min, ℕ, zero, suc, _+_, _*_}
+use Prim.Native.Nat.{min, ℕ}
 use mathlib.Core.Bool.{Bool, not, _&&_, cond}
 use mathlib.Core.List.{List, [], _∷_, map}
 use lib.Dec.{eqb, ltb, leb}

@@ -1,10 +1,10 @@
 -- What the stages after the nodes rest on: the tables that one hands to the next, and what they answer and leave. Assumes nothing.
-use Prim.Native.Nat.{ℕ, _+_, _*_, _≤_, min}
+use Prim.Native.Nat.{ℕ, _*_, _≤_, min}
 use native.Mathlib.Omega.{arith}
 use native.Mathlib.Nat.{mul-comm, mul-le-mul-right}
 use mathlib.Core.Path.{_≡_, refl, sym, ap, ap₂, _∙_, subst}
 use mathlib.Core.Bool.{Bool, true, false}
-use mathlib.Core.List.{List}
+use mathlib.Core.List.{List, [], _∷_}
 use lib.ListN.{length}
 use lib.Seq.{sets}
 use Rattle.lists.proofs.Bools.{le-true}
@@ -51,6 +51,8 @@ module _ {p : Policy} {s₀ l₀ t₀ k₀ : List ℕ} (z : Sized p s₀ l₀ t�
     unfolding buildingOf builtFit places zeros
     builds-cleared b = record {
       answer-is = rw (long s₀ es) at (b .answer-is);
+      number-is = rw (long s₀ es) at (b .number-is);
+      counts-are = rw (long s₀ es) at (b .counts-are);
       sources-are = rw (long s₀ es) at (b .sources-are);
       leaves-are = rw (long s₀ es, long l₀ el) at (b .leaves-are);
       targets-are = rw (long s₀ es, long t₀ et) at (b .targets-are);
@@ -90,6 +92,8 @@ module _ {p : Policy} {s₀ l₀ t₀ k₀ : List ℕ} (z : Sized p s₀ l₀ t�
       unfolding buildingOf
       built-whole et ek ea = record {
         answer-is = rw fits-so (ap₂ (λ (c a : ℕ). Whole c a) (w .count-is) ea);
+        number-is = rw fits-so refl;
+        counts-are = rw fits-so (ap₂ (λ (c a : ℕ). c ∷ a ∷ []) (w .count-is) ea);
         sources-are = w .sources-are;
         leaves-are = w .leaves-are;
         targets-are = rw fits-so et;
@@ -101,4 +105,4 @@ module _ {p : Policy} {s₀ l₀ t₀ k₀ : List ℕ} (z : Sized p s₀ l₀ t�
     unfolding buildingOf
     built-none f c =
         let fits-not : builtFit p s₀ ≡ false = sym (w .fits-is) ∙ f in
-        record { answer-is = rw fits-not refl; sources-are = w .sources-are; leaves-are = w .leaves-are; targets-are = rw fits-not (c .targets-are); priorities-are = rw fits-not (c .priorities-are) }
+        record { answer-is = rw fits-not refl; number-is = rw fits-not refl; counts-are = rw fits-not refl; sources-are = w .sources-are; leaves-are = w .leaves-are; targets-are = rw fits-not (c .targets-are); priorities-are = rw fits-not (c .priorities-are) }

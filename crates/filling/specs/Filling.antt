@@ -2,8 +2,9 @@
 use Prim.Native.Nat.{ℕ, _*_}
 use mathlib.Core.Path.{_≡_}
 use mathlib.Core.Bool.{cond}
-use mathlib.Core.List.{List}
+use mathlib.Core.List.{List, [], _∷_}
 use lib.ListN.{length}
+use Rattle.lists.specs.Questions.{ask}
 use Rattle.tables.specs.Tables.{padded, zeros}
 use Rattle.policy.specs.declared.Policy.{Policy}
 use Rattle.automaton.specs.Automaton.{built, start, rowTargets, rowPriorities, stateSources, stateLeaves, builtFit}
@@ -23,6 +24,17 @@ pub record Clear (sources leaves targets priorities : List ℕ) : Type 0 where
   pub targets-are : targets ≡ zeros targets
   pub priorities-are : priorities ≡ zeros priorities
 
+-- ---- document 01's number and values for each answer
+-- the number of the refusal; 0 where the states fit
+abbrev pub numberOf : Building → ℕ
+numberOf (Whole states start) = 0
+numberOf TooMany = 10
+
+-- how many built states there are, and the start; 0 each after a refusal
+abbrev pub countsOf : Building → List ℕ
+countsOf (Whole states start) = states ∷ start ∷ []
+countsOf TooMany = 0 ∷ 0 ∷ []
+
 -- how many built states there are, and the start; or that they do not fit the state table
 unfoldable pub buildingOf : Policy → List ℕ → Building
 buildingOf p sources = cond (builtFit p sources) (Whole (length (built p)) (start p)) TooMany
@@ -30,6 +42,8 @@ buildingOf p sources = cond (builtFit p sources) (Whole (length (built p)) (star
 -- the answer, and the four tables at the end, from what they were: their columns where the states fit, and otherwise 0 in every place
 pub record Builds (p : Policy) (sources₀ leaves₀ targets₀ priorities₀ : List ℕ) (answer : Building) (sources leaves targets priorities : List ℕ) : Type 0 where
   pub answer-is : answer ≡ buildingOf p sources₀
+  pub number-is : numberOf answer ≡ ask (builtFit p sources₀) 10 0
+  pub counts-are : countsOf answer ≡ cond (builtFit p sources₀) (length (built p) ∷ start p ∷ []) (0 ∷ 0 ∷ [])
   pub sources-are : sources ≡ cond (builtFit p sources₀) (padded (length sources₀) (stateSources p)) (zeros sources₀)
   pub leaves-are : leaves ≡ cond (builtFit p sources₀) (padded (length leaves₀) (stateLeaves p)) (zeros leaves₀)
   pub targets-are : targets ≡ cond (builtFit p sources₀) (padded (length targets₀) (rowTargets p)) (zeros targets₀)

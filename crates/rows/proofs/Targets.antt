@@ -20,7 +20,7 @@ use Rattle.graph.proofs.Cycles.{contains-inside}
 use Rattle.forest.specs.Forest.{Node, forest, chain, childOf, inRoot}
 use Rattle.forest.specs.Laws.{ForestLaws, maskAt}
 use Rattle.forest.proofs.Chains.{chain-lt}
-use Rattle.automaton.specs.Automaton.{next, deepest, lead, kids, isLeaf, leaves, entered, firstLeafBelow, leafAfter, stateAt, number, stateLeaves}
+use Rattle.automaton.specs.Automaton.{next, deepest, lead, kids, isLeaf, leaves, entered, firstLeafBelow, leafAfter, number, stateLeaves}
 use Rattle.automaton.specs.Stages.{endOf, firstOver}
 use Rattle.automaton.proofs.Branch.{chain-inside, child-above, child-lt, child-between, lead-is}
 use Rattle.automaton.proofs.Columns.{leaf-at}

@@ -45,8 +45,5 @@ module _ {A : Type 0} (f : A → ℕ) where
   map-at (x ∷ l) d (suc i) h = map-at l d i (omega arith)
 
   module _ (l : List A) {t : List ℕ} (c : Column (map f l) t) where
-    pub column-long : length l ≤ length t
-    column-long = omega (arith, c .long, length-map l f)
-
     pub column-at : (d : A) (i : ℕ) → i < length l → getD t i 0 ≡ f (getD l i d)
     column-at d i h = c .each i (omega (arith, length-map l f)) ∙ map-at l d i h

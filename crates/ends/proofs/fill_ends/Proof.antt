@@ -1,14 +1,11 @@
 -- `fill_ends` meets its contract. The invariant, for every policy that the parents are of: each node from n on has raised the end of its parent; and what stands past
 -- the nodes is as it was. Assumes nothing.
-use Prim.Native.Nat.{ℕ, _≤_}
+use Prim.Native.Nat.{_≤_}
 use native.Mathlib.Omega.{arith}
-use mathlib.Core.Path.{_≡_}
-use lib.Seq.{sets}
 use borrow.Author.Needs.{needs}
 use Rattle.forest.specs.Forest.{forest}
 use Rattle.policy.specs.declared.Policy.{Policy}
 use Rattle.automaton.proofs.Ends.{Raised}
-use Rattle.ends.specs.Raising.{successors}
 use Rattle.ends.proofs.Raising.{KeptFrom, kept-none, kept-raised, Filling, fill-room, fill-start, fill-up, fill-root, fill-child, fill-done}
 use Rattle.ends.proofs.fill_ends.Statement.{statement}
 use Rattle.ends.proofs.fill_ends.Tie as tie

@@ -1,5 +1,5 @@
 -- The loop stays within the 8,192 places; state and letter are never more than the rows passed. Assumes nothing.
-use Prim.Native.Nat.{_≤_, _<_, _-_}
+use Prim.Native.Nat.{_≤_, _-_}
 use borrow.Author.Needs.{needs}
 use Rattle.printing.proofs.show_rows.Statement.{statement}
 use Rattle.printing.proofs.show_rows.Tie as tie

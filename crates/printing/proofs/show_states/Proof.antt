@@ -1,5 +1,5 @@
 -- The loop stays within the 1,024 places. Assumes nothing.
-use Prim.Native.Nat.{_≤_, _<_, _-_}
+use Prim.Native.Nat.{_≤_, _-_}
 use borrow.Author.Needs.{needs}
 use Rattle.printing.proofs.show_states.Statement.{statement}
 use Rattle.printing.proofs.show_states.Tie as tie

@@ -5,7 +5,7 @@ use mathlib.Core.Path.{_≡_, refl, _∙_}
 use mathlib.Core.List.{_++_}
 use lib.ListN.{length}
 use borrow.Author.Needs.{needs}
-use Rattle.trees.specs.Growing.{TreeToWrite, TreeWritten}
+use Rattle.trees.specs.Growing.{TreeToWrite}
 use Rattle.trees.proofs.Growing.{lists-few, row-long}
 use Rattle.trees.proofs.Roots.{RootsWritten, roots-none, roots-more, roots-grow, roots-over, roots-all, root-to-write, roots-searched}
 use Rattle.trees.proofs.grow_roots.Statement.{statement}

@@ -3,7 +3,6 @@ use Prim.Native.Nat.{ℕ, _+_, _-_}
 use native.Mathlib.Omega.{arith}
 use mathlib.Core.Path.{refl}
 use lib.ListN.{getD}
-use borrow.Author.Needs.{needs}
 use Rattle.wulfrenda.specs.Records.{bytesAt}
 use Rattle.wulfrenda.proofs.Copies.{Copied, copied-none, copied-more, copied-all}
 use Rattle.wulfrenda.proofs.records.bytes_at.Statement.{statement}
