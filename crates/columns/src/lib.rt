@@ -7,7 +7,7 @@ ghost use Rattle.policy.specs.Policies.{legal};
 ghost use Rattle.policy.specs.ByColour.{byColour};
 ghost use Rattle.candidates.specs.Candidates.{mostCandidates};
 ghost use Rattle.trees.specs.Growing.{ForestWritten};
-ghost use Rattle.columns.specs.Space.{Space};
+ghost use Rattle.columns.specs.CandidateScratch.{CandidateScratch};
 use policy::Policy;
 
 // How many candidates there can be.
@@ -33,7 +33,7 @@ fn fill_with(
     requires lawful { ⌜ legal p ≡ true ⌝ }
     requires lent { ⌜ (now heads ≡ p .target) × (now by ≡ byColour p) × (now family ≡ p .family) ⌝ }
     requires tables { ⌜ length (now parents) ≡ length (now masks) ⌝ }
-    requires space { ⌜ Space p (mostCandidates p) (now accepting) (now rejecting) (now scratch) ⌝ }
+    requires space { ⌜ CandidateScratch p (mostCandidates p) (now accepting) (now rejecting) (now scratch) ⌝ }
     ensures { λ r. ⌜ ForestWritten p (now (masks .entry)) (now (parents .entry)) (now (masks .exit)) (now (parents .exit)) r ⌝ }
 {
     let mut roots = [0u64; 16];
@@ -78,7 +78,7 @@ fn fill_within(
     requires lawful { ⌜ legal p ≡ true ⌝ }
     requires lent { ⌜ (now heads ≡ p .target) × (now by ≡ byColour p) × (now family ≡ p .family) ⌝ }
     requires tables { ⌜ length (now parents) ≡ length (now masks) ⌝ }
-    requires space { ⌜ Space p (length (now accepting)) (now accepting) (now rejecting) (now scratch) ⌝ }
+    requires space { ⌜ CandidateScratch p (length (now accepting)) (now accepting) (now rejecting) (now scratch) ⌝ }
     ensures { λ r. ⌜ ForestWritten p (now (masks .entry)) (now (parents .entry)) (now (masks .exit)) (now (parents .exit)) r ⌝ }
 {
     let most = most_candidates(p);

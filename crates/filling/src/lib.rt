@@ -188,6 +188,21 @@ pub fn build(
 {
     clear_built(sources, leaves, targets, priorities);
     let mut ends = [0u16; 64];
+    if count <= 64 {
+        return fill_built(
+            p,
+            heads,
+            masks,
+            parents,
+            node_priorities,
+            &mut ends,
+            count,
+            sources,
+            leaves,
+            targets,
+            priorities,
+        );
+    }
     build_within(
         p,
         heads,

@@ -10,7 +10,7 @@ use Rattle.recurrence.specs.declared.Search.{Search}
 use Rattle.recurrence.specs.Runs.{after, met, window}
 use Rattle.recurrence.specs.Search.{searchFrom, searchNext}
 use Rattle.recurrence.proofs.Runs.{after-keeps, through-run, through-value}
-use Rattle.recurrence.proofs.Seeking.{searchLeft, Numbered, Collects, Sought, seeking-few, seeking-within, sought-start, round-more, round-less}
+use Rattle.recurrence.proofs.Seeking.{searchLeft, Numbered, Collects, Searched, seeking-few, seeking-within, searched-start, round-more, round-less}
 use Rattle.masks.specs.Masks.{insert, setOf}
 use Rattle.masks.proofs.SetOf.{set-same, set-append}
 use Rattle.policy.specs.declared.Policy.{Policy}
@@ -81,8 +81,8 @@ module _ (p : Policy) where
     abbrev colours : ℕ → List ℕ
     colours = met (policyStep p) (policyMeets p) loop
 
-    abbrev pub ColoursSought : Search → Type 0
-    ColoursSought s = Sought round colours v (λ v. v) setOf (p .states) s
+    abbrev pub ColoursSearched : Search → Type 0
+    ColoursSearched s = Searched round colours v (λ v. v) setOf (p .states) s
 
     module _ (ok : legal p ≡ true) (start : v < p .states) where
       abbrev numbered : Numbered round v (λ v. v) (p .states)
@@ -94,11 +94,11 @@ module _ (p : Policy) where
         start = start;
       }
 
-      pub colours-start : ColoursSought (searchFrom v 0)
+      pub colours-start : ColoursSearched (searchFrom v 0)
       unfolding setOf
-      colours-start = sought-start round colours v (λ v. v) setOf (p .states) numbered
+      colours-start = searched-start round colours v (λ v. v) setOf (p .states) numbered
 
-      module _ (s : Search) (h : ColoursSought s) (going : s .found ≡ false) where
+      module _ (s : Search) (h : ColoursSearched s) (going : s .found ≡ false) where
         pub colours-within : s .state < p .states
         colours-within = seeking-within round colours v (λ v. v) setOf (p .states) numbered s (h .seeks going)
 
@@ -112,7 +112,7 @@ module _ (p : Policy) where
           added : one .colours ≡ setOf (colours (s .state))
           added = ap (λ (m : Coloured). m .colours) is ∙ word-adds loop (s .state)
 
-          pub colours-next : (t : Search) → t ≡ searchNext s (one .state) (one .colours) (bitOr (s .value) (one .colours)) 0 → ColoursSought t × (searchLeft (p .states) t < searchLeft (p .states) s)
+          pub colours-next : (t : Search) → t ≡ searchNext s (one .state) (one .colours) (bitOr (s .value) (one .colours)) 0 → ColoursSearched t × (searchLeft (p .states) t < searchLeft (p .states) s)
           unfolding setOf
           colours-next t e =
               rw e (
@@ -122,7 +122,7 @@ module _ (p : Policy) where
                     (one .state) (one .colours) ended added,
               )
 
-    pub colours-found : (s : Search) → ColoursSought s → s .found ≡ true → s .value ≡ recurringColours p v [] loop
+    pub colours-found : (s : Search) → ColoursSearched s → s .found ≡ true → s .value ≡ recurringColours p v [] loop
     unfolding recurringColours window after
     colours-found s h e = h .recurs e
 

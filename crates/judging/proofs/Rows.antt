@@ -12,7 +12,7 @@ use Rattle.recurrence.specs.Runs.{after, met, window}
 use Rattle.recurrence.specs.Search.{searchFrom, searchNext}
 use Rattle.recurrence.proofs.Runs.{after-keeps, after-any, through-run, through-value}
 use Rattle.recurrence.proofs.Repeats.{iter-any, rounds-snoc, before-first}
-use Rattle.recurrence.proofs.Seeking.{searchLeft, Numbered, Collects, Sought, seeking-few, seeking-within, sought-start, round-more, round-less}
+use Rattle.recurrence.proofs.Seeking.{searchLeft, Numbered, Collects, Searched, seeking-few, seeking-within, searched-start, round-more, round-less}
 use Rattle.running.specs.declared.Run.{Run}
 use Rattle.running.specs.declared.Reading.{Reading}
 use Rattle.running.specs.declared.Reading.the-variants.{Moved, Refused}
@@ -127,12 +127,12 @@ module _ (letters : ℕ) (targets priorities : List ℕ) where
     abbrev danglingFirst : ℕ → List ℕ
     danglingFirst k = rounds (after step dangles loop) (met step dangles loop) first 0 k
 
-    abbrev pub LeastSought : Search → Type 0
-    LeastSought t = Sought round priorities-met first (λ r. r .state) leastOf n t
+    abbrev pub LeastSearched : Search → Type 0
+    LeastSearched t = Searched round priorities-met first (λ r. r .state) leastOf n t
 
     -- the least since the kept state, and whether any round read a dangling target; t .limit + t .since counts the rounds run, and one more
-    pub record SeenSought (t : Search) (b : Bool) : Type 0 where
-      pub least : LeastSought t
+    pub record SeenSearched (t : Search) (b : Bool) : Type 0 where
+      pub least : LeastSearched t
       pub so-far : t .found ≡ false → (k : ℕ) → t .limit + t .since ≡ suc k → b ≡ danglingIn before (danglingFirst k)
       pub ever : t .found ≡ true → b ≡ before || everDangling letters targets priorities first [] loop
 
@@ -143,10 +143,10 @@ module _ (letters : ℕ) (targets priorities : List ℕ) where
       abbrev numbered : {B : Type 0} (m : Run → ℕ → List B) → Numbered (after step m loop) first (λ r. r .state) n
       numbered m = record { decode = λ c. record { state = c }; decoded = λ r. refl; coded = λ c. refl; stays = keeps m; start = start }
 
-      pub seen-start : SeenSought (searchFrom v 255) before
+      pub seen-start : SeenSearched (searchFrom v 255) before
       unfolding leastOf rounds
       seen-start = record {
-        least = sought-start round priorities-met first (λ r. r .state) leastOf n (numbered meets);
+        least = searched-start round priorities-met first (λ r. r .state) leastOf n (numbered meets);
         so-far = λ e k q. none k q;
         ever = λ e. absurd (false≢true e);
       }
@@ -154,7 +154,7 @@ module _ (letters : ℕ) (targets priorities : List ℕ) where
           none : (k : ℕ) → 1 ≡ suc k → before ≡ danglingIn before (danglingFirst k)
           none k q = let e : 0 ≡ k = omega (arith, q) in subst (λ (j : ℕ). before ≡ danglingIn before (danglingFirst j)) e (sym (or-false before))
 
-      module _ (t : Search) (b : Bool) (h : SeenSought t b) (going : t .found ≡ false) where
+      module _ (t : Search) (b : Bool) (h : SeenSearched t b) (going : t .found ≡ false) where
         pub seen-within : t .state < n
         seen-within = seeking-within round priorities-met first (λ r. r .state) leastOf n (numbered meets) t (h .least .seeks going)
 
@@ -208,7 +208,7 @@ module _ (letters : ℕ) (targets priorities : List ℕ) where
               ∙ ap (λ (b : Bool). before || b) (nonEmpty-same (danglingFirst (i + j)) (danglingFirst n)
               (before-first f out first (λ r. r .state) (λ c. record { state = c }) (λ r. refl) (λ c. refl) n (keeps dangles) start i j (omega (arith, rounds-are)) there))
 
-          pub seen-next : (u : Search) → u ≡ searchNext t (one .state) (one .least) (min (t .value) (one .least)) 255 → SeenSought u (one .dangling) × (searchLeft n u < searchLeft n t)
+          pub seen-next : (u : Search) → u ≡ searchNext t (one .state) (one .least) (min (t .value) (one .least)) 255 → SeenSearched u (one .dangling) × (searchLeft n u < searchLeft n t)
           unfolding leastOf
           seen-next u ue =
               let more = round-more round priorities-met first (λ r. r .state) leastOf n (numbered meets) min leasts t (h .least .seeks going) going (one .state) (one .least) ended added in
@@ -221,7 +221,7 @@ module _ (letters : ℕ) (targets priorities : List ℕ) where
                 round-less round priorities-met first (λ r. r .state) leastOf n (numbered meets) min leasts t (h .least .seeks going) going (one .state) (one .least) ended added,
               )
 
-    pub seen-found : (t : Search) (b : Bool) → SeenSought t b → t .found ≡ true
+    pub seen-found : (t : Search) (b : Bool) → SeenSearched t b → t .found ≡ true
         → (t .value ≡ leastRecurring letters targets priorities first [] loop) × (b ≡ before || everDangling letters targets priorities first [] loop)
     unfolding leastRecurring window after
     seen-found t b h e = (h .least .recurs e, h .ever e)

@@ -52,7 +52,7 @@ module _ {A B : Type 0} (f : A → A) (out : A → List B) (x : A) (code : A →
     pub early : from < 2 * n
 
   -- what the search holds at any time
-  pub record Sought (s : Search) : Type 0 where
+  pub record Searched (s : Search) : Type 0 where
     pub seeks : s .found ≡ false → Seeking s
     pub recurs : s .found ≡ true → s .value ≡ val (rounds f out x n n)
 
@@ -90,8 +90,8 @@ module _ {A B : Type 0} (f : A → A) (out : A → List B) (x : A) (code : A →
       early = omega (arith, m .start);
     }
 
-    pub sought-start : Sought (searchFrom (code x) (val []))
-    sought-start = record { seeks = λ e. seeking-start; recurs = λ e. absurd (false≢true e) }
+    pub searched-start : Searched (searchFrom (code x) (val []))
+    searched-start = record { seeks = λ e. seeking-start; recurs = λ e. absurd (false≢true e) }
 
     none-holds : (i : ℕ) → val [] ≡ val (rounds f out x i 0)
     unfolding rounds
@@ -140,7 +140,7 @@ module _ {A B : Type 0} (f : A → A) (out : A → List B) (x : A) (code : A →
 
       -- after it: a state seen again is one in which some round so far began, and otherwise one round more was run
       pub record RoundMore (t : Search) : Type 0 where
-        pub sought : Sought t
+        pub sought : Searched t
         pub back : t .found ≡ true → (i : ℕ) × (i < s .limit + s .since) × (ended ≡ code (iter f i x))
         pub counted : t .found ≡ false → t .limit + t .since ≡ s .limit + s .since + 1
 

@@ -8,7 +8,7 @@ use wulfrenda::{Counts, Policy, ReadError, Refusal, Rows};
 
 /// The seven tables.
 #[derive(Clone, Debug, PartialEq, Eq)]
-pub struct Lent {
+pub struct OwnedTables {
     pub node_masks: Vec<u64>,
     pub node_parents: Vec<u16>,
     pub node_priorities: Vec<u8>,
@@ -18,10 +18,10 @@ pub struct Lent {
     pub row_priorities: Vec<u8>,
 }
 
-impl Lent {
+impl OwnedTables {
     /// Tables for so many nodes, states and rows, with `x` in every place.
     pub fn new(nodes: usize, states: usize, rows: usize, x: u8) -> Self {
-        Lent {
+        OwnedTables {
             node_masks: vec![x.into(); nodes],
             node_parents: vec![x.into(); nodes],
             node_priorities: vec![x; nodes],
@@ -86,7 +86,7 @@ impl Lent {
     }
 
     /// Where the tables first differ: the table, the place, and what both have there.
-    pub fn difference(&self, other: &Lent) -> Option<String> {
+    pub fn difference(&self, other: &OwnedTables) -> Option<String> {
         fn first<T: PartialEq + std::fmt::Debug>(name: &str, a: &[T], b: &[T]) -> Option<String> {
             let at = (0..a.len().max(b.len())).find(|&i| a.get(i) != b.get(i))?;
             Some(format!("{name}[{at}]: {:?} {:?}", a.get(at), b.get(at)))

@@ -22,7 +22,7 @@
 //! compare POLICY POLICY
 //! ```
 
-use comparison::{counts, program, root, unhex, Lent};
+use comparison::{counts, program, root, unhex, OwnedTables};
 use independent::fast::{self, Translator};
 use independent::{brute, judge, policy};
 use std::collections::HashMap;
@@ -285,7 +285,7 @@ impl Definitions {
                     input.number("rows"),
                 )
             };
-            Lent::new(nodes, states, rows, FILL)
+            OwnedTables::new(nodes, states, rows, FILL)
         };
         match given {
             Given::Bytes(bytes) => {
@@ -425,7 +425,7 @@ fn dash(n: u16) -> String {
 }
 
 /// The lines of the first nodes, and a line more if a place past them is not 0.
-fn nodes(t: &Lent, count: usize) -> String {
+fn nodes(t: &OwnedTables, count: usize) -> String {
     let mut out = String::new();
     for n in 0..count {
         let (mask, parent) = (t.node_masks[n], dash(t.node_parents[n]));
@@ -441,14 +441,14 @@ fn nodes(t: &Lent, count: usize) -> String {
 }
 
 /// The tables as the program lists them, and lines more if a place past the result is not 0; after a refusal, what became of them.
-fn listing(answer: Result<Counts, (u8, usize)>, t: &Lent, letters: usize) -> String {
+fn listing(answer: Result<Counts, (u8, usize)>, t: &OwnedTables, letters: usize) -> String {
     let places = (
         t.node_masks.len(),
         t.state_sources.len(),
         t.row_targets.len(),
     );
     let left = |x| {
-        t.difference(&Lent::new(places.0, places.1, places.2, x))
+        t.difference(&OwnedTables::new(places.0, places.1, places.2, x))
             .is_none()
     };
     match answer {
@@ -498,8 +498,8 @@ fn listing(answer: Result<Counts, (u8, usize)>, t: &Lent, letters: usize) -> Str
 fn forest(ours: &Policy, theirs: &Result<policy::Policy, u8>) -> Answers {
     let most = usize::from(NONE);
     let p = theirs.as_ref().expect("a legal policy");
-    let tables = || Lent::new(most, most, most * p.letters, FILL);
-    let text = |count: u16, t: &Lent| {
+    let tables = || OwnedTables::new(most, most, most * p.letters, FILL);
+    let text = |count: u16, t: &OwnedTables| {
         let count = usize::from(count);
         format!("nodes {count}\n{}", nodes(t, count))
             .trim_end()

@@ -1,7 +1,7 @@
 //! The proved library answers what the independent translator does, on policies of every shape, valid and damaged, and in tables too short, just right and longer.
 //! SEED and POLICIES change the fixed seed and the number of policies, for a longer run by hand.
 
-use comparison::{counts, damaged, hex, policies, random, Lent};
+use comparison::{counts, damaged, hex, policies, random, OwnedTables};
 use independent::fast::{self, Translator};
 use independent::policy::{from_record, Policy};
 use independent::random::{Random, Shape};
@@ -48,7 +48,7 @@ fn translated_alike(
     p: &Policy,
     (nodes, states): (usize, usize),
 ) -> Result<(), u8> {
-    let mut expected = Lent::new(nodes, states, states * p.letters, 0xa5);
+    let mut expected = OwnedTables::new(nodes, states, states * p.letters, 0xa5);
     let (mut by_record, mut by_bytes) = (expected.clone(), expected.clone());
     let theirs = expected.fill(translator, p).map(counts);
     let text = format!("policy {} in {nodes} and {states}", p.hex());
@@ -99,7 +99,7 @@ fn translating() {
 }
 
 /// What becomes of command bytes in one call: the counts, or the number, and the offset, which is 0 where the policy was read and not translated.
-fn bytes_alike(translator: &mut Translator, bytes: &[u8], mut tables: Lent) -> u8 {
+fn bytes_alike(translator: &mut Translator, bytes: &[u8], mut tables: OwnedTables) -> u8 {
     let mut expected = tables.clone();
     let theirs = policy::read(bytes).and_then(|(p, end)| {
         let answer = expected.fill(translator, &p);
@@ -127,7 +127,7 @@ fn from_command_bytes_to_tables() {
         let (nodes, states) = (random.below(40), random.below(80));
         // now and then row tables that do not belong to the others
         let rows = states * p.letters + usize::from(random.chance(5));
-        let tables = Lent::new(nodes, states, rows, 0xa5);
+        let tables = OwnedTables::new(nodes, states, rows, 0xa5);
         for bytes in [damaged(&mut random, bytes.clone()), bytes] {
             answers[bytes_alike(&mut translator, &bytes, tables.clone()) as usize] += 1;
         }
@@ -144,7 +144,7 @@ fn lengths_that_do_not_belong_together() {
     let mut translator = Translator::default();
     for _ in 0..policies(1_000) {
         let p = random.policy(&Shape::any(16));
-        let mut tables = Lent::new(40, 40, 40 * p.letters, 0xa5);
+        let mut tables = OwnedTables::new(40, 40, 40 * p.letters, 0xa5);
         match random.below(7) {
             0 => drop(tables.node_masks.pop()),
             1 => drop(tables.node_parents.pop()),
@@ -182,7 +182,7 @@ fn records_that_are_not_legal() {
             continue;
         }
         illegal += 1;
-        let mut tables = Lent::new(30, 30, 30 * p.letters, 0xa5);
+        let mut tables = OwnedTables::new(30, 30, 30 * p.letters, 0xa5);
         let before = tables.clone();
         alike(refusal(tables.translate(&ours)), Err(7), &text);
         alike(tables.difference(&before), None, &text);
@@ -219,7 +219,7 @@ fn running_and_judging() {
         let ours = proved(&p);
         let letters = p.letters;
         let states = a.states.len();
-        let mut tables = Lent::new(4096, states, a.rows.len(), 0);
+        let mut tables = OwnedTables::new(4096, states, a.rows.len(), 0);
         tables.fill(&mut translator, &p).unwrap();
         for _ in 0..8 {
             let (stem, period) = words(&mut random, letters);

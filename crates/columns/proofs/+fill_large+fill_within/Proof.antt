@@ -7,7 +7,7 @@ use borrow.Author.Needs.{needs}
 use borrow.Fn.Kinds.{In}
 use borrow.Fn.PlainCycle.{Measures, is, falls, and}
 use Rattle.candidates.proofs.Few.{most-few}
-use Rattle.columns.proofs.Spaces.{space-of, space-enough}
+use Rattle.columns.proofs.CandidateScratch.{space-of, space-enough}
 use Rattle.columns.proofs.fill_large.Reads as fill-large
 use Rattle.columns.proofs.fill_large.Kinds as fill-large-kinds
 use Rattle.columns.proofs.+fill_large+fill_within.Lts-fill_large as fill-large-lts

@@ -2,7 +2,7 @@
 use native.Mathlib.Omega.{arith}
 use mathlib.Core.Path.{refl}
 use borrow.Author.Needs.{needs}
-use Rattle.columns.proofs.Spaces.{space-of, space-enough}
+use Rattle.columns.proofs.CandidateScratch.{space-of, space-enough}
 use Rattle.columns.proofs.fill_columns.Statement.{statement}
 use Rattle.columns.proofs.fill_columns.Tie as tie
 

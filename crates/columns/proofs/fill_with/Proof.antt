@@ -6,7 +6,7 @@ use Prim.Native.Nat.{_≤_}
 use lib.ListN.{length, take, length-take}
 use borrow.Author.Needs.{needs}
 use Rattle.candidates.specs.Candidates.{judged, rootCandidates}
-use Rattle.columns.proofs.Spaces.{listed-accepting, listed-rejecting, listed-roots, listed-candidates, listed-scratch}
+use Rattle.columns.proofs.CandidateScratch.{listed-accepting, listed-rejecting, listed-roots, listed-candidates, listed-scratch}
 use Rattle.columns.proofs.fill_with.Statement.{statement}
 use Rattle.columns.proofs.fill_with.Tie as tie
 

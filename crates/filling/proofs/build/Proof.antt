@@ -1,5 +1,6 @@
 -- `build` meets its contract: what is built in the tables once they are cleared is built in them. Assumes nothing.
-use mathlib.Core.Path.{_∙_}
+use native.Mathlib.Omega.{arith}
+use lib.ListN.{length-replicate}
 use borrow.Author.Needs.{needs}
 use Rattle.filling.proofs.FillingLaws.{sized-clear, builds-cleared}
 use Rattle.filling.proofs.build.Statement.{statement}
@@ -12,31 +13,58 @@ start c = c .before .before .before .before .before .before .before .before .bef
 clear-built-requires : tie.Need-clear-built-requires
 clear-built-requires c κs = search needs
 
+slice-aggregate-fill-built : tie.Need-slice-aggregate-fill-built
+slice-aggregate-fill-built c = search needs
+
+fill-built-requires : tie.Need-fill-built-requires
+fill-built-requires c κs =
+    let k = c .before .before .before .before .before .before .before .before .before .before .before .before .before .before in
+    let e = k .clear-built .ensures in
+    let z = sized-clear (start k .pre .1) (e .0) (e .1) (e .2) (e .3) in
+    (start k .pre .0, (z .0, z .1, simp length-replicate (c .before .before .before .before .before .if1 .taken)))
+
+same-length : tie.Need-same-length
+same-length c = search needs
+
+same-length-2 : tie.Need-same-length-2
+same-length-2 c = search needs
+
+same-length-3 : tie.Need-same-length-3
+same-length-3 c = search needs
+
+same-length-4 : tie.Need-same-length-4
+same-length-4 c = search needs
+
+returns : tie.Need-returns
+returns c =
+    let k = c .before .before .before .before .before .before .before .before .before .before .before .before .before .before .before .before .before .before .before .before .before .before .before .before in
+    let e = k .clear-built .ensures in
+    builds-cleared (start k .pre .1) (e .0) (e .1) (e .2) (e .3) (c .before .before .before .before .before .before .before .before .before .fill-built .ensures)
+
 slice-aggregate-build-within : tie.Need-slice-aggregate-build-within
 slice-aggregate-build-within c = search needs
 
 build-within-requires : tie.Need-build-within-requires
 build-within-requires c κs =
-    let k = c .before .before .before .before .before .before .before .before .before .before .before .before .before in
-    let s = start k in
+    let k = c .before .before .before .before .before .before .before .before .before .before .before .before .before .before in
     let e = k .clear-built .ensures in
-    (s .pre .0, sized-clear (s .pre .1) (e .0) (e .1) (e .2) (e .3))
+    (start k .pre .0, sized-clear (start k .pre .1) (e .0) (e .1) (e .2) (e .3))
 
-same-length : tie.Need-same-length
-same-length c = c .before .before .before .before .before .before .before .before .before .build-within .kept .1 .1 .1 .1 .1 .1 .1 .0 ∙ c .before .before .before .before .before .before .before .before .before .before .before .before .before .before .before .before .before .before .before .before .before .before .before .clear-built .kept .0
+same-length-5 : tie.Need-same-length-5
+same-length-5 c = search needs
 
-same-length-2 : tie.Need-same-length-2
-same-length-2 c = c .before .before .before .before .before .before .before .before .before .build-within .kept .1 .1 .1 .1 .1 .1 .1 .1 .0 ∙ c .before .before .before .before .before .before .before .before .before .before .before .before .before .before .before .before .before .before .before .before .before .before .before .clear-built .kept .1 .0
+same-length-6 : tie.Need-same-length-6
+same-length-6 c = search needs
 
-same-length-3 : tie.Need-same-length-3
-same-length-3 c = c .before .before .before .before .before .before .before .before .before .build-within .kept .1 .1 .1 .1 .1 .1 .1 .1 .1 .0 ∙ c .before .before .before .before .before .before .before .before .before .before .before .before .before .before .before .before .before .before .before .before .before .before .before .clear-built .kept .1 .1 .0
+same-length-7 : tie.Need-same-length-7
+same-length-7 c = search needs
 
-same-length-4 : tie.Need-same-length-4
-same-length-4 c = c .before .before .before .before .before .before .before .before .before .build-within .kept .1 .1 .1 .1 .1 .1 .1 .1 .1 .1 .0 ∙ c .before .before .before .before .before .before .before .before .before .before .before .before .before .before .before .before .before .before .before .before .before .before .before .clear-built .kept .1 .1 .1 .0
+same-length-8 : tie.Need-same-length-8
+same-length-8 c = search needs
 
-returns : tie.Need-returns
-returns c =
-    let k = c .before .before .before .before .before .before .before .before .before .before .before .before .before .before .before .before .before .before .before .before .before .before .before in
+returns-2 : tie.Need-returns-2
+returns-2 c =
+    let k = c .before .before .before .before .before .before .before .before .before .before .before .before .before .before .before .before .before .before .before .before .before .before .before .before in
     let e = k .clear-built .ensures in
     builds-cleared (start k .pre .1) (e .0) (e .1) (e .2) (e .3) (c .before .before .before .before .before .before .before .before .before .build-within .ensures)
 
@@ -45,10 +73,17 @@ build-spec =
     tie.close
     (tie.spec
     clear-built-requires
-    slice-aggregate-build-within
-    build-within-requires
+    slice-aggregate-fill-built
+    fill-built-requires
     same-length
     same-length-2
     same-length-3
     same-length-4
-    returns)
+    returns
+    slice-aggregate-build-within
+    build-within-requires
+    same-length-5
+    same-length-6
+    same-length-7
+    same-length-8
+    returns-2)

@@ -7,12 +7,12 @@ use borrow.Author.Needs.{needs}
 use borrow.Author.Tests.{not-true, not-false}
 use Rattle.recurrence.proofs.Seeking.{searchLeft}
 use Rattle.policy.proofs.Laws.{legal-counts}
-use Rattle.judging.proofs.Colours.{ColoursSought, colours-start, colours-within, colours-few, colours-next, colours-found}
+use Rattle.judging.proofs.Colours.{ColoursSearched, colours-start, colours-within, colours-few, colours-next, colours-found}
 use Rattle.judging.proofs.coloured_recurring.Statement.{statement}
 use Rattle.judging.proofs.coloured_recurring.Tie as tie
 
 abbrev Inv-loop : tie.InvT-loop
-Inv-loop p targets colours state period search₀ search = ColoursSought p period state search
+Inv-loop p targets colours state period search₀ search = ColoursSearched p period state search
 
 abbrev μ-loop : tie.MeasureT-loop
 μ-loop p targets colours state period search₀ search = searchLeft (p .states) search
@@ -23,7 +23,7 @@ new-requires c κs = search needs
 loop-holds : tie.Need-loop-holds Inv-loop μ-loop
 loop-holds c =
     let d = c .before .before in
-    subst (ColoursSought (d .args .p) (d .args .period .now) (d .args .state)) (sym (c .new .ensures)) (colours-start (d .args .p) (d .args .period .now) (d .args .state) (d .pre .0 .legal-is) (d .pre .0 .among))
+    subst (ColoursSearched (d .args .p) (d .args .period .now) (d .args .state)) (sym (c .new .ensures)) (colours-start (d .args .p) (d .args .period .now) (d .args .state) (d .pre .0 .legal-is) (d .pre .0 .among))
 
 -- a round more is to be run
 going : (c : tie.Then1 Inv-loop μ-loop) → c .before .before .loop .search .found ≡ false
@@ -54,7 +54,7 @@ next-requires c κs =
 
 -- after the round
 after : (c : tie.After-next Inv-loop μ-loop) → let l = c .before .before .before .before .before .before in let a = l .before .before .before .args in
-    ColoursSought (a .p) (a .period .now) (a .state) (c .next .result) × (searchLeft (a .p .states) (c .next .result) < searchLeft (a .p .states) (l .loop .search))
+    ColoursSearched (a .p) (a .period .now) (a .state) (c .next .result) × (searchLeft (a .p .states) (c .next .result) < searchLeft (a .p .states) (l .loop .search))
 after c =
     let w = c .before .before .before in
     let t = w .before in

@@ -12,12 +12,12 @@ use Rattle.recurrence.proofs.Seeking.{searchLeft}
 use Rattle.running.specs.Running.{rowStates}
 use Rattle.running.proofs.Laws.{shaped-facts}
 use Rattle.judging.specs.Judging.{everDangling, leastRecurring}
-use Rattle.judging.proofs.Rows.{SeenSought, seen-start, seen-within, seen-few, seen-next, seen-found}
+use Rattle.judging.proofs.Rows.{SeenSearched, seen-start, seen-within, seen-few, seen-next, seen-found}
 use Rattle.judging.proofs.seen_recurring.Statement.{statement}
 use Rattle.judging.proofs.seen_recurring.Tie as tie
 
 abbrev Inv-loop : tie.InvT-loop
-Inv-loop period n letters targets priorities search₀ dangling₀ search dangling = SeenSought letters targets priorities period (search₀ .state) dangling₀ search dangling
+Inv-loop period n letters targets priorities search₀ dangling₀ search dangling = SeenSearched letters targets priorities period (search₀ .state) dangling₀ search dangling
 
 abbrev μ-loop : tie.MeasureT-loop
 μ-loop period n letters targets priorities search₀ dangling₀ search dangling = searchLeft (rowStates letters targets priorities) search
@@ -37,7 +37,7 @@ low c =
 loop-holds : tie.Need-loop-holds Inv-loop μ-loop
 loop-holds c =
     let a = c .before .before .before .before .args in
-    subst (λ (s : Search). SeenSought (a .letters) (a .targets .now) (a .priorities .now) (a .period .now) (c .new .result .state) (a .s .dangling) s (a .s .dangling))
+    subst (λ (s : Search). SeenSearched (a .letters) (a .targets .now) (a .priorities .now) (a .period .now) (c .new .result .state) (a .s .dangling) s (a .s .dangling))
     (ap (λ (v : ℕ). searchFrom v 255) (begins c) ∙ sym (c .new .ensures)) (seen-start (a .letters) (a .targets .now) (a .priorities .now) (a .period .now) (c .new .result .state) (a .s .dangling) (low c))
 
 -- a round more is to be run
@@ -75,7 +75,7 @@ next-requires c κs =
 
 -- after the round
 after : (c : tie.After-next Inv-loop μ-loop) → let w = c .before .before in let l = w .before .before .before in let a = l .before .before .before .before .before .args in
-    SeenSought (a .letters) (a .targets .now) (a .priorities .now) (a .period .now) (l .before .new .result .state) (a .s .dangling) (c .next .result) (w .seen-word .result .dangling)
+    SeenSearched (a .letters) (a .targets .now) (a .priorities .now) (a .period .now) (l .before .new .result .state) (a .s .dangling) (c .next .result) (w .seen-word .result .dangling)
     × (searchLeft (rowStates (a .letters) (a .targets .now) (a .priorities .now)) (c .next .result) < searchLeft (rowStates (a .letters) (a .targets .now) (a .priorities .now)) (l .loop .search))
 after c =
     let w = c .before .before in

@@ -1,6 +1,6 @@
 //! The proved library and the fast independent translator side by side: the same policies, the same work, the best of several rounds. Prints a table.
 
-use comparison::{unhex, Lent};
+use comparison::{unhex, OwnedTables};
 use independent::policy::{self, Policy};
 use independent::random::{Family, Random, Shape, Targets};
 use independent::{fast, judge};
@@ -41,7 +41,7 @@ fn translating(name: &str, policies: &[Policy]) {
     let mut kept = Policy::default();
     let bytes: Vec<Vec<u8>> = policies.iter().map(Policy::bytes).collect();
     let (mut nodes, mut rows) = (0, 0);
-    let mut ours: Vec<Lent> = Vec::new();
+    let mut ours: Vec<OwnedTables> = Vec::new();
     for p in policies {
         let room = match translator.translate(p, 65_535, 65_535) {
             Ok(a) => (a.nodes.len(), a.states.len()),
@@ -49,7 +49,7 @@ fn translating(name: &str, policies: &[Policy]) {
         };
         nodes += room.0;
         rows += room.1 * p.letters;
-        ours.push(Lent::new(room.0, room.1, room.1 * p.letters, 0));
+        ours.push(OwnedTables::new(room.0, room.1, room.1 * p.letters, 0));
     }
     let mut theirs = ours.clone();
     let rounds = (20_000 / (nodes + rows)).max(1);
@@ -174,7 +174,7 @@ fn main() {
     let p = &alternating[0];
     let ours = wulfrenda::Policy::from_record(p.record());
     let a = fast::translate(p, 65_535, 65_535).unwrap();
-    let mut t = Lent::new(a.nodes.len(), a.states.len(), a.rows.len(), 0);
+    let mut t = OwnedTables::new(a.nodes.len(), a.states.len(), a.rows.len(), 0);
     t.fill(&mut fast::Translator::default(), p).unwrap();
     let rows = t.rows(p.letters as u8);
     for length in [10, 1_000] {
@@ -285,7 +285,7 @@ fn main() {
     ] {
         let policy = wulfrenda::Policy::from_record(p.record());
         let bytes = p.bytes();
-        let mut tables = Lent::new(65_535, 65_535, 65_535 * p.letters, 0);
+        let mut tables = OwnedTables::new(65_535, 65_535, 65_535 * p.letters, 0);
         let of_record = stack(|| black_box(ignore(tables.translate(&policy))));
         let of_bytes = stack(|| black_box(ignore(tables.translate_bytes(&bytes))));
         println!("| translating {name} | {} |", of_record.max(of_bytes));

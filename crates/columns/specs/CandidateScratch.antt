@@ -6,7 +6,7 @@ use Rattle.policy.specs.declared.Policy.{Policy}
 use Rattle.trees.specs.Growing.{Scratch}
 
 -- lists for n candidates of either verdict, and scratch for n
-pub record Space (p : Policy) (n : ℕ) (accepting rejecting scratch : List ℕ) : Type 0 where
+pub record CandidateScratch (p : Policy) (n : ℕ) (accepting rejecting scratch : List ℕ) : Type 0 where
   pub accepting-long : n ≤ length accepting
   pub rejecting-long : n ≤ length rejecting
   pub scratch-is : Scratch p n scratch

@@ -19,17 +19,17 @@ use Rattle.candidates.specs.Candidates.{mostCandidates, judged, rootCandidates}
 use Rattle.candidates.specs.Listed.{Listed, Candidates}
 use Rattle.candidates.proofs.Few.{judged-few, roots-few}
 use Rattle.trees.specs.Growing.{Scratch}
-use Rattle.columns.specs.Space.{Space}
+use Rattle.columns.specs.CandidateScratch.{CandidateScratch}
 
 -- scratch for more is scratch for fewer
 scratch-fewer : {p : Policy} {n k : ℕ} {scratch : List ℕ} → Scratch p n scratch → k ≤ n → Scratch p k scratch
 scratch-fewer {p} {n} {k} s h = record { long = omega (arith, s .long, mul-le-mul-left (mostLevels p) h); none = s .none }
 
-pub space-enough : {p : Policy} {n k : ℕ} {a r scratch : List ℕ} → Space p n a r scratch → k ≤ n → Space p k a r scratch
+pub space-enough : {p : Policy} {n k : ℕ} {a r scratch : List ℕ} → CandidateScratch p n a r scratch → k ≤ n → CandidateScratch p k a r scratch
 space-enough s h = record { accepting-long = omega (arith, s .accepting-long); rejecting-long = omega (arith, s .rejecting-long); scratch-is = scratch-fewer (s .scratch-is) h }
 
 -- fresh lists of n places, and ten times as many of scratch
-pub space-of : (p : Policy) → legal p ≡ true → (n : ℕ) {a r scratch : List ℕ} → length a ≡ n → length r ≡ n → scratch ≡ replicate (10 * n) 0 → Space p (length a) a r scratch
+pub space-of : (p : Policy) → legal p ≡ true → (n : ℕ) {a r scratch : List ℕ} → length a ≡ n → length r ≡ n → scratch ≡ replicate (10 * n) 0 → CandidateScratch p (length a) a r scratch
 space-of p lawful n {a} {r} {scratch} ea er es = record {
   accepting-long = omega arith;
   rejecting-long = omega arith;
@@ -45,7 +45,7 @@ first-are {t₀} {t} {n} {xs} s h =
     let e : n ≡ 0 + n = omega arith in
     ap₂ (λ (i : ℕ) (l : List ℕ). take i l) e (s .now-is) ∙ front-more t₀ xs 0 n (omega (arith, s .next-is)) (omega (arith, s .next-is))
 
-module _ {p : Policy} (lawful : legal p ≡ true) {a₀ a r₀ r s₀ s scratch : List ℕ} {n : Counts} (l : Listed p a₀ a r₀ r s₀ s n) (sp : Space p (mostCandidates p) a₀ r₀ scratch) (sixteen : length s₀ ≡ 16) where
+module _ {p : Policy} (lawful : legal p ≡ true) {a₀ a r₀ r s₀ s scratch : List ℕ} {n : Counts} (l : Listed p a₀ a r₀ r s₀ s n) (sp : CandidateScratch p (mostCandidates p) a₀ r₀ scratch) (sixteen : length s₀ ≡ 16) where
   pub listed-accepting : (n .accepting ≤ length a) × (take (n .accepting) a ≡ judged p true)
   listed-accepting = (omega (arith, l .accepting-are .next-is, stored-length (l .accepting-are), judged-few p, sp .accepting-long), first-are (l .accepting-are) (omega (arith, judged-few p, sp .accepting-long)))
 
