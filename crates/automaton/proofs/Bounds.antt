@@ -3,11 +3,11 @@ use Prim.Native.Nat.{ℕ, _≤_}
 use mathlib.Core.Path.{_≡_}
 use mathlib.Core.Bool.{Bool, true, false, cond}
 use Rattle.policy.specs.declared.Policy.{Policy}
-use Rattle.policy.specs.Policies.{legal, edgeOf}
+use Rattle.policy.specs.Policies.{legal}
 use Rattle.forest.specs.Forest.{forest, node, priority, transientPriority, inRoot}
 use Rattle.forest.proofs.Priorities.{transient-few}
 use Rattle.forest.proofs.Forest.{priority-few}
-use Rattle.automaton.specs.Automaton.{stateAt, deepest, priorityAfter, rowPriority}
+use Rattle.automaton.specs.Automaton.{deepest, priorityAfter}
 
 module _ (p : Policy) (lawful : legal p ≡ true) where
   pub priority-after-few : (e l : ℕ) → priorityAfter (forest p) p e l ≤ 9
@@ -17,7 +17,3 @@ module _ (p : Policy) (lawful : legal p ≡ true) where
       go : (b : Bool) → cond b (priority p (node (forest p) (deepest (forest p) e l))) (transientPriority p) ≤ 9
       go true = priority-few p lawful (deepest (forest p) e l)
       go false = transient-few p
-
-  pub row-priority-few : (s a : ℕ) → rowPriority p s a ≤ 9
-  unfolding rowPriority
-  row-priority-few s a = priority-after-few (edgeOf p (stateAt p s .state) a) (stateAt p s .leaf)

@@ -1,16 +1,15 @@
--- The table of built states: each stands over a leaf of its state, each pair of a state and a leaf of it stands there once, in order. Assumes nothing.
+-- The table of built states: each stands over a leaf of its state, each pair of a state and a leaf of it stands there, in order. Assumes nothing.
 use Prim.Native.Nat.{ℕ, zero, suc, _<_}
 use native.Mathlib.Omega.{arith}
-use native.Mathlib.Decide.{decLt}
-use mathlib.Core.Path.{_≡_, refl, sym, ap, _∙_, subst}
+use mathlib.Core.Path.{_≡_, refl, sym, ap, subst}
 use mathlib.Core.Logic.{_⊎_, inl, inr}
-use mathlib.Core.Bool.{true, false, true≢false}
+use mathlib.Core.Bool.{true}
 use mathlib.Core.List.{List, [], _∷_, _++_, map, List·Memᴰ, List·Memᴰ·head, List·Memᴰ·tail, List·Memᴰ·not-nil, List·Memᴰ·append-cases, Memᴰ·cast}
 use lib.Dec.{eqb}
 use lib.ListN.{length, getD}
 use Rattle.lists.specs.Lists.{flat, below, Ascending}
 use Rattle.lists.proofs.Bools.{eqb≡, ≡eqb, and-l, and-r, both}
-use Rattle.lists.proofs.Lists.{mem-below, below-lt, getD-mem, position-at, position-first, flat-mem, mem-flat, map-mem, mem-map, ascending-below}
+use Rattle.lists.proofs.Lists.{mem-below, below-lt, getD-mem, position-at, flat-mem, mem-flat, map-mem, mem-map, ascending-below}
 use Rattle.policy.specs.declared.Policy.{Policy}
 use Rattle.forest.specs.Forest.{Node, forest}
 use Rattle.forest.specs.Laws.{ForestLaws}
@@ -85,32 +84,8 @@ module _ (p : Policy) where
       let x : Built = stateAt p (number p v l) in
       (r .0, eqb≡ (x .state) v (and-l (eqb (x .state) v) (eqb (x .leaf) l) (r .1)), eqb≡ (x .leaf) l (and-r (eqb (x .state) v) (eqb (x .leaf) l) (r .1)))
 
-  before-number : (v l s : ℕ) → s < number p v l → isBuilt v l (stateAt p s) ≡ false
-  unfolding number stateAt
-  before-number v l s h = position-first (isBuilt v l) (record { state = 0; leaf = 0 }) (built p) s h
-
   itself : (b : Built) → isBuilt (b .state) (b .leaf) b ≡ true
   itself b = both (eqb (b .state) (b .state)) (eqb (b .leaf) (b .leaf)) (≡eqb (b .state) (b .state) refl) (≡eqb (b .leaf) (b .leaf) refl)
-
-  -- no built state stands twice
-  pub number-stateAt : (s : ℕ) → s < length (built p) → number p (stateAt p s .state) (stateAt p s .leaf) ≡ s
-  unfolding stateAt
-  number-stateAt s h = go (decLt s k) (decLt k s)
-    where
-      k : ℕ
-      k = number p (stateAt p s .state) (stateAt p s .leaf)
-
-      at : (k < length (built p)) × (stateAt p k .state ≡ stateAt p s .state) × (stateAt p k .leaf ≡ stateAt p s .leaf)
-      at = found (stateAt p s .state) (stateAt p s .leaf) (stateAt p s) (getD-mem (built p) s (record { state = 0; leaf = 0 }) h) (itself (stateAt p s))
-
-      twice : Earlier (stateAt p k) (stateAt p s) → ⊥
-      twice (inl q) = omega (arith, at .1)
-      twice (inr q) = omega (arith, at .2, q .1)
-
-      go : Dec (s < k) → Dec (k < s) → k ≡ s
-      go (yes q) d = absurd (true≢false (sym (itself (stateAt p s)) ∙ before-number (stateAt p s .state) (stateAt p s .leaf) s q))
-      go (no q) (yes d) = absurd (twice (built-ordered k s d h))
-      go (no q) (no d) = omega arith
 
   module _ (laws : ForestLaws p (forest p)) where
     pub built-good : (s : ℕ) → s < length (built p) → (stateAt p s .state < p .states) × Good (forest p) p (stateAt p s .state) (stateAt p s .leaf)

@@ -5,7 +5,7 @@ use mathlib.Core.List.{List, _++_}
 use lib.Count.{onesIn}
 use lib.Dec.{eqb, ltb}
 use lib.ListN.{getD}
-use Rattle.lists.specs.Lists.{filter, position, below}
+use Rattle.lists.specs.Lists.{filter, below}
 
 -- how many of the 8 colours are in s
 unfoldable pub size : ℕ → ℕ
@@ -28,9 +28,6 @@ upTo (suc c) = sized (suc c) ++ upTo c
 unfoldable pub ordered : List ℕ
 ordered = upTo 8
 
--- the set at a position, and the position of a set
+-- the set at a position
 unfoldable pub setAt : ℕ → ℕ
 setAt i = getD ordered i 0
-
-unfoldable pub positionOf : ℕ → ℕ
-positionOf s = position (eqb s) ordered

@@ -107,16 +107,6 @@ module _ {A : Type 0} where
           rest (inl e) = absurd (true≢false (sym t ∙ ap p e ∙ f))
           rest (inr k) = k
 
-  -- what stands before the position does not pass
-  pub position-first : (p : A → Bool) (d : A) (l : List A) (i : ℕ) → i < position p l → p (getD l i d) ≡ false
-  position-first p d [] i h = absurd (omega arith)
-  position-first p d (y ∷ l) i h = go (test (p y)) (position-first p d l) i h
-    where
-      go : (p y ≡ true) ⊎ (p y ≡ false) → ((i : ℕ) → i < position p l → p (getD l i d) ≡ false) → (i : ℕ) → i < position p (y ∷ l) → p (getD (y ∷ l) i d) ≡ false
-      go (inl t) ih i q = absurd (omega (arith, rw t at q))
-      go (inr f) ih zero q = f
-      go (inr f) ih (suc i) q = ih i (omega (arith, rw f at q))
-
 module _ {A B : Type 0} where
   pub flat-mem : (f : B → List A) (l : List B) (y : A) → List·Memᴰ y (flat (map f l)) → (x : B) × List·Memᴰ x l × List·Memᴰ y (f x)
   flat-mem f (a ∷ l) y m = go (List·Memᴰ·append-cases (f a) m) (flat-mem f l y)

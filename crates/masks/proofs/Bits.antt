@@ -8,10 +8,10 @@ use mathlib.Core.Path.{_≡_, refl, sym, ap, _∙_, subst}
 use mathlib.Core.Logic.{_⊎_, inl, inr}
 use mathlib.Core.Bool.{Bool, true, false, not, _&&_, _||_, true≢false, false≢true}
 use lib.Dec.{eqb, lit<}
-use lib.Arith.{digits-mod, lt-one}
+use lib.Arith.{digits-mod}
 use lib.Pow.{shr-shr, shl-exact, pow-pos, pow-lt, field, mod-mod-pow}
-use lib.Bits.{bitAnd, bitOr, bitXor, and-step, or-step, and-shr, or-shr, or-lt, or-zero-r, xor-shr, xor-mod}
-use lib.Count.{ones, onesIn, ones-step}
+use lib.Bits.{bitAnd, bitOr, bitXor, and-step, or-step, and-shr, or-shr, or-lt, xor-shr, xor-mod}
+use lib.Count.{ones, ones-step}
 use Rattle.lists.proofs.Bools.{test, eqb≡, ≡eqb, and-l, and-r, not-true, bool-ext, and-absorb}
 use Rattle.lists.specs.Bools.{differs}
 use Rattle.masks.specs.Masks.{has, insert, minus, inside, properly}
@@ -176,31 +176,6 @@ ones-inside-to (suc k) a b p q h =
 
 pub ones-inside : (a b : ℕ) → ((e : ℕ) → has a e ≡ true → has b e ≡ true) → (a ≡ b) ⊎ (ones a < ones b)
 ones-inside a b h = ones-inside-to (a + b) a b (lt-pow-add a b) (rw (add-comm a b) (lt-pow-add b a)) h
-
-digit-zero : (x : ℕ) → x < 2 → eqb x 1 ≡ false → x ≡ 0
-digit-zero zero p e = refl
-digit-zero (suc zero) p e = absurd (true≢false e)
-digit-zero (suc (suc x)) p e = absurd (omega arith)
-
--- a bit that was missing is one member more
-pub ones-insert : (m e : ℕ) → has m e ≡ false → ones (insert m e) ≡ suc (ones m)
-unfolding insert
-ones-insert m zero f =
-    let low : m % 2 ≡ 0 = digit-zero (m % 2) (mod-lt m (lit< tt)) (sym (has-zero m) ∙ f) in
-    let half : bitOr m 1 / 2 ≡ m / 2 = or-shr m 1 1 ∙ or-zero-r (m / 2) in
-    omega (arith, ones-step m, ones-step (bitOr m 1), or-low m 1, ap ones half)
-ones-insert m (suc e) f =
-    let rest : ones (bitOr (m / 2) (2 ^ e)) ≡ suc (ones (m / 2)) = ones-insert (m / 2) e (sym (has-suc m e) ∙ f) in
-    let twice : 2 ^ suc e / 2 ≡ 2 ^ e = omega arith in
-    let low : 2 ^ suc e % 2 ≡ 0 = omega arith in
-    let half : bitOr m (2 ^ suc e) / 2 ≡ bitOr (m / 2) (2 ^ e) = or-shr m (2 ^ suc e) 1 ∙ ap (bitOr (m / 2)) twice in
-    omega (arith, ones-step m, ones-step (bitOr m (2 ^ suc e)), or-low m (2 ^ suc e), ap ones half)
-
--- the count by k digits, which computes
-pub ones-in : (k n : ℕ) → n < 2 ^ k → ones n ≡ onesIn k n
-unfolding ones onesIn
-ones-in zero n h = ap ones (lt-one h)
-ones-in (suc k) n h = ones-step n ∙ ap (λ (x : ℕ). n % 2 + x) (ones-in k (n / 2) (omega arith))
 
 -- ---- bits and bounds
 -- the low k bits

@@ -1,4 +1,4 @@
--- The set of the numbers below n that pass a test, as a mask: its bits, and one turn of the loop that builds it. Assumes nothing.
+-- The set of the numbers below n that pass a test, as a mask: its bits, and what a loop that builds it meets. Assumes nothing.
 use Prim.Native.Nat.{ℕ, zero, suc, _+_, _^_, _<_}
 use native.Mathlib.Omega.{arith}
 use mathlib.Core.Path.{_≡_, refl, sym, ap, _∙_}
@@ -34,11 +34,6 @@ has-mask-of t (suc n) e h = go (native.Mathlib.Decide.ℕ-discrete n e) (test (t
 -- a member is below n, and passes
 pub mask-of-some : (t : ℕ → Bool) (n e : ℕ) → has (maskOf t n) e ≡ true → (e < n) × (t e ≡ true)
 mask-of-some t n e h = let l = bit-lt n (maskOf t n) e (mask-of-lt t n) h in (l, sym (has-mask-of t n e l) ∙ h)
-
--- one turn of the loop that builds it
-pub mask-of-turn : (t : ℕ → Bool) (i a r : ℕ) (b : Bool) → a ≡ maskOf t i → b ≡ t i → r ≡ cond b (a + 2 ^ i) a → r ≡ maskOf t (i + 1)
-unfolding maskOf
-mask-of-turn t i a r b p q s = rw add-one (s ∙ ap (λ (b : Bool). cond b (a + 2 ^ i) a) q ∙ ap (λ (a : ℕ). cond (t i) (a + 2 ^ i) a) p)
 
 -- with n, or without it, as a loop meets it
 pub mask-of-none : (t : ℕ → Bool) → maskOf t 0 ≡ 0

@@ -134,30 +134,9 @@ module _ {d : Draft} {c : Command} {p : Policy} {given : ℕ} where
   unfolding draftAfter isEnd
   taken-accept e n q g = rw (e, q, g, n) (record { goes-on = refl; is = refl })
 
--- ---- where the reading ends
-stop-within : (b : List ℕ) (n at : ℕ) (d : Draft) → at ≤ length b → stopMost n b at d .at ≤ length b
-unfolding stopMost
-stop-within b zero at d h = h
-stop-within b (suc n) at d h = go (test (eqb (refusalOf b at d) 0)) (test (isEnd (commandAt b at))) (stop-within b n (nextOffset b at) (draftAfter d (commandAt b at)))
-  where
-    go : (eqb (refusalOf b at d) 0 ≡ true) ⊎ (eqb (refusalOf b at d) 0 ≡ false) → (isEnd (commandAt b at) ≡ true) ⊎ (isEnd (commandAt b at) ≡ false)
-        → (nextOffset b at ≤ length b → stopMost n b (nextOffset b at) (draftAfter d (commandAt b at)) .at ≤ length b) → stopMost (suc n) b at d .at ≤ length b
-    go (inr f) e ih = rw f h
-    go (inl t) (inl e) ih = rw (t, e) h
-    go (inl t) (inr e) ih = rw (t, e) (ih (next-within b at d (eqb-true (refusalOf b at d) 0 t) .1))
-
--- the end of the part that was read, or the offset of a refusal
-abbrev EndsWithin : List ℕ → Outcome → Type 0
-EndsWithin b (Read end) = end ≤ length b
-EndsWithin b (Refused number at) = at ≤ length b
-
 module _ (b : List ℕ) where
   abbrev number : ℕ
   number = numberAt b (stopOf b)
-
-  stop-of-within : stopOf b .at ≤ length b
-  unfolding stopOf stopFrom
-  stop-of-within = stop-within b (length b + 1 - 0) 0 emptyDraft (omega arith)
 
   -- ---- what holds of the answer, by its number
   pub by-number : (P : Answer → Type 0) → (number ≡ 0 → P (record { outcome = Read (stopOf b .at + 1); policy = stopOf b .draft .policy }))
@@ -180,16 +159,13 @@ module _ (b : List ℕ) where
   }
 
   -- ---- what follows the end command
-  ends-within : EndsWithin b (readingOf b .outcome)
-  unfolding numberAt
-  ends-within = by-number (λ (x : Answer). EndsWithin b (x .outcome)) (λ z. omega (arith, passed z .byte)) (λ n. stop-of-within)
-
   pub end-within : {end : ℕ} → readingOf b .outcome ≡ Read end → end ≤ length b
-  end-within e = subst (EndsWithin b) e ends-within
-
-  -- the offset of a refusal is one of the bytes', or their length
-  pub refusal-within : {number at : ℕ} → readingOf b .outcome ≡ Refused number at → at ≤ length b
-  refusal-within e = subst (EndsWithin b) e ends-within
+  unfolding numberAt
+  end-within e = subst Within e (by-number (λ (x : Answer). Within (x .outcome)) (λ z. omega (arith, passed z .byte)) (λ n. tt))
+    where
+      Within : Outcome → Type 0
+      Within (Read end) = end ≤ length b
+      Within (Refused number at) = Unit {0}
 
   hands-back : (part : List ℕ) → part ≡ restOf b → HandsBack b part
   unfolding restOf

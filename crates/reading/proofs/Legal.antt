@@ -2,7 +2,7 @@
 -- Assumes nothing.
 use Prim.Native.Nat.{ℕ, zero, suc, _+_, _-_, _^_, _<_}
 use native.Mathlib.Omega.{arith}
-use mathlib.Core.Path.{_≡_, refl, ap, _∙_, subst}
+use mathlib.Core.Path.{_≡_, refl, ap, _∙_}
 use mathlib.Core.Logic.{_⊎_, inl, inr, _≢_}
 use mathlib.Core.Bool.{true, false, _&&_, false≢true}
 use mathlib.Core.List.{List}
@@ -121,13 +121,6 @@ module _ (b : List ℕ) where
           let w = passed z in
           legal-at-end (stopOf b .at) (stopOf b .draft) (commandAt b (stopOf b .at)) (stop-stage fuel 0 emptyDraft (inl refl)) (w .place) (stop-ends fuel 0 emptyDraft (omega arith) z) (w .complete)
 
-  pub read-legal : {end : ℕ} → readingOf b .outcome ≡ Read end → legal (readingOf b .policy) ≡ true
-  read-legal e = subst (λ (o : Outcome). Kept o (readingOf b .policy)) e reading-kept
-
-  pub refused-zero : {number at : ℕ} → readingOf b .outcome ≡ Refused number at → readingOf b .policy ≡ zeroPolicy
-  refused-zero e = subst (λ (o : Outcome). Kept o (readingOf b .policy)) e reading-kept .0
-
-  -- the same by the number
   pub number-legal : numberOf (readingOf b .outcome) ≡ 0 → legal (readingOf b .policy) ≡ true
   number-legal = go (readingOf b .outcome) reading-kept
     where

@@ -4,7 +4,7 @@ use Prim.Native.Nat.{ℕ, zero, suc, _+_, _-_, _≤_, _<_}
 use native.Mathlib.Omega.{arith}
 use native.Mathlib.Nat.{add-zero}
 use native.Mathlib.Decide.{decLe}
-use mathlib.Core.Path.{_≡_, refl, sym, ap, ap₂, _∙_}
+use mathlib.Core.Path.{_≡_, refl, sym, ap, _∙_}
 use mathlib.Core.Logic.{_↔_}
 use mathlib.Core.List.{List, _++_, append-nil, append-assoc, List·Memᴰ}
 use Rattle.recurrence.specs.Iterates.{iter, rounds}
@@ -14,11 +14,6 @@ use Rattle.recurrence.proofs.Periods.{shift, recurs-within, within-recu
 use Rattle.recurrence.proofs.Runs.{numbered-window}
 
 -- ---- rounds one after the other
-pub iter-add : {A : Type 0} (f : A → A) (x : A) (i k : ℕ) → iter f k (iter f i x) ≡ iter f (i + k) x
-unfolding iter
-iter-add f x i zero = ap (λ (z : ℕ). iter f z x) (sym (add-zero i))
-iter-add f x i (suc k) = let e : suc (i + k) ≡ i + suc k = omega arith in ap f (iter-add f x i k) ∙ ap (λ (z : ℕ). iter f z x) e
-
 -- rounds that lead to the same
 pub iter-any : {A : Type 0} (f g : A → A) → ((x : A) → f x ≡ g x) → (k : ℕ) (x : A) → iter f k x ≡ iter g k x
 unfolding iter
@@ -41,14 +36,6 @@ module _ {A B : Type 0} (f : A → A) (out : A → List B) (x : A) where
       ap (λ (l : List B). out (iter f i x) ++ l) (rounds-snoc (suc i) k)
       ∙ sym (append-assoc (out (iter f i x)) (rounds f out x (suc i) k) (out (iter f (suc i + k) x)))
       ∙ ap (λ (z : ℕ). (out (iter f i x) ++ rounds f out x (suc i) k) ++ out (iter f z x)) e
-
-  -- rounds from the end of round i
-  pub rounds-from : (i j k : ℕ) → rounds f out (iter f i x) j k ≡ rounds f out x (i + j) k
-  unfolding rounds
-  rounds-from i j zero = refl
-  rounds-from i j (suc k) =
-      let e : i + suc j ≡ suc (i + j) = omega arith in
-      ap₂ (λ (l r : List B). l ++ r) (ap out (iter-add f x i j)) (rounds-from i (suc j) k ∙ ap (λ (z : ℕ). rounds f out x z k) e)
 
   module _ (i k : ℕ) (some : 0 < k) (back : iter f i x ≡ iter f (i + k) x) where
     -- what recurs is what one way round meets

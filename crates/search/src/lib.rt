@@ -22,13 +22,13 @@ fn halve(entries: &[u16], low: usize, high: usize, x: usize) -> usize
 }
 
 // The places from low up to high.
-struct Span {
+struct Range {
     low: usize,
     high: usize,
 }
 
 // Up from low in steps of doubling width, as long as the entries are below x.
-fn step_up(entries: &[u16], low: usize, high: usize, x: usize) -> Span
+fn step_up(entries: &[u16], low: usize, high: usize, x: usize) -> Range
     requires { ⌜ (low ≤ high) × (high ≤ length (now entries)) × AscendsIn (now entries) low high ⌝ }
     ensures { λ r. ⌜ Narrowed (now (entries .entry)) low high x (r .low) (r .high) ⌝ }
 {
@@ -44,14 +44,14 @@ fn step_up(entries: &[u16], low: usize, high: usize, x: usize) -> Span
             to = next;
         }
     }
-    Span {
+    Range {
         low: from,
         high: to,
     }
 }
 
 // Down from high in steps of doubling width, as long as the entries are x or more.
-fn step_down(entries: &[u16], low: usize, high: usize, x: usize) -> Span
+fn step_down(entries: &[u16], low: usize, high: usize, x: usize) -> Range
     requires { ⌜ (low ≤ high) × (high ≤ length (now entries)) × AscendsIn (now entries) low high ⌝ }
     ensures { λ r. ⌜ Narrowed (now (entries .entry)) low high x (r .low) (r .high) ⌝ }
 {
@@ -67,7 +67,7 @@ fn step_down(entries: &[u16], low: usize, high: usize, x: usize) -> Span
             step = step + step;
         }
     }
-    Span {
+    Range {
         low: from,
         high: to,
     }
