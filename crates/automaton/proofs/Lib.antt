@@ -1,4 +1,3 @@
-pub mod Bounds
 pub mod Branch
 pub mod Closed
 pub mod Columns
