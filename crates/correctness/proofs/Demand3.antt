@@ -10,7 +10,7 @@ use Rattle.reading.specs.Reading.{readingOf as bytesReadingOf, numberOf as read
 use Rattle.builder.specs.Tables.{countsOf, translationOf, numberOf as translateNumberOf}
 use Rattle.running.specs.declared.Reading.{Reading}
 use Rattle.running.specs.Running.{runAfter, priorityOf, numberOf as runNumberOf}
-use Rattle.wulfrenda.specs.Records.{firstOf}
+use Rattle.wulfrenda.specs.Library.{firstOf}
 use Rattle.correctness.specs.Calls.{Call, translate, translateShows, read, readShows, wulfrenda-translate, wulfrendaTranslateShows, wulfrenda-translate-bytes, wulfrendaTranslateBytesShows, wulfrenda-run, wulfrendaRunShows}
 use Rattle.correctness.specs.Demand3.{Demand3}
 use Rattle.correctness.proofs.Translated.{Success}

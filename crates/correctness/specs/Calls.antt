@@ -12,7 +12,8 @@ use Rattle.policy.specs.declared.Policy.{Policy}
 use Rattle.reading.specs.Reading.{readingOf as bytesReadingOf, offsetOf, numberOf as readNumberOf}
 use Rattle.builder.specs.Tables.{Tables, tables, Hold, countsOf, translationOf, tablesAfter, Translates, numberOf as translateNumberOf}
 use Rattle.running.specs.Running.{readingOf, runAfter, priorityOf, ReadsLetter, numberOf as runNumberOf}
-use Rattle.wulfrenda.specs.Records.{policyOf, firstOf, offsetAfter}
+use Rattle.records.specs.Records.{policyOf}
+use Rattle.wulfrenda.specs.Library.{firstOf, offsetAfter}
 use Rattle.builder.proofs.translate.Kinds as translate-kinds
 use Rattle.builder.proofs.translate.Reads as translate-reads
 use Rattle.running.proofs.Run.read.Kinds as read-kinds

@@ -10,7 +10,7 @@ use Rattle.policy.specs.declared.Policy.{Policy}
 use Rattle.policy.specs.Policies.{legal}
 use Rattle.builder.specs.declared.Translation.{Translation}
 use Rattle.builder.specs.Tables.{Tables, Hold, Translates, countsOf, translationOf, tablesAfter, tables}
-use Rattle.wulfrenda.specs.Records.{firstOf, offsetAfter}
+use Rattle.wulfrenda.specs.Library.{firstOf, offsetAfter}
 
 -- what translating promises of a policy it promises of an equal one
 pub same-policy : {p q : Policy} {entry exit : Tables} {answer : Translation} → p ≡ q → Translates p entry answer exit → Translates q entry answer exit

@@ -6,14 +6,6 @@ ghost use mathlib.Core.Bool.{cond};
 ghost use lib.Dec.{eqb};
 ghost use Rattle.reading.specs.Reading.{offsetOf, numberOf as readNumberOf};
 ghost use Rattle.builder.specs.Tables.{countsOf, numberOf as translateNumberOf};
-ghost use Rattle.wulfrenda.specs.Records.{flag};
-
-// Yes or no as a byte.
-pub fn flag(b: bool) -> u8
-    ensures { λ r. ⌜ r ≡ flag b ⌝ }
-{
-    if b { 1 } else { 0 }
-}
 
 // ---- reading
 pub struct ReadingValues {

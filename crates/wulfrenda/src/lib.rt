@@ -1,8 +1,7 @@
-// The functions of the static library, for C and for Rust (include/wulfrenda.h). A policy crosses the boundary as a record of 388 bytes (specs/Records.antt), lent with its length;
+// The functions of the static library, for C and for Rust (include/wulfrenda.h). A policy crosses the boundary as a record of 388 bytes (crate records), lent with its length;
 // bytes of another length are no policy's, and refused with 7. Each function that can refuse returns document 01's number, 0 where nothing was refused, and writes what else it answers
 // into places that the caller lends. The seven tables are seven parameters: each crosses as a pointer and a length.
 mod answers;
-mod records;
 
 use comparing::Comparison;
 use judging::PolicyVerdict;
@@ -18,7 +17,8 @@ ghost use Rattle.builder.specs.Tables.{countsOf, translationOf, tablesAfter, Ho
 ghost use Rattle.running.specs.Running.{runAfter, priorityOf, numberOf as runNumberOf, readingOf as runReadingOf};
 ghost use Rattle.judging.specs.Judging.{policyNumberOf, policyColoursOf, policyAcceptedOf, policyVerdict, rowsNumberOf, rowsLeastOf, rowsVerdict};
 ghost use Rattle.comparing.specs.Comparing.{sameOf, comparison, numberOf as compareNumberOf};
-ghost use Rattle.wulfrenda.specs.Records.{version, flag, isRecord, policyOf, recordOf, firstOf, offsetAfter};
+ghost use Rattle.records.specs.Records.{flag, isRecord, policyOf, recordOf};
+ghost use Rattle.wulfrenda.specs.Library.{version, firstOf, offsetAfter};
 
 // The archive's version: major times 1,000,000 plus minor times 1,000 plus patch. The header's WULFRENDA_VERSION says which one a caller was built for.
 #[no_mangle]
@@ -186,7 +186,7 @@ pub extern "C" fn wulfrenda_judge_policy(
     match v {
         PolicyVerdict::Judged(set, yes) => {
             *colours = set;
-            *accepted = answers::flag(yes);
+            *accepted = records::flag(yes);
             0
         }
         PolicyVerdict::Refused(number) => {

@@ -2,7 +2,7 @@
 use mathlib.Core.Path.{_≡_, sym, ap, ap₂, _∙_}
 use Rattle.comparing.specs.declared.Comparison.{Comparison}
 use Rattle.comparing.specs.Comparing.{comparison, numberOf, sameOf}
-use Rattle.wulfrenda.specs.Records.{flag, policyOf}
+use Rattle.records.specs.Records.{flag, policyOf}
 use borrow.Author.Needs.{needs}
 use Rattle.wulfrenda.proofs.wulfrenda_compare.Statement.{statement}
 use Rattle.wulfrenda.proofs.wulfrenda_compare.Tie as tie

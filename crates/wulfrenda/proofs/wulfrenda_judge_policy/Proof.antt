@@ -3,7 +3,7 @@ use mathlib.Core.Path.{_≡_, sym, ap, _∙_}
 use Rattle.policy.specs.declared.Policy.{Policy}
 use Rattle.judging.specs.declared.PolicyVerdict.{PolicyVerdict}
 use Rattle.judging.specs.Judging.{policyVerdict, policyNumberOf, policyColoursOf, policyAcceptedOf}
-use Rattle.wulfrenda.specs.Records.{flag, policyOf}
+use Rattle.records.specs.Records.{flag, policyOf}
 use borrow.Author.Needs.{needs}
 use Rattle.wulfrenda.proofs.wulfrenda_judge_policy.Statement.{statement}
 use Rattle.wulfrenda.proofs.wulfrenda_judge_policy.Tie as tie

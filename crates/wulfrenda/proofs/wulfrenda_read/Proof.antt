@@ -3,7 +3,7 @@ use mathlib.Core.Path.{refl, ap, _∙_}
 use borrow.Author.Tests.{eq-eqb, ne-eqb}
 use Rattle.reading.specs.declared.Answer.{Answer}
 use Rattle.reading.specs.Reading.{numberOf, offsetOf}
-use Rattle.wulfrenda.specs.Records.{recordLength, recordOf}
+use Rattle.records.specs.Records.{recordLength, recordOf}
 use borrow.Author.Needs.{needs}
 use Rattle.wulfrenda.proofs.wulfrenda_read.Statement.{statement}
 use Rattle.wulfrenda.proofs.wulfrenda_read.Tie as tie

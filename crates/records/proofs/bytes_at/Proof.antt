@@ -1,12 +1,12 @@
--- `wulfrenda::records::bytes_at` meets its contract: the first i bytes are copied. Assumes nothing.
+-- `records::bytes_at` meets its contract: the first i bytes are copied. Assumes nothing.
 use Prim.Native.Nat.{ℕ, _+_, _-_}
 use native.Mathlib.Omega.{arith}
 use mathlib.Core.Path.{refl}
 use lib.ListN.{getD}
-use Rattle.wulfrenda.specs.Records.{bytesAt}
-use Rattle.wulfrenda.proofs.Copies.{Copied, copied-none, copied-more, copied-all}
-use Rattle.wulfrenda.proofs.records.bytes_at.Statement.{statement}
-use Rattle.wulfrenda.proofs.records.bytes_at.Tie as tie
+use Rattle.records.specs.Records.{bytesAt}
+use Rattle.records.proofs.Copies.{Copied, copied-none, copied-more, copied-all}
+use Rattle.records.proofs.bytes_at.Statement.{statement}
+use Rattle.records.proofs.bytes_at.Tie as tie
 
 abbrev Inv-loop : tie.InvT-loop
 Inv-loop packed at bytes₀ i₀ bytes i = Copied 0 (λ (j : ℕ). getD packed (at + j) 0) 64 bytes i

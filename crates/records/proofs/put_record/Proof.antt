@@ -1,10 +1,10 @@
--- `wulfrenda::records::put_record` meets its contract: the record fills the place. Assumes nothing.
+-- `records::put_record` meets its contract: the record fills the place. Assumes nothing.
 use mathlib.Core.Path.{_≡_, _∙_}
 use lib.ListN.{length}
-use Rattle.wulfrenda.proofs.Packing.{whole}
+use Rattle.records.proofs.Packing.{whole}
 use borrow.Author.Needs.{needs}
-use Rattle.wulfrenda.proofs.records.put_record.Statement.{statement}
-use Rattle.wulfrenda.proofs.records.put_record.Tie as tie
+use Rattle.records.proofs.put_record.Statement.{statement}
+use Rattle.records.proofs.put_record.Tie as tie
 
 record-of-requires : tie.Need-record-of-requires
 record-of-requires c κs = search needs

@@ -1,11 +1,11 @@
--- `wulfrenda::records::put_bytes` meets its contract: the first i bytes are stored. Assumes nothing.
+-- `records::put_bytes` meets its contract: the first i bytes are stored. Assumes nothing.
 use Prim.Native.Nat.{_-_}
 use native.Mathlib.Omega.{arith}
 use mathlib.Core.Path.{_≡_, refl}
 use lib.ListN.{length}
-use Rattle.wulfrenda.proofs.Copies.{Stored, stored-none, stored-more, stored-all}
-use Rattle.wulfrenda.proofs.records.put_bytes.Statement.{statement}
-use Rattle.wulfrenda.proofs.records.put_bytes.Tie as tie
+use Rattle.records.proofs.Copies.{Stored, stored-none, stored-more, stored-all}
+use Rattle.records.proofs.put_bytes.Statement.{statement}
+use Rattle.records.proofs.put_bytes.Tie as tie
 
 abbrev Inv-loop : tie.InvT-loop
 Inv-loop packed₀ at bytes i₀ i-end packed i = (i-end ≡ length bytes) × Stored bytes packed₀ at packed i

@@ -1,12 +1,11 @@
-// A policy as a record of 388 bytes, and back. Bytes of another length are no record.
-use crate::answers;
+// A policy as a record of 388 bytes, and back. Bytes of another length are no record. Inner layer: a place that a record is stored in is as long as one.
 use policy::Policy;
 ghost use mathlib.Core.Path.{_≡_};
 ghost use mathlib.Core.List.{map};
 ghost use Prim.Native.Nat.{_+_, _≤_};
 ghost use lib.ListN.{length};
 ghost use lib.Seq.{sets};
-ghost use Rattle.wulfrenda.specs.Records.{flag, recordLength, bytesAt, flagsAt, policyOf, recordOf};
+ghost use Rattle.records.specs.Records.{flag, recordLength, bytesAt, flagsAt, policyOf, recordOf};
 
 // How long a record is (recordLength).
 pub const LENGTH: usize = 388;
@@ -55,6 +54,13 @@ pub fn policy_of(packed: &[u8]) -> Policy
 }
 
 // ---- to a record
+// Yes or no as a byte.
+pub fn flag(b: bool) -> u8
+    ensures { λ r. ⌜ r ≡ flag b ⌝ }
+{
+    if b { 1 } else { 0 }
+}
+
 // Stores bytes from a place on.
 fn put_bytes(packed: &mut [u8], at: usize, bytes: &[u8])
     requires { ⌜ at + length (now bytes) ≤ length (now packed) ⌝ }
@@ -71,7 +77,7 @@ fn put_flags(packed: &mut [u8], at: usize, flags: &[bool])
     ensures { λ _. ⌜ now (packed .exit) ≡ sets (now (packed .entry)) at (map flag (now (flags .entry))) ⌝ }
 {
     for i in 0..flags.len() {
-        packed[at + i] = answers::flag(flags[i]);
+        packed[at + i] = flag(flags[i]);
     }
 }
 

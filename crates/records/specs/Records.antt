@@ -1,6 +1,6 @@
 -- A policy as a record of 388 bytes: states, letters, colours, initial state; the targets of 64 edges; their colours; and for each of the 256 colour sets a byte that is not 0
--- exactly if the set is in the family. The library's version, and what one call answers that asks the questions of two.
-use Prim.Native.Nat.{ℕ, _+_, _*_}
+-- exactly if the set is in the family.
+use Prim.Native.Nat.{ℕ, _+_}
 use mathlib.Core.Bool.{Bool, not, cond}
 use mathlib.Core.List.{List, _∷_, _++_, map}
 use lib.Dec.{eqb}
@@ -9,11 +9,6 @@ use Rattle.lists.specs.Lists.{below}
 use Rattle.policy.specs.declared.Policy.{Policy}
 use Rattle.policy.specs.Making.{zeroPolicy, counted, withTables}
 
--- ---- the version: major, minor, patch; another length of the record is another major version
-abbrev pub version : ℕ
-version = 2 * 1000000 + 0 * 1000 + 0
-
--- ---- the record
 abbrev pub recordLength : ℕ
 recordLength = 388
 
@@ -45,12 +40,3 @@ policyOf b = cond (isRecord b) (unpacked b) zeroPolicy
 
 unfoldable pub recordOf : Policy → List ℕ
 recordOf p = p .states ∷ p .letters ∷ p .colours ∷ p .initial ∷ (p .target ++ p .colour ++ map flag (p .family))
-
--- ---- two calls in one
--- of two numbers of refusals, one after the other: the first that is not 0
-unfoldable pub firstOf : ℕ → ℕ → ℕ
-firstOf first second = cond (eqb first 0) second first
-
--- the offset: where the refused command begins, if the first of the two refused; 0 if the second did; else where what follows begins
-unfoldable pub offsetAfter : ℕ → ℕ → ℕ → ℕ
-offsetAfter first second offset = cond (eqb first 0) (cond (eqb second 0) offset 0) offset

@@ -1,13 +1,13 @@
--- `wulfrenda::records::flags_at` meets its contract: the first i bytes are copied, each as yes or no. Assumes nothing.
+-- `records::flags_at` meets its contract: the first i bytes are copied, each as yes or no. Assumes nothing.
 use Prim.Native.Nat.{ℕ, _+_, _-_}
 use native.Mathlib.Omega.{arith}
 use mathlib.Core.Path.{refl}
 use mathlib.Core.Bool.{false}
 use lib.ListN.{getD}
-use Rattle.wulfrenda.specs.Records.{isSet, flagsAt}
-use Rattle.wulfrenda.proofs.Copies.{Copied, copied-none, copied-more, copied-all}
-use Rattle.wulfrenda.proofs.records.flags_at.Statement.{statement}
-use Rattle.wulfrenda.proofs.records.flags_at.Tie as tie
+use Rattle.records.specs.Records.{isSet, flagsAt}
+use Rattle.records.proofs.Copies.{Copied, copied-none, copied-more, copied-all}
+use Rattle.records.proofs.flags_at.Statement.{statement}
+use Rattle.records.proofs.flags_at.Tie as tie
 
 abbrev Inv-loop : tie.InvT-loop
 Inv-loop packed flags₀ i₀ flags i = Copied false (λ (j : ℕ). isSet (getD packed (132 + j) 0)) 256 flags i

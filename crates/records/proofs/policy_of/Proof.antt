@@ -1,12 +1,12 @@
--- `wulfrenda::records::policy_of` meets its contract: the definition, opened at each length. Assumes nothing.
+-- `records::policy_of` meets its contract: the definition, opened at each length. Assumes nothing.
 use mathlib.Core.Path.{sym, _∙_}
 use borrow.Author.Needs.{needs}
 use Rattle.policy.proofs.Making.{zero-counted}
 use Rattle.policy.specs.Making.{counted, withTables}
-use Rattle.wulfrenda.specs.Records.{unpacked}
-use Rattle.wulfrenda.proofs.Packing.{policy-of, policy-of-other}
-use Rattle.wulfrenda.proofs.records.policy_of.Statement.{statement}
-use Rattle.wulfrenda.proofs.records.policy_of.Tie as tie
+use Rattle.records.specs.Records.{unpacked}
+use Rattle.records.proofs.Packing.{policy-of, policy-of-other}
+use Rattle.records.proofs.policy_of.Statement.{statement}
+use Rattle.records.proofs.policy_of.Tie as tie
 
 counted-requires : tie.Need-counted-requires
 counted-requires c κs = search needs

@@ -16,7 +16,7 @@ use Rattle.policy.specs.declared.Policy.{Policy}
 use Rattle.policy.specs.Policies.{legal}
 use Rattle.policy.specs.Making.{counted, zeroPolicy, withTables}
 use Rattle.policy.proofs.Making.{zero-illegal}
-use Rattle.wulfrenda.specs.Records.{flag, isSet, recordLength, bytesAt, flagsAt, unpacked, policyOf, recordOf}
+use Rattle.records.specs.Records.{flag, isSet, recordLength, bytesAt, flagsAt, unpacked, policyOf, recordOf}
 
 -- the arrays of a policy have their lengths
 pub record Sized (p : Policy) : Type 0 where

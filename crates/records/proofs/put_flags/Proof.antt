@@ -1,4 +1,4 @@
--- `wulfrenda::records::put_flags` meets its contract: the bytes of the first i are stored. Assumes nothing.
+-- `records::put_flags` meets its contract: the bytes of the first i are stored. Assumes nothing.
 use Prim.Native.Nat.{_-_}
 use native.Mathlib.Omega.{arith}
 use mathlib.Core.Path.{_≡_, refl, sym, _∙_}
@@ -6,10 +6,10 @@ use mathlib.Core.Bool.{false}
 use mathlib.Core.List.{map}
 use lib.ListN.{length, length-map, List·getD-map}
 use borrow.Author.Needs.{needs}
-use Rattle.wulfrenda.specs.Records.{flag}
-use Rattle.wulfrenda.proofs.Copies.{Stored, stored-none, stored-more, stored-all}
-use Rattle.wulfrenda.proofs.records.put_flags.Statement.{statement}
-use Rattle.wulfrenda.proofs.records.put_flags.Tie as tie
+use Rattle.records.specs.Records.{flag}
+use Rattle.records.proofs.Copies.{Stored, stored-none, stored-more, stored-all}
+use Rattle.records.proofs.put_flags.Statement.{statement}
+use Rattle.records.proofs.put_flags.Tie as tie
 
 abbrev Inv-loop : tie.InvT-loop
 Inv-loop packed₀ at flags i₀ i-end packed i = (i-end ≡ length flags) × (length (map flag flags) ≡ length flags) × Stored (map flag flags) packed₀ at packed i

@@ -1,54 +1,40 @@
+-- `records::record_of` meets its contract: four stores and three calls make the record. Assumes nothing.
 use mathlib.Core.Path.{refl}
-use Rattle.wulfrenda.proofs.Packing.{Sized, stores}
+use Rattle.records.proofs.Packing.{Sized, stores}
 use borrow.Author.Needs.{needs}
-use Rattle.wulfrenda.proofs.records.record_of.Statement.{statement}
-use Rattle.wulfrenda.proofs.records.record_of.Tie as tie
-use Rattle.wulfrenda.proofs.records.record_of.Reads as reads
-use Rattle.wulfrenda.proofs.records.record_of.Lts as lts
-use Rattle.wulfrenda.proofs.records.put_bytes.Reads as put-bytes-reads
-use Rattle.wulfrenda.proofs.records.put_flags.Reads as put-flags-reads
+use Rattle.records.proofs.record_of.Statement.{statement}
+use Rattle.records.proofs.record_of.Tie as tie
 
--- src/records.rt:82:5
 array-write-packed : tie.Need-array-write-packed
 array-write-packed c = search needs
 
--- src/records.rt:83:5
 array-write-packed-2 : tie.Need-array-write-packed-2
 array-write-packed-2 c = search needs
 
--- src/records.rt:84:5
 array-write-packed-3 : tie.Need-array-write-packed-3
 array-write-packed-3 c = search needs
 
--- src/records.rt:85:5
 array-write-packed-4 : tie.Need-array-write-packed-4
 array-write-packed-4 c = search needs
 
--- src/records.rt:86:15
 slice-aggregate-put-bytes : tie.Need-slice-aggregate-put-bytes
 slice-aggregate-put-bytes c = search needs
 
--- src/records.rt:86:5
 put-bytes-requires : tie.Need-put-bytes-requires
 put-bytes-requires c κs = search needs
 
--- src/records.rt:87:15
 slice-aggregate-put-bytes-2 : tie.Need-slice-aggregate-put-bytes-2
 slice-aggregate-put-bytes-2 c = search needs
 
--- src/records.rt:87:5
 put-bytes-requires-2 : tie.Need-put-bytes-requires-2
 put-bytes-requires-2 c κs = search needs
 
--- src/records.rt:88:15
 slice-aggregate-put-flags : tie.Need-slice-aggregate-put-flags
 slice-aggregate-put-flags c = search needs
 
--- src/records.rt:88:5
 put-flags-requires : tie.Need-put-flags-requires
 put-flags-requires c κs = search needs
 
--- src/records.rt:78:1
 returns : tie.Need-returns
 returns c =
     let last = c .before in
