@@ -4,7 +4,8 @@ use native.Mathlib.Omega.{arith}
 use native.Mathlib.Decide.{ℕ-discrete}
 use mathlib.Core.Path.{_≡_, refl, sym, _∙_, subst}
 use mathlib.Core.Logic.{_⊎_, inl, inr}
-use mathlib.Core.Bool.{true, false, _||_, true≢false}
+use mathlib.Core.Bool.{Bool, true, false, _||_, true≢false}
+use mathlib.Core.List.{List}
 use lib.Dec.{eqb, ltb}
 use lib.ListN.{length, getD, set, length-set}
 use lib.Seq.{getD-set-same, getD-set-other}
@@ -15,8 +16,9 @@ use Rattle.lists.proofs.Lists.{all-each, each-all, mem-below, replicate-at}
 use Rattle.masks.specs.Masks.{has, insert}
 use Rattle.masks.proofs.Bits.{has-none, has-insert}
 use Rattle.policy.specs.declared.Policy.{Policy}
+use Rattle.policy.specs.declared.Shape.{Shape}
 use Rattle.policy.specs.Policies.{edges, edgeOf, targetOf, colourOf, inFamily, countsFit, legalCounts, legalEdge, legalEdges, legalSet, legalFamily, legalGraph, legal}
-use Rattle.policy.specs.Making.{counted, zeroPolicy, withTables, withEdge, withSet}
+use Rattle.policy.specs.Making.{counted, shapeOf, fromParts, zeroPolicy, withTables, withEdge, withSet}
 use Rattle.policy.proofs.Laws.{counts, edge-lt, parts-legal}
 
 -- the entries of the edges given are in range, all others are 0, and each set of the family is in range
@@ -27,6 +29,10 @@ pub record Sound (p : Policy) (given : ℕ) : Type 0 where
   pub given-edge : (e : ℕ) → has given e ≡ true → (e < edges p) × (targetOf p e < p .states) × (colourOf p e < p .colours)
   pub other-edge : (e : ℕ) → has given e ≡ false → (targetOf p e ≡ 0) × (colourOf p e ≡ 0)
   pub in-family : (s : ℕ) → inFamily p s ≡ true → (0 < s) × (s < 2 ^ p .colours)
+
+-- ---- from parts
+pub parts-are : (p : Policy) {s : Shape} {h k : List ℕ} {f : List Bool} → s ≡ shapeOf p → h ≡ p .target → k ≡ p .colour → f ≡ p .family → fromParts s h k f ≡ p
+parts-are p a b c d = λ i. fromParts (a i) (b i) (c i) (d i)
 
 -- ---- from the counts
 pub sound-counted : (v a k i : ℕ) → countsFit v a k i ≡ true → Sound (counted v a k i) 0

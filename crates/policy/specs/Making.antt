@@ -4,6 +4,7 @@ use mathlib.Core.Bool.{Bool, true, false}
 use mathlib.Core.List.{List}
 use lib.ListN.{set, replicate}
 use Rattle.policy.specs.declared.Policy.{Policy}
+use Rattle.policy.specs.declared.Shape.{Shape}
 
 -- the policy of these counts, with edges and family all zero
 unfoldable pub counted : ℕ → ℕ → ℕ → ℕ → Policy
@@ -15,6 +16,22 @@ counted states letters colours initial = record {
   target = replicate 64 0;
   colour = replicate 64 0;
   family = replicate 256 false;
+}
+
+-- the shape of p
+abbrev pub shapeOf : Policy → Shape
+shapeOf p = record { states = p .states; letters = p .letters; colours = p .colours; initial = p .initial }
+
+-- the policy of a shape, with these targets and colours of its edges, and this family
+abbrev pub fromParts : Shape → List ℕ → List ℕ → List Bool → Policy
+fromParts s target colour family = record {
+  states = s .states;
+  letters = s .letters;
+  colours = s .colours;
+  initial = s .initial;
+  target = target;
+  colour = colour;
+  family = family;
 }
 
 -- the all-zero policy

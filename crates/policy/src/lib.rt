@@ -4,7 +4,7 @@ ghost use mathlib.Core.Path.{_≡_};
 ghost use Prim.Native.Nat.{_≤_};
 ghost use mathlib.Core.Bool.{true};
 ghost use Rattle.policy.specs.ByColour.{byColour, tableEdges, tableColours};
-ghost use Rattle.policy.specs.Making.{counted};
+ghost use Rattle.policy.specs.Making.{counted, shapeOf, fromParts};
 ghost use Rattle.policy.specs.Policies.{accepting, countsFit, edges, legal, legalCounts, legalEdges, legalFamily, legalGraph};
 
 pub struct Policy {
@@ -15,6 +15,14 @@ pub struct Policy {
     pub target: [u8; 64],
     pub colour: [u8; 64],
     pub family: [bool; 256],
+}
+
+// A policy's counts, and the state begun in.
+pub struct Shape {
+    pub states: u8,
+    pub letters: u8,
+    pub colours: u8,
+    pub initial: u8,
 }
 
 // How many edges there are.
@@ -87,6 +95,39 @@ pub fn counted(states: u8, letters: u8, colours: u8, initial: u8) -> Policy
         target: [0; 64],
         colour: [0; 64],
         family: [false; 256],
+    }
+}
+
+// The shape of a policy.
+pub fn shape_of(p: Policy) -> Shape
+    ensures { λ r. ⌜ r ≡ shapeOf p ⌝ }
+{
+    Shape {
+        states: p.states,
+        letters: p.letters,
+        colours: p.colours,
+        initial: p.initial,
+    }
+}
+
+// The policy of a shape and arrays that are lent: the targets and the colours of its edges, and its family. A function that is not compiled into its caller takes these in
+// place of the policy, which would be copied.
+pub fn from_parts(
+    shape: Shape,
+    heads: &[u8; 64],
+    colours: &[u8; 64],
+    family: &[bool; 256],
+) -> Policy
+    ensures { λ r. ⌜ r ≡ fromParts shape (now (heads .entry)) (now (colours .entry)) (now (family .entry)) ⌝ }
+{
+    Policy {
+        states: shape.states,
+        letters: shape.letters,
+        colours: shape.colours,
+        initial: shape.initial,
+        target: *heads,
+        colour: *colours,
+        family: *family,
     }
 }
 
