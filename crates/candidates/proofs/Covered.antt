@@ -2,17 +2,17 @@
 -- state, as a mask. Assumes nothing.
 use Prim.Native.Nat.{ℕ, zero, suc, _+_, _-_, _*_, _%_, _^_, _≤_, _<_}
 use native.Mathlib.Omega.{arith}
-use native.Mathlib.Nat.{mod-lt, div-add-mod', mul-le-mul-right, suc-mul}
+use native.Mathlib.Nat.{mod-lt, div-add-mod', mul-le-mul-right, suc-mul, mul-zero, add-comm}
 use native.Mathlib.Numerals.{add-one}
 use native.Mathlib.Decide.{ℕ-discrete, decLt, decLe}
 use mathlib.Core.Path.{_≡_, refl, sym, ap, _∙_, subst}
 use mathlib.Core.Logic.{_⊎_, inl, inr, _≢_}
 use mathlib.Core.Bool.{Bool, true, false, not, _&&_, _||_, cond, true≢false, false≢true}
-use lib.Bits.{bitAnd, bitOr}
+use lib.Bits.{bitAnd, bitOr, bitXor, and-mask, xor-add-and}
 use lib.Dec.{eqb}
-use lib.Pow.{pow-pos}
+use lib.Pow.{pow-pos, shl-exact, ones-lt, ones-split, low}
 use Rattle.lists.proofs.Bools.{test, or-cases, or-left, or-right, and-l, and-r, both, eqb≡, ≡eqb, not-true, not-false, bool-ext}
-use Rattle.masks.specs.Masks.{has}
+use Rattle.masks.specs.Masks.{has, minus}
 use Rattle.masks.proofs.Bits.{has-and, has-or, has-none, has-minus, has-full, has-high, mask-ext}
 use Rattle.masks.proofs.Members.{some-nonzero}
 use Rattle.policy.specs.declared.Policy.{Policy}
@@ -27,6 +27,33 @@ use Rattle.candidates.specs.Listed.{ownEdges, isOpen, lowestCycle, cover
 use Rattle.candidates.proofs.Candidates.{lowest-some, some-lowest}
 
 -- ---- the edges that leave a state
+pub first-few : (l v : ℕ) → v * l + l ≤ 64 → v * l < 64
+first-few zero v h = omega (arith, mul-zero v)
+first-few (suc l) v h = omega arith
+
+-- the lowest l edges, moved up
+pub own-moved : (l v : ℕ) → v * l + l ≤ 64 → (2 ^ l - 1) * 2 ^ (v * l) % 2 ^ 64 ≡ ownEdges l v
+unfolding ownEdges minus
+own-moved l v h = shl-exact l f 64 (ones-lt l) (omega arith) ∙ is
+  where
+    f : ℕ
+    f = v * l
+
+    a : ℕ
+    a = 2 ^ (f + l) - 1
+
+    b : ℕ
+    b = 2 ^ f - 1
+
+    split : a ≡ (2 ^ l - 1) * 2 ^ f + b
+    split = ap (λ (k : ℕ). 2 ^ k - 1) (add-comm f l) ∙ ones-split l f
+
+    both-are : bitAnd a b ≡ b
+    both-are = and-mask a f ∙ ap (λ (k : ℕ). k % 2 ^ f) split ∙ low (2 ^ l - 1) f (ones-lt f)
+
+    is : (2 ^ l - 1) * 2 ^ f ≡ bitXor a (bitAnd a b)
+    is = omega (arith, split, both-are, xor-add-and a b, ap (bitXor a) both-are)
+
 own-has : (l v e : ℕ) → has (ownEdges l v) e ≡ true → (v * l ≤ e) × (e < v * l + l)
 unfolding ownEdges
 own-has l v e h = (low (decLe (v * l) e), high (decLt e (v * l + l)))

@@ -23,7 +23,7 @@ fn own_edges(letters: usize, v: usize) -> u64
     ensures { λ r. ⌜ r ≡ ownEdges letters v ⌝ }
 {
     let first = v * letters;
-    masks::without(masks::full(first + letters), masks::full(first))
+    masks::full(letters) << first
 }
 
 // Whether an edge of m leaves state v, and none of k.

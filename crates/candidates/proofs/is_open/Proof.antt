@@ -1,4 +1,4 @@
--- `decomposition::listing::is_open` meets its contract. Assumes nothing.
+-- `candidates::is_open` meets its contract. Assumes nothing.
 use Prim.Native.Nat.{ℕ}
 use mathlib.Core.Path.{ap, _∙_}
 use lib.Bits.{bitAnd}

@@ -1,4 +1,4 @@
--- `decomposition::listing::set_count` meets its contract. Assumes nothing.
+-- `candidates::set_count` meets its contract. Assumes nothing.
 use native.Mathlib.Omega.{arith}
 use borrow.Author.Needs.{needs}
 use Rattle.masks.proofs.Bits.{shl-one}
