@@ -2,7 +2,7 @@
 use Prim.Native.Nat.{ℕ, _+_, _*_, _≤_}
 use native.Mathlib.Omega.{arith}
 use native.Mathlib.Nat.{mul-le-mul-left, mul-le-mul-right}
-use mathlib.Core.Path.{_≡_, ap, ap₂, _∙_}
+use mathlib.Core.Path.{_≡_, sym, ap, ap₂, subst, _∙_}
 use mathlib.Core.Bool.{true, false}
 use mathlib.Core.List.{List, _++_}
 use lib.ListN.{length, getD, take, replicate, length-append, length-replicate}
@@ -11,6 +11,7 @@ use Rattle.lists.proofs.Lists.{replicate-at}
 use Rattle.tables.proofs.Stores.{front-more, stored-length}
 use Rattle.policy.specs.declared.Policy.{Policy}
 use Rattle.policy.specs.Policies.{legal}
+use Rattle.policy.specs.ByColour.{byColour}
 use Rattle.policy.proofs.Laws.{legal-counts}
 use Rattle.forest.specs.Forest.{mostLevels}
 use Rattle.forest.proofs.Levels.{most-levels-few}
@@ -18,7 +19,7 @@ use Rattle.candidates.specs.declared.Counts.{Counts}
 use Rattle.candidates.specs.Candidates.{mostCandidates, judged, rootCandidates}
 use Rattle.candidates.specs.Listed.{Listed, Candidates}
 use Rattle.candidates.proofs.Few.{judged-few, roots-few}
-use Rattle.trees.specs.Growing.{Scratch}
+use Rattle.trees.specs.Growing.{Scratch, ForestWritten}
 use Rattle.columns.specs.CandidateScratch.{CandidateScratch}
 
 -- scratch for more is scratch for fewer
@@ -38,6 +39,18 @@ space-of p lawful n {a} {r} {scratch} ea er es = record {
     none = λ i. ap (λ (l : List ℕ). getD l i 0) es ∙ replicate-at (10 * n) i 0;
   };
 }
+
+-- ---- one policy for another that is equal
+pub written-is : {p q : Policy} {m₀ r₀ m r : List ℕ} {n : ℕ} → p ≡ q → ForestWritten p m₀ r₀ m r n → ForestWritten q m₀ r₀ m r n
+written-is {p} {q} {m₀} {r₀} {m} {r} {n} e w = subst (λ (x : Policy). ForestWritten x m₀ r₀ m r n) e w
+
+-- what is asked of p, asked of q
+pub asked-is :
+    {p q : Policy} {by a r scratch : List ℕ} {T : Type 0} (k : Policy → ℕ) →
+    q ≡ p → legal p ≡ true → by ≡ byColour p → T → CandidateScratch p (k p) a r scratch →
+    ((legal q ≡ true) × (by ≡ byColour q)) × (T × CandidateScratch q (k q) a r scratch)
+asked-is {p} {q} {by} {a} {r} {scratch} {T} k e lawful colours t s =
+    subst (λ (x : Policy). ((legal x ≡ true) × (by ≡ byColour x)) × (T × CandidateScratch x (k x) a r scratch)) (sym e) ((lawful, colours), (t, s))
 
 -- ---- what is listed
 first-are : {t₀ t : List ℕ} {n : ℕ} {xs : List ℕ} → Stored t₀ t 0 n xs → length xs ≤ length t₀ → take n t ≡ xs

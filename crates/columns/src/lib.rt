@@ -1,14 +1,18 @@
 // The columns of masks and parents: the candidates are listed, and the trees of the forest grown, with scratch of the size that a policy needs. Beside a policy stand
-// its arrays, lent: `heads` are the targets of its edges; `by` has the edges of each colour.
+// its arrays, lent: `heads` are the targets of its edges, `colours` their colours; `by` has the edges of each colour. Where a policy would be copied, its shape and its arrays
+// stand for it.
 ghost use mathlib.Core.Path.{_≡_};
 ghost use mathlib.Core.Bool.{true};
 ghost use lib.ListN.{length};
+ghost use Rattle.policy.specs.declared.Policy.{Policy};
+ghost use Rattle.policy.specs.Making.{fromParts};
 ghost use Rattle.policy.specs.Policies.{legal};
 ghost use Rattle.policy.specs.ByColour.{byColour};
 ghost use Rattle.candidates.specs.Candidates.{mostCandidates};
 ghost use Rattle.trees.specs.Growing.{ForestWritten};
 ghost use Rattle.columns.specs.CandidateScratch.{CandidateScratch};
 use policy::Policy;
+use policy::Shape;
 
 // How many candidates there can be.
 fn most_candidates(p: Policy) -> usize
@@ -18,10 +22,11 @@ fn most_candidates(p: Policy) -> usize
     p.states as usize * (1 << p.colours)
 }
 
-// With scratch that is enough. There are many parameters, here and below: the policy and its arrays, the scratch, the tables.
+// With scratch that is enough. There are many parameters, here and below: the parts of the policy, the scratch, the tables.
 fn fill_with(
-    p: Policy,
+    shape: Shape,
     heads: &[u8; 64],
+    colours: &[u8; 64],
     by: &[u64; 8],
     family: &[bool; 256],
     accepting: &mut [u64],
@@ -30,12 +35,14 @@ fn fill_with(
     masks: &mut [u64],
     parents: &mut [u16],
 ) -> usize
-    requires lawful { ⌜ legal p ≡ true ⌝ }
-    requires lent { ⌜ (now heads ≡ p .target) × (now by ≡ byColour p) × (now family ≡ p .family) ⌝ }
-    requires tables { ⌜ length (now parents) ≡ length (now masks) ⌝ }
-    requires space { ⌜ CandidateScratch p (mostCandidates p) (now accepting) (now rejecting) (now scratch) ⌝ }
-    ensures { λ r. ⌜ ForestWritten p (now (masks .entry)) (now (parents .entry)) (now (masks .exit)) (now (parents .exit)) r ⌝ }
+    ghost { Policy }
+    requires policy { λ p. ⌜ fromParts shape (now heads) (now colours) (now family) ≡ p ⌝ }
+    requires lawful { λ p. ⌜ (legal p ≡ true) × (now by ≡ byColour p) ⌝ }
+    requires tables { λ _. ⌜ length (now parents) ≡ length (now masks) ⌝ }
+    requires space { λ p. ⌜ CandidateScratch p (mostCandidates p) (now accepting) (now rejecting) (now scratch) ⌝ }
+    ensures { λ p r. ⌜ ForestWritten p (now (masks .entry)) (now (parents .entry)) (now (masks .exit)) (now (parents .exit)) r ⌝ }
 {
+    let p = policy::from_parts(shape, heads, colours, family);
     let mut roots = [0u64; 16];
     let listed = candidates::fill_candidates(
         p,
@@ -65,8 +72,9 @@ fn fill_with(
 // With the scratch that is lent where it is enough, and otherwise with more. A call that has much scratch is slow to begin, so it is made only for a policy that needs
 // it; that this function calls itself keeps the compiler from laying out the scratch of the larger policies for every one.
 fn fill_within(
-    p: Policy,
+    shape: Shape,
     heads: &[u8; 64],
+    colours: &[u8; 64],
     by: &[u64; 8],
     family: &[bool; 256],
     accepting: &mut [u64],
@@ -75,17 +83,20 @@ fn fill_within(
     masks: &mut [u64],
     parents: &mut [u16],
 ) -> usize
-    requires lawful { ⌜ legal p ≡ true ⌝ }
-    requires lent { ⌜ (now heads ≡ p .target) × (now by ≡ byColour p) × (now family ≡ p .family) ⌝ }
-    requires tables { ⌜ length (now parents) ≡ length (now masks) ⌝ }
-    requires space { ⌜ CandidateScratch p (length (now accepting)) (now accepting) (now rejecting) (now scratch) ⌝ }
-    ensures { λ r. ⌜ ForestWritten p (now (masks .entry)) (now (parents .entry)) (now (masks .exit)) (now (parents .exit)) r ⌝ }
+    ghost { Policy }
+    requires policy { λ p. ⌜ fromParts shape (now heads) (now colours) (now family) ≡ p ⌝ }
+    requires lawful { λ p. ⌜ (legal p ≡ true) × (now by ≡ byColour p) ⌝ }
+    requires tables { λ _. ⌜ length (now parents) ≡ length (now masks) ⌝ }
+    requires space { λ p. ⌜ CandidateScratch p (length (now accepting)) (now accepting) (now rejecting) (now scratch) ⌝ }
+    ensures { λ p r. ⌜ ForestWritten p (now (masks .entry)) (now (parents .entry)) (now (masks .exit)) (now (parents .exit)) r ⌝ }
 {
+    let p = policy::from_parts(shape, heads, colours, family);
     let most = most_candidates(p);
     if most <= accepting.len() {
         return fill_with(
-            p,
+            shape,
             heads,
+            colours,
             by,
             family,
             accepting,
@@ -100,8 +111,9 @@ fn fill_within(
         let mut more_rejecting = [0u64; 256];
         let mut more_scratch = [0u16; 2560];
         return fill_within(
-            p,
+            shape,
             heads,
+            colours,
             by,
             family,
             &mut more_accepting,
@@ -111,29 +123,32 @@ fn fill_within(
             parents,
         );
     }
-    fill_large(p, heads, by, family, masks, parents)
+    fill_large(shape, heads, colours, by, family, masks, parents)
 }
 
 // With scratch for any policy.
 fn fill_large(
-    p: Policy,
+    shape: Shape,
     heads: &[u8; 64],
+    colours: &[u8; 64],
     by: &[u64; 8],
     family: &[bool; 256],
     masks: &mut [u64],
     parents: &mut [u16],
 ) -> usize
-    requires lawful { ⌜ legal p ≡ true ⌝ }
-    requires lent { ⌜ (now heads ≡ p .target) × (now by ≡ byColour p) × (now family ≡ p .family) ⌝ }
-    requires tables { ⌜ length (now parents) ≡ length (now masks) ⌝ }
-    ensures { λ r. ⌜ ForestWritten p (now (masks .entry)) (now (parents .entry)) (now (masks .exit)) (now (parents .exit)) r ⌝ }
+    ghost { Policy }
+    requires policy { λ p. ⌜ fromParts shape (now heads) (now colours) (now family) ≡ p ⌝ }
+    requires lawful { λ p. ⌜ (legal p ≡ true) × (now by ≡ byColour p) ⌝ }
+    requires tables { λ _. ⌜ length (now parents) ≡ length (now masks) ⌝ }
+    ensures { λ p r. ⌜ ForestWritten p (now (masks .entry)) (now (parents .entry)) (now (masks .exit)) (now (parents .exit)) r ⌝ }
 {
     let mut accepting = [0u64; 4096];
     let mut rejecting = [0u64; 4096];
     let mut scratch = [0u16; 40960];
     fill_within(
-        p,
+        shape,
         heads,
+        colours,
         by,
         family,
         &mut accepting,
@@ -149,23 +164,26 @@ fn fill_large(
 pub fn fill_columns(
     p: Policy,
     heads: &[u8; 64],
+    colours: &[u8; 64],
     by: &[u64; 8],
     family: &[bool; 256],
     masks: &mut [u64],
     parents: &mut [u16],
 ) -> usize
     requires lawful { ⌜ legal p ≡ true ⌝ }
-    requires lent { ⌜ (now heads ≡ p .target) × (now by ≡ byColour p) × (now family ≡ p .family) ⌝ }
+    requires lent { ⌜ (now heads ≡ p .target) × (now colours ≡ p .colour) × (now by ≡ byColour p) × (now family ≡ p .family) ⌝ }
     requires tables { ⌜ length (now parents) ≡ length (now masks) ⌝ }
     ensures { λ r. ⌜ ForestWritten p (now (masks .entry)) (now (parents .entry)) (now (masks .exit)) (now (parents .exit)) r ⌝ }
 {
+    let shape = policy::shape_of(p);
     let mut accepting = [0u64; 32];
     let mut rejecting = [0u64; 32];
     let mut scratch = [0u16; 320];
     if most_candidates(p) <= 32 {
         return fill_with(
-            p,
+            shape,
             heads,
+            colours,
             by,
             family,
             &mut accepting,
@@ -176,8 +194,9 @@ pub fn fill_columns(
         );
     }
     fill_within(
-        p,
+        shape,
         heads,
+        colours,
         by,
         family,
         &mut accepting,

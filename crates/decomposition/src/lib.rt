@@ -81,7 +81,7 @@ pub fn fill_nodes<'a>(
 {
     clear_nodes(masks, parents, node_priorities);
     let by = policy::by_colour(p, colours);
-    let count = columns::fill_columns(p, heads, &by, family, masks, parents);
+    let count = columns::fill_columns(p, heads, colours, &by, family, masks, parents);
     if tables::places(masks.len()) < count {
         return Filled::TooMany;
     }

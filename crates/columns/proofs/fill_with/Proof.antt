@@ -1,30 +1,55 @@
 -- `columns::fill_with` meets its contract. Assumes nothing.
 use native.Mathlib.Omega.{arith}
-use mathlib.Core.Path.{_≡_, refl}
+use mathlib.Core.Path.{_≡_, refl, sym, subst}
 use mathlib.Core.Bool.{true, false}
 use Prim.Native.Nat.{_≤_}
 use lib.ListN.{length, take, length-take}
 use borrow.Author.Needs.{needs}
-use Rattle.candidates.specs.Candidates.{judged, rootCandidates}
-use Rattle.columns.proofs.CandidateScratch.{listed-accepting, listed-rejecting, listed-roots, listed-candidates, listed-scratch}
+use Rattle.policy.specs.declared.Policy.{Policy}
+use Rattle.policy.specs.Policies.{legal}
+use Rattle.policy.specs.ByColour.{byColour}
+use Rattle.candidates.specs.Candidates.{judged, rootCandidates, mostCandidates}
+use Rattle.columns.specs.CandidateScratch.{CandidateScratch}
+use Rattle.columns.proofs.CandidateScratch.{listed-accepting, listed-rejecting, listed-roots, listed-candidates, listed-scratch, written-is}
 use Rattle.columns.proofs.fill_with.Statement.{statement}
 use Rattle.columns.proofs.fill_with.Tie as tie
 
+-- ---- where the policy is made of its parts
+abbrev start : tie.After-from-parts → tie.Start
+start c = c .before .before .before .before .before .before
+
+-- what is asked, of the policy that is made
+ready :
+    (c : tie.After-from-parts) →
+    let p = c .from-parts .result in
+    let a = start c .args in
+    (legal p ≡ true) × (a .heads .now ≡ p .target) × (a .by .now ≡ byColour p) × (a .family .now ≡ p .family) × CandidateScratch p (mostCandidates p) (a .accepting .now) (a .rejecting .now) (a .scratch .now)
+ready c =
+    let a = start c .args in
+    let s = start c .pre in
+    subst
+    (λ (p : Policy). (legal p ≡ true) × (a .heads .now ≡ p .target) × (a .by .now ≡ byColour p) × (a .family .now ≡ p .family) × CandidateScratch p (mostCandidates p) (a .accepting .now) (a .rejecting .now) (a .scratch .now))
+    (sym (c .from-parts .ensures))
+    (s .0 .0, refl, s .0 .1, refl, s .1 .1)
+
 -- ---- where the candidates are listed
-abbrev start : tie.After-fill-candidates → tie.Start
-start c = c .before .before .before .before .before .before .before .before .before
+abbrev made : tie.After-fill-candidates → tie.After-from-parts
+made c = c .before .before .before .before
 
-accepting : (c : tie.After-fill-candidates) → let l = c .fill-candidates .last .1 .1 .1 .1 .0 in let n = c .fill-candidates .result .accepting in (n ≤ length l) × (take n l ≡ judged (start c .args .p) true)
-accepting c = listed-accepting (start c .pre .0) (c .fill-candidates .ensures) (start c .pre .1 .1 .1) refl
+accepting : (c : tie.After-fill-candidates) → let l = c .fill-candidates .last .1 .1 .1 .1 .0 in let n = c .fill-candidates .result .accepting in (n ≤ length l) × (take n l ≡ judged (made c .from-parts .result) true)
+accepting c = let s = ready (made c) in listed-accepting (s .0) (c .fill-candidates .ensures) (s .4) refl
 
-rejecting : (c : tie.After-fill-candidates) → let l = c .fill-candidates .last .1 .1 .1 .1 .1 .0 in let n = c .fill-candidates .result .rejecting in (n ≤ length l) × (take n l ≡ judged (start c .args .p) false)
-rejecting c = listed-rejecting (start c .pre .0) (c .fill-candidates .ensures) (start c .pre .1 .1 .1) refl
+rejecting : (c : tie.After-fill-candidates) → let l = c .fill-candidates .last .1 .1 .1 .1 .1 .0 in let n = c .fill-candidates .result .rejecting in (n ≤ length l) × (take n l ≡ judged (made c .from-parts .result) false)
+rejecting c = let s = ready (made c) in listed-rejecting (s .0) (c .fill-candidates .ensures) (s .4) refl
 
-roots : (c : tie.After-fill-candidates) → let l = c .fill-candidates .last .1 .1 .1 .1 .1 .1 .0 in let n = c .fill-candidates .result .roots in (n ≤ length l) × (take n l ≡ rootCandidates (start c .args .p))
-roots c = listed-roots (start c .pre .0) (c .fill-candidates .ensures) (start c .pre .1 .1 .1) refl
+roots : (c : tie.After-fill-candidates) → let l = c .fill-candidates .last .1 .1 .1 .1 .1 .1 .0 in let n = c .fill-candidates .result .roots in (n ≤ length l) × (take n l ≡ rootCandidates (made c .from-parts .result))
+roots c = let s = ready (made c) in listed-roots (s .0) (c .fill-candidates .ensures) (s .4) refl
+
+from-parts-requires : tie.Need-from-parts-requires
+from-parts-requires c κs = search needs
 
 fill-candidates-requires : tie.Need-fill-candidates-requires
-fill-candidates-requires c κs = search needs
+fill-candidates-requires c κs = let s = ready (c .before .before .before) in (s .0, ((s .1, s .2, s .3), (s .4 .accepting-long, s .4 .rejecting-long, refl)))
 
 slice-reshare-prefix-grow-roots : tie.Need-slice-reshare-prefix-grow-roots
 slice-reshare-prefix-grow-roots c = accepting (c .before .before .before .before) .0
@@ -46,8 +71,14 @@ slice-aggregate-grow-roots-3 c = simp length-take (omega (arith, roots (c .befor
 
 grow-roots-requires : tie.Need-grow-roots-requires
 grow-roots-requires c κs =
-    let s = start (c .before .before .before .before .before .before .before .before .before .before) .pre in
-    ((s .1 .0 .1, s .1 .0 .2), ((listed-candidates (s .0) (c .before .before .before .before .before .before .before .before .before .before .fill-candidates .ensures) (s .1 .1 .1) refl, roots (c .before .before .before .before .before .before .before .before .before .before) .1), (s .1 .1 .0, listed-scratch (s .0) (c .before .before .before .before .before .before .before .before .before .before .fill-candidates .ensures) (s .1 .1 .1) refl)))
+    let listed = c .before .before .before .before .before .before .before .before .before .before in
+    let s = ready (made listed) in (
+      (s .2, s .3),
+      (
+        (listed-candidates (s .0) (listed .fill-candidates .ensures) (s .4) refl, roots listed .1),
+        (start (made listed) .pre .1 .0, listed-scratch (s .0) (listed .fill-candidates .ensures) (s .4) refl),
+      ),
+    )
 
 same-length : tie.Need-same-length
 same-length c = search needs
@@ -65,12 +96,16 @@ same-length-5 : tie.Need-same-length-5
 same-length-5 c = search needs
 
 returns : tie.Need-returns
-returns c = c .before .before .before .before .before .before .grow-roots .ensures .0
+returns c =
+    let grown = c .before .before .before .before .before .before in
+    let listed = grown .before .before .before .before .before .before .before .before .before .before .before in
+    written-is (made listed .from-parts .ensures) (grown .grow-roots .ensures .0)
 
 pub fill-with-spec : {M : Type 1} → statement M
 fill-with-spec =
     tie.close
     (tie.spec
+    from-parts-requires
     fill-candidates-requires
     slice-reshare-prefix-grow-roots
     slice-aggregate-grow-roots

@@ -21,7 +21,7 @@ by-colour-requires : tie.Need-by-colour-requires
 by-colour-requires c κs = search needs
 
 fill-columns-requires : tie.Need-fill-columns-requires
-fill-columns-requires c κs = let s = c .before .before .before .before .before .before .before .before .before .before .before .before .before .before .before .before .before .pre in (s .1 .0, ((s .0 .0, c .before .before .before .by-colour .ensures, s .0 .2), same-long (c .before .before .before .before .before .before .before .before .before .before .before .before .before .before .before .before .before .args .masks .now) (c .before .before .before .before .before .before .before .before .before .before .before .before .before .before .before .before .before .args .parents .now) (s .1 .1) (c .before .before .before .before .before .before .before .before .before .before .clear-nodes .ensures .0) (c .before .before .before .before .before .before .before .before .before .before .clear-nodes .ensures .1)))
+fill-columns-requires c κs = let s = c .before .before .before .before .before .before .before .before .before .before .before .before .before .before .before .before .before .pre in (s .1 .0, ((s .0 .0, s .0 .1, c .before .before .before .by-colour .ensures, s .0 .2), same-long (c .before .before .before .before .before .before .before .before .before .before .before .before .before .before .before .before .before .args .masks .now) (c .before .before .before .before .before .before .before .before .before .before .before .before .before .before .before .before .before .args .parents .now) (s .1 .1) (c .before .before .before .before .before .before .before .before .before .before .clear-nodes .ensures .0) (c .before .before .before .before .before .before .before .before .before .before .clear-nodes .ensures .1)))
 
 places-requires : tie.Need-places-requires
 places-requires c κs = search needs
@@ -39,11 +39,11 @@ returns : tie.Need-returns
 returns c =
     let s = start (c .before .before .before .before .before .before) in
     filled-none (s .args .masks .now) (s .args .parents .now) (s .args .node-priorities .now) (s .pre .1 .1) (s .pre .1 .2) (cleared (c .before .before .before .before .before .before) .clear-nodes .ensures) (c .before .before .before .before .before .before .fill-columns .ensures)
-    (omega (arith, c .if1 .taken, c .before .places .ensures, c .before .before .before .before .before .before .fill-columns .kept .1 .1 .1 .1 .0))
+    (omega (arith, c .if1 .taken, c .before .places .ensures, c .before .before .before .before .before .before .fill-columns .kept .1 .1 .1 .1 .1 .0))
 
 -- the nodes fit
 fits : (c : tie.Else1) → c .before .before .before .before .before .before .fill-columns .result ≤ min (length (cleared (c .before .before .before .before .before .before) .clear-nodes .last .0)) 65535
-fits c = omega (arith, c .if1 .left, c .before .places .ensures, c .before .before .before .before .before .before .fill-columns .kept .1 .1 .1 .1 .0)
+fits c = omega (arith, c .if1 .left, c .before .places .ensures, c .before .before .before .before .before .before .fill-columns .kept .1 .1 .1 .1 .1 .0)
 
 write-priorities-requires : tie.Need-write-priorities-requires
 write-priorities-requires c κs =
