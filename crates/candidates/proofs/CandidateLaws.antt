@@ -131,7 +131,9 @@ kept-out {t₀} {t} {u} {at} {next} {k} by c l i {d} a h e q eu ek = rw (eu, ek)
         ∙ ap (λ (b : Bool). keptIn by c (take i l) ++ cond b (getD l i 0 ∷ []) []) (neqb (tableColours by (getD l i 0)) c (λ z. q (e ∙ z)))
         ∙ append-nil (keptIn by c (take i l))
 
--- ---- tests
+pub found-is : {p q : Policy} {m n : ℕ} {t₀ t : List ℕ} → q ≡ p → Found q m t₀ t n → Found p m t₀ t n
+found-is {p} {q} {m} {n} {t₀} {t} e f = subst (λ (r : Policy). Found r m t₀ t n) e f
+
 module _ (p : Policy) where
   -- ---- the largest cycles inside m, state by state
   largest-is : (m v x : ℕ) → x ≡ lowestCycle p m v → largestAt p m v ≡ single x

@@ -4,11 +4,14 @@ ghost use mathlib.Core.Bool.{true};
 ghost use Prim.Native.Nat.{_+_, _*_, _^_, _<_, _≤_};
 ghost use lib.ListN.{length, take};
 ghost use Rattle.policy.specs.Policies.{inFamily, legal};
+ghost use Rattle.policy.specs.declared.Policy.{Policy};
 ghost use Rattle.policy.specs.ByColour.{byColour};
+ghost use Rattle.policy.specs.Making.{fromParts};
 ghost use Rattle.tables.specs.Tables.{Stored};
 ghost use Rattle.candidates.specs.Candidates.{candidatesOf, mostCandidates};
 ghost use Rattle.candidates.specs.Listed.{single, ownEdges, isOpen, keptIn, Found, Put, Ready, Listed};
 use policy::Policy;
+use policy::Shape;
 
 // How many candidates each list holds, and how many candidates for a root there are.
 pub struct Counts {
@@ -49,17 +52,22 @@ fn append(cycles: &mut [u64; 16], n: usize, x: u64) -> usize
 }
 
 // The largest cycles inside m, by their lowest states. `seen` has those of the states below v, so v is the lowest state of its own exactly if it is in none of
-// them. The rows are space that is lent.
+// them. The rows are space that is lent. Called from two places, it is not compiled into them, and takes the parts of the policy, which would be copied.
 fn fill_cycles(
-    p: Policy,
+    shape: Shape,
     heads: &[u8; 64],
+    colours: &[u8; 64],
+    family: &[bool; 256],
     m: u64,
     rows: &mut [u64; 16],
     cycles: &mut [u64; 16],
 ) -> usize
-    requires { ⌜ (legal p ≡ true) × (now heads ≡ p .target) × (length (now rows) ≡ 16) × (length (now cycles) ≡ 16) ⌝ }
-    ensures { λ r. ⌜ Found p m (now (cycles .entry)) (now (cycles .exit)) r × (length (now (rows .exit)) ≡ 16) ⌝ }
+    ghost { Policy }
+    requires { λ p. ⌜ fromParts shape (now heads) (now colours) (now family) ≡ p ⌝ }
+    requires { λ p. ⌜ (legal p ≡ true) × (length (now rows) ≡ 16) × (length (now cycles) ≡ 16) ⌝ }
+    ensures { λ p r. ⌜ Found p m (now (cycles .entry)) (now (cycles .exit)) r × (length (now (rows .exit)) ≡ 16) ⌝ }
 {
+    let p = policy::from_parts(shape, heads, colours, family);
     graph::reach_all(p, heads, m, rows);
     let states = p.states as usize;
     let mut seen: u64 = 0;
@@ -165,7 +173,9 @@ fn list_set(
             );
         }
         let m = policy::edges_in(by, c);
-        let n = fill_cycles(p, heads, m, rows, cycles);
+        let shape = policy::shape_of(p);
+        let colours = p.colour;
+        let n = fill_cycles(shape, heads, &colours, family, m, rows, cycles);
         return append_judged(by, c, verdict, cycles, n, accepting, rejecting, listed);
     }
     listed
@@ -200,7 +210,9 @@ pub fn fill_candidates(
     let sets = set_count(p);
     let mut rows = [0u64; 16];
     let mut cycles = [0u64; 16];
-    let rooted = fill_cycles(p, heads, all, &mut rows, roots);
+    let shape = policy::shape_of(p);
+    let colours = p.colour;
+    let rooted = fill_cycles(shape, heads, &colours, family, all, &mut rows, roots);
     let mut listed = Counts {
         accepting: 0,
         rejecting: 0,

@@ -1,13 +1,15 @@
 -- `candidates::list_set` meets its contract. Assumes nothing.
-use mathlib.Core.Path.{sym, ap, _∙_}
+use mathlib.Core.Path.{_≡_, refl, sym, ap, _∙_}
 use mathlib.Core.Bool.{Bool, false}
 use mathlib.Core.List.{List}
 use lib.ListN.{take, getD}
 use native.Mathlib.Omega.{arith}
-use Rattle.policy.specs.Policies.{inFamily, full}
+use Rattle.policy.specs.Policies.{inFamily, legal, full}
+use Rattle.policy.specs.Making.{fromParts}
 use Rattle.policy.proofs.Laws.{legal-counts}
+use Rattle.policy.proofs.Making.{parts-are}
 use Rattle.candidates.specs.Candidates.{candidatesOf}
-use Rattle.candidates.proofs.CandidateLaws.{put-none, put-is, candidates-none, candidates-empty, kept-candidates, all-coloured, edges-are, found-first}
+use Rattle.candidates.proofs.CandidateLaws.{put-none, put-is, candidates-none, candidates-empty, kept-candidates, all-coloured, edges-are, found-is, found-first}
 use borrow.Author.Needs.{needs}
 use Rattle.candidates.proofs.list_set.Statement.{statement}
 use Rattle.candidates.proofs.list_set.Tie as tie
@@ -51,13 +53,20 @@ returns-2 c =
 edges-in-requires : tie.Need-edges-in-requires
 edges-in-requires c κs = search needs
 
+shape-of-requires : tie.Need-shape-of-requires
+shape-of-requires c κs = search needs
+
+-- what is lent are the parts of the policy
+parts : (c : tie.After-shape-of) → let a = c .before .before .before .before .before .before .before .before .before .args in fromParts (c .shape-of .result) (a .heads .now) (a .p .colour) (a .family .now) ≡ a .p
+parts c = let s = c .before .before .before .before .before .before .before .before .before in parts-are (s .args .p) (c .shape-of .ensures) (s .pre .0 .heads-are) refl (s .pre .0 .family-is)
+
 fill-cycles-requires : tie.Need-fill-cycles-requires
-fill-cycles-requires c κs = search needs
+fill-cycles-requires c κs = let s = c .before .before .before .before .before .before .before .before .before .before .before .before .before in (ap legal (parts (c .before .before .before .before)) ∙ s .pre .0 .lawful, s .pre .1, s .pre .2)
 
 append-judged-requires-2 : tie.Need-append-judged-requires-2
 append-judged-requires-2 c κs =
-    let s = c .before .before .before .before .before .before .before .before .before .before .before .before .before .before in
-    let found = c .before .before .before .fill-cycles .ensures .0 in
+    let s = c .before .before .before .before .before .before .before .before .before .before .before .before .before .before .before .before .before in
+    let found = found-is (parts (c .before .before .before .before .before .before .before .before)) (c .before .before .before .fill-cycles .ensures .0) in
     (omega (arith, found .few, legal-counts (s .args .p) (s .pre .0 .lawful) .states-few), found .long, omega (arith, found .few, s .pre .3), omega (arith, found .few, s .pre .4))
 
 same-length-3 : tie.Need-same-length-3
@@ -69,15 +78,16 @@ same-length-4 c = search needs
 returns-3 : tie.Need-returns-3
 unfolding inFamily
 returns-3 c =
-    let s = c .before .before .before .before .before .before .before .before .before .before .before .before .before .before .before .before .before .before .before in
+    let s = c .before .before .before .before .before .before .before .before .before .before .before .before .before .before .before .before .before .before .before .before .before .before in
     let a = s .args in
     let r = s .pre .0 in
-    let m = c .before .before .before .before .before .before .before .before .before .before .before .edges-in in
-    let cycles = c .before .before .before .before .before .before .before .before .fill-cycles in (
+    let m = c .before .before .before .before .before .before .before .before .before .before .before .before .before .before .edges-in in
+    let cycles = c .before .before .before .before .before .before .before .before .fill-cycles in
+    let found = found-is (parts (c .before .before .before .before .before .before .before .before .before .before .before .before .before)) (cycles .ensures .0) in (
       put-is (c .before .before .before .before .append-judged2 .ensures) (ap (λ (l : List Bool). getD l (a .c) false) (r .family-is))
-          (kept-candidates (a .p) (r .lawful) (a .by .now) (a .c) (m .result) _ (r .by-is) (edges-are (a .p) (r .lawful) (a .by .now) (a .c) (m .result) (r .by-is) (m .ensures)) (found-first (a .p) (r .lawful) (cycles .ensures .0))),
+          (kept-candidates (a .p) (r .lawful) (a .by .now) (a .c) (m .result) _ (r .by-is) (edges-are (a .p) (r .lawful) (a .by .now) (a .c) (m .result) (r .by-is) (m .ensures)) (found-first (a .p) (r .lawful) found)),
       cycles .ensures .1,
-      cycles .ensures .0 .long,
+      found .long,
     )
 
 returns-4 : tie.Need-returns-4
@@ -102,6 +112,7 @@ list-set-spec =
     same-length-2
     returns-2
     edges-in-requires
+    shape-of-requires
     fill-cycles-requires
     append-judged-requires-2
     same-length-3
