@@ -17,7 +17,7 @@ use Rattle.lists.proofs.Distinct.{one-mem, mem-one, one-distinct, one-few, dist
 use Rattle.lists.proofs.Filters.{filter-few}
 use Rattle.lists.specs.Bools.{differs}
 use Rattle.masks.specs.Masks.{inside, properly}
-use Rattle.masks.proofs.Bits.{inside-trans, properly-lt}
+use Rattle.masks.proofs.Bits.{inside-trans, properly-lt, properly-inside}
 use Rattle.policy.specs.declared.Policy.{Policy}
 use Rattle.policy.specs.Policies.{coloursOf, accepting, legal, full}
 use Rattle.policy.proofs.Laws.{legal-target, colours-lt, accepting-colours}
@@ -29,18 +29,11 @@ use Rattle.graph.proofs.Through.{through-cycle, through-largest, through-same, 
 use Rattle.graph.proofs.Inside.{contains-lt, cycle-state, inside-full}
 use Rattle.forest.specs.Forest.{Node, isRoot, node, inOrder, largest, roots, children}
 use Rattle.forest.specs.Laws.{ForestLaws, maskAt, parentAt}
-use Rattle.candidates.specs.Candidates.{lowestIs, largestAt, largestIn, candidatesOf, coloursAt, candidates, judged, rootCandidates}
-use Rattle.candidates.specs.Siblings.{childrenIn}
-use Rattle.forest.proofs.Order.{order-mem, mem-order}
-use Rattle.forest.proofs.Largest.{largest-order-mem, in-largest-order}
-use Rattle.candidates.proofs.Distinct.{distinct-ordered, distinct-largest}
+use Rattle.candidates.specs.Candidates.{lowestIs, largestAt, largestIn, candidatesOf, coloursAt, candidates, judged, rootCandidates, childrenIn}
+use Rattle.forest.proofs.Order.{order-mem, mem-order, distinct-ordered}
+use Rattle.forest.proofs.Largest.{largest-order-mem, in-largest-order, largest-ordered}
 use Rattle.forest.proofs.Children.{root-cycle, root-largest}
 use Rattle.candidates.proofs.Full.{Full, full-cycle, full-state, fill, fill-inside}
-
--- ---- verdicts
-pub properly-inside : (x y : ℕ) → properly x y ≡ true → inside x y ≡ true
-unfolding properly
-properly-inside x y t = and-l (inside x y) (not (eqb x y)) t
 
 module _ (p : Policy) where
   -- ---- the lowest state
@@ -223,7 +216,7 @@ module _ (p : Policy) where
 
     pub children-are : (n : ℕ) → List·Memᴰ n (candidates p) → children p n ≡ childrenIn (judged p (not (accepting p n))) n
     unfolding childrenIn
-    children-are n k = sym (Rattle.forest.proofs.Children.children-are p n (inOrder (largest (within n))) part above apart (distinct-ordered (largest (within n)) (distinct-largest (within n) (distinct-filter (λ (m : ℕ). properly m n) (judged p (not (accepting p n))) (judged-distinct (not (accepting p n)))))))
+    children-are n k = sym (Rattle.forest.proofs.Children.children-are p n (inOrder (largest (within n))) part above apart (largest-ordered (within n) (distinct-filter (λ (m : ℕ). properly m n) (judged p (not (accepting p n))) (judged-distinct (not (accepting p n))))))
       where
         part : (x : ℕ) → List·Memᴰ x (inOrder (largest (within n))) → (isCycle p x ≡ true) × (inside x n ≡ true) × (accepting p x ≡ not (accepting p n))
         part x m = let r = within-mem n x (largest-order-mem (within n) x m .0) in (candidate-cycle x (r .0), r .1, r .2)

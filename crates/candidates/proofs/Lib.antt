@@ -1,4 +1,3 @@
-pub mod Distinct
 pub mod Few
 pub mod Full
 pub mod Candidates

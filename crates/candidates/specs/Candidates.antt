@@ -1,15 +1,19 @@
 -- Where nodes are looked for: one list of cycles for the whole policy, by colour sets, holds every node of the forest.
-use Prim.Native.Nat.{ℕ, _-_, _*_, _^_}
-use mathlib.Core.Bool.{Bool, not, _&&_, cond}
+use Prim.Native.Nat.{ℕ, _-_, _*_, _^_, _<_}
+use mathlib.Core.Path.{_≡_}
+use mathlib.Core.Bool.{Bool, false, not, _&&_, cond}
 use mathlib.Core.List.{List, [], _∷_, map}
 use lib.Dec.{eqb}
+use lib.ListN.{length, getD}
 use Rattle.lists.specs.Lists.{any, filter, flat, below}
 use Rattle.lists.specs.Bools.{differs}
+use Rattle.masks.specs.Masks.{properly}
 use Rattle.policy.specs.declared.Policy.{Policy}
 use Rattle.policy.specs.Policies.{coloursOf, accepting, full}
 use Rattle.policy.specs.ByColour.{edgesIn}
 use Rattle.graph.specs.Cycles.{contains}
 use Rattle.graph.specs.Through.{cycleThrough}
+use Rattle.forest.specs.Forest.{inOrder, largest}
 
 module _ (p : Policy) where
   -- x is a cycle whose lowest state is v, given that it is 0 or a cycle through v
@@ -47,3 +51,12 @@ module _ (p : Policy) where
   -- the candidates for a root: the largest cycles of all
   unfoldable pub rootCandidates : List ℕ
   rootCandidates = largestIn (full p)
+
+-- ---- the children of a node on a list
+-- the largest of l properly inside n, in sibling order
+unfoldable pub childrenIn : List ℕ → ℕ → List ℕ
+childrenIn l n = inOrder (largest (filter (λ m. properly m n) l))
+
+-- the order that a search for them goes by: no member stands before one that it lies properly inside
+abbrev pub LargerFirst : List ℕ → Type 0
+LargerFirst l = (i j : ℕ) → i < j → j < length l → properly (getD l i 0) (getD l j 0) ≡ false

@@ -8,9 +8,10 @@ use mathlib.Core.List.{List, List·Memᴰ}
 use lib.Dec.{eqb}
 use lib.Bits.{bitOr}
 use lib.Count.{ones, ones-le}
-use Rattle.lists.specs.Lists.{Ascending}
+use Rattle.lists.specs.Lists.{Distinct}
 use Rattle.lists.proofs.Bools.{neqb, both, or-left, or-right, not-itself, differs-not, differs-other}
-use Rattle.lists.proofs.Lists.{filter-mem, mem-filter, ascending-filter}
+use Rattle.lists.proofs.Lists.{filter-mem, mem-filter}
+use Rattle.lists.proofs.Distinct.{distinct-filter, distinct-ascending}
 use Rattle.lists.specs.Bools.{differs}
 use Rattle.masks.specs.Masks.{has, inside, properly}
 use Rattle.masks.proofs.Bits.{has-or, inside-all, all-inside, ones-inside}
@@ -26,6 +27,9 @@ use Rattle.forest.proofs.Largest.{inside-same, largest-order-mem, in-la
 
 module _ (p : Policy) where
   -- ---- the cycles inside a mask
+  distinct-cycles : (m : ℕ) → Distinct (cyclesIn p m)
+  distinct-cycles m = distinct-ascending (cyclesIn p m) (ascending-cycles p m)
+
   -- ---- roots
   pub root-cycle : (r : ℕ) → List·Memᴰ r (roots p) → isCycle p r ≡ true
   unfolding roots
@@ -55,7 +59,7 @@ module _ (p : Policy) where
 
   pub ordered-roots : Ordered (roots p)
   unfolding roots
-  ordered-roots = largest-ordered (cyclesIn p (full p)) (ascending-cycles p (full p))
+  ordered-roots = largest-ordered (cyclesIn p (full p)) (distinct-cycles (full p))
 
   -- a list of cycles in sibling order, none properly inside another, with one above each cycle: the roots
   pub roots-are : (kept : List ℕ) → ((x : ℕ) → List·Memᴰ x kept → isCycle p x ≡ true)
@@ -63,7 +67,7 @@ module _ (p : Policy) where
       → ((x y : ℕ) → List·Memᴰ x kept → List·Memᴰ y kept → properly x y ≡ false) → Ordered kept → kept ≡ roots p
   unfolding roots
   roots-are kept part above apart o =
-      kept-is (cyclesIn p (full p)) kept (λ x k. mem-cycles p (full p) x (part x k) (inside-full p x (part x k))) (λ x k. above x (cycles-mem p (full p) x k .0)) apart (ascending-cycles p (full p)) o
+      kept-is (cyclesIn p (full p)) kept (λ x k. mem-cycles p (full p) x (part x k) (inside-full p x (part x k))) (λ x k. above x (cycles-mem p (full p) x k .0)) apart (distinct-cycles (full p)) o
 
   -- ---- the cycles inside a mask with the other verdict
   abbrev other : ℕ → ℕ → Bool
@@ -80,9 +84,9 @@ module _ (p : Policy) where
   unfolding opposed
   mem-opposed m x c i t = mem-filter (other m) (cyclesIn p m) x (mem-cycles p m x c i) (differs-other (accepting p m) (accepting p x) t)
 
-  ascending-opposed : (m : ℕ) → Ascending (opposed p m)
+  distinct-opposed : (m : ℕ) → Distinct (opposed p m)
   unfolding opposed
-  ascending-opposed m = ascending-filter (other m) (cyclesIn p m) (ascending-cycles p m)
+  distinct-opposed m = distinct-filter (other m) (cyclesIn p m) (distinct-cycles m)
 
   -- ---- children
   pub record Child (m c : ℕ) : Type 0 where
@@ -108,7 +112,7 @@ module _ (p : Policy) where
 
   pub ordered-children : (m : ℕ) → Ordered (children p m)
   unfolding children
-  ordered-children m = largest-ordered (opposed p m) (ascending-opposed m)
+  ordered-children m = largest-ordered (opposed p m) (distinct-opposed m)
 
   -- a list of opposed cycles in sibling order, none properly inside another, with one above each opposed cycle: the children
   pub children-are : (m : ℕ) (kept : List ℕ) → ((x : ℕ) → List·Memᴰ x kept → (isCycle p x ≡ true) × (inside x m ≡ true) × (accepting p x ≡ not (accepting p m)))
@@ -116,7 +120,7 @@ module _ (p : Policy) where
       → ((x y : ℕ) → List·Memᴰ x kept → List·Memᴰ y kept → properly x y ≡ false) → Ordered kept → kept ≡ children p m
   unfolding children
   children-are m kept part above apart o =
-      kept-is (opposed p m) kept (λ x k. let r = part x k in mem-opposed m x (r .0) (r .1) (r .2)) (λ x k. let r = opposed-mem m x k in above x (r .0) (r .1) (r .2)) apart (ascending-opposed m) o
+      kept-is (opposed p m) kept (λ x k. let r = part x k in mem-opposed m x (r .0) (r .1) (r .2)) (λ x k. let r = opposed-mem m x k in above x (r .0) (r .1) (r .2)) apart (distinct-opposed m) o
 
   inside-parent : (m c : ℕ) → List·Memᴰ c (children p m) → inside c m ≡ true
   unfolding children

@@ -1,14 +1,16 @@
--- The sibling order is a strict total order, and `inOrder` puts masks in it: the same members, each before those after it. Two lists in
+-- The sibling order is a strict total order, and `inOrder` puts masks in it: the same members, as many, each before those after it. Two lists in
 -- that order with the same members are equal. Only the first three lemmas look at what the order is. Assumes nothing.
-use Prim.Native.Nat.{ℕ}
+use Prim.Native.Nat.{ℕ, suc}
 use native.Mathlib.Omega.{arith}
 use mathlib.Core.Path.{_≡_, refl, sym, ap, _∙_}
 use mathlib.Core.Logic.{_⊎_, inl, inr, _≢_}
-use mathlib.Core.Bool.{true, false, true≢false}
+use mathlib.Core.Bool.{Bool, true, false, cond, true≢false}
 use mathlib.Core.List.{List, [], _∷_, List·Memᴰ, List·Memᴰ·head, List·Memᴰ·tail, List·Memᴰ·cases-cons, List·Memᴰ·not-nil}
 use lib.Dec.{ltb}
-use Rattle.lists.specs.Lists.{Ascending}
+use lib.ListN.{length}
+use Rattle.lists.specs.Lists.{filter, Distinct}
 use Rattle.lists.proofs.Bools.{test, lt-true, lt-false}
+use Rattle.lists.proofs.Lists.{filter-mem}
 use Rattle.forest.specs.Forest.{before, place, inOrder}
 use Rattle.forest.specs.Laws.{Ordered}
 
@@ -88,6 +90,15 @@ place-ordered m (y ∷ l) o new = go (test (before m y)) (place-ordered m l (o .
     go (inl t) ih = rw t (λ z k. after-m t z (List·Memᴰ·cases-cons k), o)
     go (inr f) ih = rw f (λ z k. after-y (first f (before-total m y (new y (List·Memᴰ·head refl)))) z (place-mem m l z k), ih)
 
+length-place : (m : ℕ) (l : List ℕ) → length (place m l) ≡ suc (length l)
+unfolding place
+length-place m [] = refl
+length-place m (y ∷ l) = go (before m y) (length-place m l)
+  where
+    go : (b : Bool) → length (place m l) ≡ suc (length l) → length (cond b (m ∷ y ∷ l) (y ∷ place m l)) ≡ suc (suc (length l))
+    go true ih = refl
+    go false ih = ap suc ih
+
 -- ---- a list put in order
 pub order-mem : (l : List ℕ) (x : ℕ) → List·Memᴰ x (inOrder l) → List·Memᴰ x l
 unfolding inOrder
@@ -102,11 +113,24 @@ unfolding inOrder
 mem-order (m ∷ l) x (List·Memᴰ·head e) = mem-place m (inOrder l) x (List·Memᴰ·head e)
 mem-order (m ∷ l) x (List·Memᴰ·tail k) = mem-place m (inOrder l) x (List·Memᴰ·tail (mem-order l x k))
 
--- an ascending list has no member twice
-pub order-ordered : (l : List ℕ) → Ascending l → Ordered (inOrder l)
+pub length-order : (l : List ℕ) → length (inOrder l) ≡ length l
 unfolding inOrder
-order-ordered [] a = tt
-order-ordered (m ∷ l) a = place-ordered m (inOrder l) (order-ordered l (a .1)) (λ y k e. absurd (omega (arith, a .0 y (order-mem l y k))))
+length-order [] = refl
+length-order (m ∷ l) = length-place m (inOrder l) ∙ ap suc (length-order l)
+
+pub distinct-ordered : (l : List ℕ) → Distinct l → Ordered (inOrder l)
+unfolding inOrder
+distinct-ordered [] d = tt
+distinct-ordered (m ∷ l) d = place-ordered m (inOrder l) (distinct-ordered l (d .1)) (λ y k. d .0 y (order-mem l y k))
+
+-- ---- lists in order
+pub ordered-filter : (t : ℕ → Bool) (l : List ℕ) → Ordered l → Ordered (filter t l)
+ordered-filter t [] o = tt
+ordered-filter t (x ∷ l) o = go (t x) (ordered-filter t l (o .1))
+  where
+    go : (b : Bool) → Ordered (filter t l) → Ordered (cond b (x ∷ filter t l) (filter t l))
+    go true r = (λ y k. o .0 y (filter-mem t l y k .0), r)
+    go false r = r
 
 -- two lists in order with the same members are one
 pub ordered-same : (l r : List ℕ) → Ordered l → Ordered r → ((x : ℕ) → List·Memᴰ x l → List·Memᴰ x r) → ((x : ℕ) → List·Memᴰ x r → List·Memᴰ x l) → l ≡ r

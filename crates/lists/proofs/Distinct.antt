@@ -1,13 +1,15 @@
--- Lists without a member twice: filtered, appended, of numbers below n, joined, of at most one member. Assumes nothing.
-use Prim.Native.Nat.{ℕ, _≤_}
+-- Lists without a member twice: filtered, appended, of numbers below n, joined, of at most one member; the position of a member. Assumes nothing.
+use Prim.Native.Nat.{ℕ, zero, suc, _≤_, _<_}
 use native.Mathlib.Omega.{arith}
-use mathlib.Core.Path.{_≡_, refl, sym}
+use mathlib.Core.Path.{_≡_, refl, sym, ap}
 use mathlib.Core.Logic.{_⊎_, inl, inr, _≢_}
 use mathlib.Core.Bool.{Bool, true, false, cond}
 use mathlib.Core.List.{List, [], _∷_, _++_, map, List·Memᴰ, List·Memᴰ·head, List·Memᴰ·tail, List·Memᴰ·append-cases, List·Memᴰ·not-nil, List·Memᴰ·eq-of-singleton}
-use lib.ListN.{length}
-use Rattle.lists.specs.Lists.{filter, flat, below, Ascending, Distinct}
-use Rattle.lists.proofs.Lists.{filter-mem, flat-mem, ascending-below}
+use lib.Dec.{eqb}
+use lib.ListN.{length, getD}
+use Rattle.lists.specs.Lists.{filter, flat, position, below, Ascending, Distinct}
+use Rattle.lists.proofs.Bools.{≡eqb, neqb}
+use Rattle.lists.proofs.Lists.{filter-mem, flat-mem, ascending-below, getD-mem}
 
 pub distinct-filter : (p : ℕ → Bool) (l : List ℕ) → Distinct l → Distinct (filter p l)
 distinct-filter p [] d = tt
@@ -39,6 +41,12 @@ distinct-flat f [] d each apart = tt
 distinct-flat f (x ∷ l) d each apart =
     distinct-append (f x) (flat (map f l)) (each x (List·Memᴰ·head refl)) (distinct-flat f l (d .1) (λ y m. each y (List·Memᴰ·tail m)) (λ y w z m n. apart y w z (List·Memᴰ·tail m) (List·Memᴰ·tail n)))
     (λ z m n. let r = flat-mem f l z n in d .0 (r .0) (r .1) (apart x (r .0) z (List·Memᴰ·head refl) (List·Memᴰ·tail (r .1)) m (r .2)))
+
+-- ---- each member stands at its position
+pub position-once : (l : List ℕ) → Distinct l → (i : ℕ) → i < length l → position (eqb (getD l i 0)) l ≡ i
+position-once [] d i h = absurd (omega arith)
+position-once (x ∷ l) d zero h = rw (≡eqb x x refl) refl
+position-once (x ∷ l) d (suc i) h = rw (neqb (getD l i 0) x (λ e. d .0 (getD l i 0) (getD-mem l i 0 (omega arith)) (sym e))) (ap suc (position-once l (d .1) i (omega arith)))
 
 -- ---- at most one
 module _ {A : Type 0} where

@@ -112,6 +112,18 @@ properly-lt a b h =
     lib.Arith.lt-of-le-ne (inside-le a b (and-l (inside a b) (not (eqb a b)) h))
     (λ e. true≢false (sym (≡eqb a b e) ∙ not-true (eqb a b) (and-r (inside a b) (not (eqb a b)) h)))
 
+pub properly-inside : (a b : ℕ) → properly a b ≡ true → inside a b ≡ true
+unfolding properly
+properly-inside a b h = and-l (inside a b) (not (eqb a b)) h
+
+pub outside-properly : (a b : ℕ) → inside a b ≡ false → properly a b ≡ false
+unfolding properly
+outside-properly a b f = rw f refl
+
+pub properly-itself : (a : ℕ) → properly a a ≡ false
+unfolding properly
+properly-itself a = rw (inside-refl a, ≡eqb a a refl) refl
+
 pub has-none : (e : ℕ) → has zero e ≡ false
 unfolding has
 has-none zero = refl

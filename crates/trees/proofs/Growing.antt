@@ -1,6 +1,6 @@
 -- What growing a tree rests on: the trees recorded so far stay where they stand, a copy of one is the tree in its new place, and the trees of the children, one after
 -- the other, are the rest of the tree. Assumes nothing.
-use Prim.Native.Nat.{ℕ, zero, suc, _+_, _-_, _*_, _≤_, _<_, max}
+use Prim.Native.Nat.{ℕ, _+_, _-_, _*_, _≤_, _<_, max}
 use native.Mathlib.Omega.{arith}
 use native.Mathlib.Decide.{ℕ-discrete}
 use native.Mathlib.Nat.{suc-mul, mul-le-mul-right}
@@ -10,13 +10,15 @@ use mathlib.Core.Logic.{_≢_}
 use mathlib.Core.Bool.{Bool, true, false, not, cond}
 use mathlib.Core.List.{List, [], _∷_, _++_, map, List·Memᴰ}
 use lib.Count.{ones, ones-le}
-use lib.ListN.{length, getD, take, drop, set, length-append, length-set, length-map, List·getD-append, take-append-drop}
-use lib.Seq.{sets, length-sets, getD-append-add, getD-set-same, getD-set-other, take-suc, take-all, getD-take, drop-at, getD-drop, length-take-le}
+use lib.ListN.{length, getD, take, drop, set, length-append, length-set, List·getD-append, take-append-drop}
+use lib.Seq.{sets, length-sets, getD-append-add, getD-set-same, getD-set-other, take-suc, take-all, drop-at, getD-drop, length-take-le}
 use borrow.Rule.Slice.PartMut.{putMid, postOf}
 use Rattle.lists.specs.Lists.{Distinct, flat}
 use Rattle.lists.proofs.Lists.{getD-mem}
+use Rattle.tables.specs.Tables.{Column, Stored}
 use Rattle.tables.specs.Copies.{part, moved}
-use Rattle.tables.proofs.Stores.{sets-append, sets-first, sets-head}
+use Rattle.tables.proofs.Stores.{sets-append, sets-first, sets-head, stored-length}
+use Rattle.tables.proofs.Columns.{column-sets}
 use Rattle.tables.proofs.Copies.{part-sets, part-at}
 use Rattle.policy.specs.declared.Policy.{Policy}
 use Rattle.policy.specs.Policies.{edges, accepting}
@@ -26,49 +28,42 @@ use Rattle.forest.specs.Subtrees.{treeMasks, treeParents, treeSize, rowMasks, r
 use Rattle.forest.proofs.Children.{child, child-fewer}
 use Rattle.forest.proofs.Levels.{levels-some, levels-child}
 use Rattle.forest.proofs.Subtrees.{length-parents, parents-moved, parents-few, row-none-masks, row-none-parents, row-more-masks, row-more-parents, length-row, tree-masks, tree-parents}
-use Rattle.candidates.specs.Candidates.{candidates, judged}
+use Rattle.candidates.specs.Candidates.{candidates, judged, childrenIn, LargerFirst}
 use Rattle.candidates.specs.Listed.{Candidates}
-use Rattle.candidates.specs.Siblings.{childrenIn, LargerFirst}
 use Rattle.candidates.proofs.Candidates.{candidate-cycle, judged-distinct, children-are, child-candidate}
 use Rattle.candidates.proofs.Few.{most-few, judged-few}
 use Rattle.candidates.proofs.LargerFirst.{larger-first}
-use Rattle.trees.specs.Search.{masksAt, ChildrenFound}
+use Rattle.siblings.specs.Positions.{childPositions}
+use Rattle.siblings.proofs.Positions.{length-positions, positions-few, child-position}
 use Rattle.trees.specs.Growing.{StandsAt, Recorded, Places, TreeRoot, TreeToWrite, TreeWritten}
 
 -- ---- the positions of the children of x in l stand in the scratch from place `free` on, n of them
 pub record ChildrenAt (l : List ℕ) (x : ℕ) (scratch : List ℕ) (free n : ℕ) : Type 0 where
-  pub many : length (childrenIn l x) ≡ n
-  pub few : n ≤ length l
-  pub each : (j : ℕ) → j < n → getD scratch (free + j) 0 < length l
-  pub are : (j : ℕ) → j < n → getD l (getD scratch (free + j) 0) 0 ≡ getD (childrenIn l x) j 0
+  pub many : length (childPositions l x) ≡ n
+  pub are : (j : ℕ) → j < n → getD scratch (free + j) 0 ≡ getD (childPositions l x) j 0
 
 -- found in the part of the scratch that is free, which is put back
-pub children-found : {l : List ℕ} {x : ℕ} {ks : List ℕ} {n : ℕ} (scratch : List ℕ) (free k : ℕ) → ChildrenFound l x ks n → n ≤ length ks → free ≤ length scratch → ChildrenAt l x (putMid free k scratch ks) free n
-children-found {l} {x} {ks} {n} scratch free k f h le = record {
-  many = sym (ap length (f .children-are)) ∙ length-map (take n ks) (λ (i : ℕ). getD l i 0) ∙ length-take-le n ks h;
-  few = f .few;
-  each = λ j b. subst (λ (i : ℕ). i < length l) (sym (here j b)) (f .each j b);
-  are = λ j b. ap (λ (i : ℕ). getD l i 0) (here j b ∙ sym (getD-take n ks j 0 b)) ∙ sym (at-place (take n ks) j (omega (arith, length-take-le n ks h))) ∙ ap (λ (t : List ℕ). getD t j 0) (f .children-are);
-}
+pub children-found : {l : List ℕ} {x : ℕ} {ks₀ ks : List ℕ} {n : ℕ} (scratch : List ℕ) (free k : ℕ) → Stored ks₀ ks 0 n (childPositions l x) → length l ≤ length ks → free ≤ length scratch → ChildrenAt l x (putMid free k scratch ks) free n
+children-found {l} {x} {ks₀} {ks} {n} scratch free k f h le = record { many = omega (arith, f .next-is); are = λ j b. here j b ∙ ap (λ (t : List ℕ). getD t j 0) (f .now-is) ∙ stored .each j (omega (arith, f .next-is)) }
   where
     here : (j : ℕ) → j < n → getD (putMid free k scratch ks) (free + j) 0 ≡ getD ks j 0
     here j b =
         sym (getD-drop free (putMid free k scratch ks) j 0) ∙ ap (λ (t : List ℕ). getD t j 0) (drop-at (take free scratch) (ks ++ postOf free k scratch) free (length-take-le free scratch le))
-        ∙ List·getD-append ks (postOf free k scratch) 0 j (omega arith)
+        ∙ List·getD-append ks (postOf free k scratch) 0 j (omega (arith, f .next-is, positions-few l x))
 
-    at-place : (is : List ℕ) (i : ℕ) → i < length is → getD (masksAt l is) i 0 ≡ getD l (getD is i 0) 0
-    at-place [] i b = absurd (omega arith)
-    at-place (y ∷ is) zero b = refl
-    at-place (y ∷ is) (suc i) b = at-place is i (omega arith)
+    stored : Column (childPositions l x) (sets ks₀ 0 (childPositions l x))
+    stored = column-sets ks₀ (childPositions l x) (omega (arith, positions-few l x, stored-length f))
 
--- they stay where the scratch does
-pub children-kept : {l : List ℕ} {x : ℕ} {s s′ : List ℕ} {free n : ℕ} → ChildrenAt l x s free n → ((j : ℕ) → free ≤ j → j < free + n → getD s′ j 0 ≡ getD s j 0) → ChildrenAt l x s′ free n
-children-kept {l} {x} {s} {s′} {free} {n} f e = record {
-  many = f .many;
-  few = f .few;
-  each = λ j b. subst (λ (i : ℕ). i < length l) (sym (e (free + j) (omega arith) (omega arith))) (f .each j b);
-  are = λ j b. ap (λ (i : ℕ). getD l i 0) (e (free + j) (omega arith) (omega arith)) ∙ f .are j b;
-}
+module _ {l : List ℕ} {x : ℕ} {s : List ℕ} {free n : ℕ} (f : ChildrenAt l x s free n) where
+  -- they stay where the scratch does
+  pub children-kept : {s′ : List ℕ} → ((j : ℕ) → free ≤ j → j < free + n → getD s′ j 0 ≡ getD s j 0) → ChildrenAt l x s′ free n
+  children-kept e = record { many = f .many; are = λ j b. e (free + j) (omega arith) (omega arith) ∙ f .are j b }
+
+  pub children-few : n ≤ length l
+  children-few = omega (arith, f .many, positions-few l x)
+
+  children-at : {j : ℕ} → j < n → (getD s (free + j) 0 < length l) × (getD l (getD s (free + j) 0) 0 ≡ getD (childrenIn l x) j 0)
+  children-at {j} b = rw (f .are j b) (child-position l x j (omega (arith, f .many)))
 
 -- ---- the lists
 module _ {p : Policy} {a r : List ℕ} (g : Candidates p a r) where
@@ -122,13 +117,13 @@ module _ {p : Policy} {a r : List ℕ} (g : Candidates p a r) where
       children-list = ap (λ (l : List ℕ). childrenIn l m) (other-are v ∙ ap (λ (b : Bool). judged p (not b)) (t .verdict-is)) ∙ sym (children-are p (g .lawful) m (t .candidate))
 
       pub found-count : length (children p m) ≡ count
-      found-count = sym (ap length children-list) ∙ f .many
+      found-count = sym (ap length children-list) ∙ sym (length-positions (cond v r a) m) ∙ f .many
 
       pub found-few : count ≤ max (length a) (length r)
-      found-few = omega (arith, f .few, other-few v)
+      found-few = omega (arith, children-few f, other-few v)
 
       pub found-small : (count ≤ 4096) × ((j : ℕ) → j < count → getD s (free + j) 0 < 4096) × (cond v (length a) 0 ≤ 4096)
-      found-small = (omega (arith, found-few, lists-few), λ j h. omega (arith, f .each j h, other-few v, lists-few), first v)
+      found-small = (omega (arith, found-few, lists-few), λ j h. omega (arith, children-at f h .0, other-few v, lists-few), first v)
         where
           first : (b : Bool) → cond b (length a) 0 ≤ 4096
           first true = omega (arith, lists-few)
@@ -140,7 +135,10 @@ module _ {p : Policy} {a r : List ℕ} (g : Candidates p a r) where
         child-mem = getD-mem (children p m) j 0 (omega (arith, found-count))
 
         pub found-at : (first : ℕ) → first ≡ cond v (length a) 0 → (first + getD s (free + j) 0 < length (a ++ r)) × (getD (a ++ r) (first + getD s (free + j) 0) 0 ≡ getD (children p m) j 0)
-        found-at first e = let o = other-at v (getD s (free + j) 0) (f .each j h) in rw e (o .0, o .1 ∙ f .are j h ∙ ap (λ (l : List ℕ). getD l j 0) children-list)
+        found-at first e =
+            let q = children-at f h in
+            let o = other-at v (getD s (free + j) 0) (q .0) in
+            rw e (o .0, o .1 ∙ q .1 ∙ ap (λ (l : List ℕ). getD l j 0) children-list)
 
         pub found-fewer : (i : ℕ) → getD (a ++ r) i 0 ≡ getD (children p m) j 0 → ones (getD (a ++ r) i 0) < ones m
         found-fewer i e = subst (λ (x : ℕ). ones x < ones m) (sym e) (child-fewer p m (getD (children p m) j 0) child-mem)

@@ -1,4 +1,2 @@
 pub mod Growing
-pub mod NextRoot
 pub mod Roots
-pub mod Search

@@ -1,57 +1,35 @@
 -- What growing the trees of all roots rests on: the search for the next root finds them in their order, and their trees, one after the other, are the forest. Assumes nothing.
-use Prim.Native.Nat.{ℕ, zero, suc, _+_, _*_, _≤_, _<_, min, max}
+use Prim.Native.Nat.{ℕ, _+_, _*_, _≤_, _<_, min, max}
 use native.Mathlib.Omega.{arith}
 use native.Mathlib.Decide.{decLt}
 use native.Mathlib.Nat.{mul-le-mul-left, mul-le-mul-right}
-use native.Mathlib.Numerals.{add-one}
 use mathlib.Core.Path.{_≡_, sym, ap, _∙_, subst}
-use mathlib.Core.Logic.{_⊎_, inl, inr, _≢_}
-use mathlib.Core.Bool.{Bool, true, false, true≢false}
-use mathlib.Core.List.{List, [], _∷_, _++_, List·Memᴰ}
+use mathlib.Core.Logic.{_≢_}
+use mathlib.Core.Bool.{Bool, true}
+use mathlib.Core.List.{List, _++_, List·Memᴰ}
 use lib.ListN.{length, getD, take, length-append, List·getD-eq-default}
 use lib.Seq.{sets, take-all}
 use borrow.Author.Tests.{le-leb, lt-leb}
-use Rattle.lists.specs.Lists.{filter, firstOr, Distinct}
-use Rattle.lists.proofs.Bools.{test, neqb}
-use Rattle.lists.proofs.Lists.{getD-mem, first-at}
-use Rattle.lists.proofs.Filters.{filter-all}
+use Rattle.lists.specs.Lists.{Distinct}
+use Rattle.lists.proofs.Lists.{getD-mem}
 use Rattle.tables.specs.Tables.{zeros}
 use Rattle.tables.proofs.Tables.{zeros-same}
 use Rattle.policy.specs.declared.Policy.{Policy}
 use Rattle.policy.specs.Policies.{accepting, legal}
 use Rattle.graph.proofs.Cycles.{cycle-some}
-use Rattle.forest.specs.Forest.{before, forest, inOrder, mostLevels, roots}
-use Rattle.forest.specs.Laws.{Ordered}
+use Rattle.forest.specs.Forest.{forest, inOrder, mostLevels, roots}
 use Rattle.candidates.specs.Candidates.{rootCandidates}
-use Rattle.candidates.specs.Siblings.{nextIn}
+use Rattle.siblings.specs.NextRoot.{nextIn}
+use Rattle.siblings.proofs.NextRoot.{next-first, next-at}
 use Rattle.candidates.specs.Listed.{Candidates}
 use Rattle.forest.specs.Subtrees.{treeSize, rowMasks, rowParents}
 use Rattle.trees.specs.Growing.{TreeToWrite, TreeWritten, Scratch, forestFits, ForestWritten}
-use Rattle.forest.proofs.Order.{before-irreflexive, before-transitive}
 use Rattle.forest.proofs.Levels.{levels-most}
 use Rattle.forest.proofs.Children.{root-cycle, root-few, ordered-roots}
 use Rattle.candidates.proofs.Candidates.{root-candidate, roots-are, root-candidates-cycle, root-candidates-distinct}
 use Rattle.forest.proofs.Columns.{length-masks}
 use Rattle.forest.proofs.Subtrees.{tree-masks, forest-masks, forest-parents}
 use Rattle.trees.proofs.Growing.{RowWritten, row-none, row-more, row-over}
-
--- ---- the next of some siblings in order
-after-at : (l : List ℕ) → Ordered l → (j : ℕ) → j < length l → firstOr 0 (filter (before (getD l j 0)) l) ≡ getD l (suc j) 0
-after-at [] o j h = absurd (omega arith)
-after-at (x ∷ l) o zero h = rw (before-irreflexive x) (ap (firstOr 0) (filter-all (before x) l (o .0)) ∙ first-at 0 l)
-after-at (x ∷ l) o (suc j) h = rw (back (test (before (getD l j 0) x))) (after-at l (o .1) j (omega arith))
-  where
-    back : (before (getD l j 0) x ≡ true) ⊎ (before (getD l j 0) x ≡ false) → before (getD l j 0) x ≡ false
-    back (inl t) = absurd (true≢false (sym (before-transitive x (getD l j 0) x (o .0 (getD l j 0) (getD-mem l j 0 (omega arith))) t) ∙ before-irreflexive x))
-    back (inr f) = f
-
-next-at : (l : List ℕ) → Ordered l → (j : ℕ) → j < length l → getD l j 0 ≢ 0 → nextIn (getD l j 0) l ≡ getD l (j + 1) 0
-unfolding nextIn
-next-at l o j h z = rw (neqb (getD l j 0) 0 z) (after-at l o j h ∙ ap (λ (i : ℕ). getD l i 0) (sym (add-one j)))
-
-next-first : (l : List ℕ) → nextIn 0 l ≡ getD l 0 0
-unfolding nextIn
-next-first l = first-at 0 l
 
 -- ---- the trees of the first j roots are written, and the search goes on after them
 pub record RootsWritten (p : Policy) (list : List ℕ) (places : ℕ) (masks₀ parents₀ masks parents scratch : List ℕ) (next after : ℕ) : Type 0 where

@@ -6,19 +6,15 @@ ghost use Prim.Native.Nat.{ℕ, _+_, _-_, _*_, _<_, _≤_};
 ghost use lib.ListN.{length, getD, set};
 ghost use lib.Seq.{sets};
 ghost use Rattle.lists.specs.Lists.{Distinct};
-ghost use Rattle.tables.specs.Tables.{Undecided};
+ghost use Rattle.tables.specs.Tables.{Stored, Undecided};
 ghost use Rattle.tables.specs.Copies.{part, moved};
 ghost use Rattle.policy.specs.declared.Policy.{Policy};
 ghost use Rattle.policy.specs.ByColour.{byColour};
-ghost use Rattle.candidates.specs.Candidates.{rootCandidates};
-ghost use Rattle.candidates.specs.Siblings.{LargerFirst};
+ghost use Rattle.candidates.specs.Candidates.{rootCandidates, LargerFirst};
 ghost use Rattle.candidates.specs.Listed.{Candidates};
-ghost use Rattle.trees.specs.Search.{ChildrenFound};
+ghost use Rattle.siblings.specs.Positions.{childPositions};
 ghost use Rattle.trees.specs.Growing.{TreeToWrite, TreeWritten, Kept, Scratch, ForestWritten};
 use policy::Policy;
-
-mod searching;
-mod siblings;
 
 // A tree copied from its number `from` to `at`; its root has a parent of its own.
 fn copy_tree(
@@ -60,12 +56,12 @@ fn find_children(
 ) -> usize
     requires lists { ⌜ (Distinct (now accepting) × LargerFirst (now accepting)) × (Distinct (now rejecting) × LargerFirst (now rejecting)) ⌝ }
     requires places { ⌜ (length (now accepting) ≤ length (now kids)) × (length (now rejecting) ≤ length (now kids)) × (length (now accepting) ≤ 4096) × (length (now rejecting) ≤ 4096) ⌝ }
-    ensures { λ r. ⌜ ChildrenFound (cond verdict (now (rejecting .entry)) (now (accepting .entry))) n (now (kids .exit)) r ⌝ }
+    ensures { λ r. ⌜ Stored (now (kids .entry)) (now (kids .exit)) 0 r (childPositions (cond verdict (now (rejecting .entry)) (now (accepting .entry))) n) ⌝ }
 {
     if verdict {
-        return searching::fill_children(rejecting, n, kids);
+        return siblings::fill_children(rejecting, n, kids);
     }
-    searching::fill_children(accepting, n, kids)
+    siblings::fill_children(accepting, n, kids)
 }
 
 // The position of the first mask of the other verdict.

@@ -15,7 +15,7 @@ use borrow.Fn.PlainCycle.{Measures, is, falls, and}
 use Rattle.policy.specs.declared.Policy.{Policy}
 use Rattle.forest.specs.Forest.{children}
 use Rattle.trees.specs.Growing.{TreeToWrite, Kept}
-use Rattle.trees.proofs.Growing.{ChildrenAt, children-found, children-kept, lists-few, lists-searchable, other-few, root-size, root-room, root-parents, found-count, found-small, found-at, found-fewer, RowWritten, row-none, row-more, to-write-is, to-write-root, to-write-child, written-none, written-copy, written-whole, written-over, written-is, written-recorded, record-kept, copy-fits, copy-masks, copy-parents}
+use Rattle.trees.proofs.Growing.{ChildrenAt, children-found, children-kept, children-few, lists-few, lists-searchable, other-few, root-size, root-room, root-parents, found-count, found-small, found-at, found-fewer, RowWritten, row-none, row-more, to-write-is, to-write-root, to-write-child, written-none, written-copy, written-whole, written-over, written-is, written-recorded, record-kept, copy-fits, copy-masks, copy-parents}
 use Rattle.trees.proofs.grow.Reads as grow
 use Rattle.trees.proofs.grow.Kinds as grow-kinds
 use Rattle.trees.proofs.+grow+plant.Lts-grow as grow-lts
@@ -94,7 +94,7 @@ children-there : (t : ℕ) (c : Before t)
 children-there t c =
     let s = start t c .args in
     children-found (s .scratch .now) (s .free) (rest t c) (c .before .before .before .find-children .ensures)
-    (omega (arith, enough t c, c .before .before .before .find-children .ensures .few, c .before .before .before .find-children .kept .1 .1 .1 .1 .0, mid-len (s .free) (length (s .scratch .now)) (s .scratch .now) (le-refl _)))
+    (omega (arith, enough t c, c .before .before .before .find-children .kept .1 .1 .1 .1 .0, mid-len (s .free) (length (s .scratch .now)) (s .scratch .now) (le-refl _)))
     (omega (arith, enough t c))
 
 -- what lies before `free` is as it was
@@ -181,13 +181,13 @@ grow-loop-holds : (t : ℕ) → grow-lts.Need-loop-holds (grow-claims t) (grow-a
 grow-loop-holds t c = (λ p w. row-none (start t c .args .at) (children p (start t c .args .m)) (w .tables), refl, refl, refl, children-there t c, λ j a b. refl)
 
 grow-add-i : (t : ℕ) → grow-lts.Need-add-i (grow-claims t) (grow-at t) grow.Post grow-Inv-loop grow-μ-loop
-grow-add-i t c = omega (arith, enough t (c .before .before), c .before .loop .inv .4 .few, c .loop-test .taken, c .before .before .before .before .before .before .before .before .before .before .before .before .before .good)
+grow-add-i t c = omega (arith, enough t (c .before .before), children-few (c .before .loop .inv .4), c .loop-test .taken, c .before .before .before .before .before .before .before .before .before .before .before .before .before .good)
 
 grow-mul-i : (t : ℕ) → grow-lts.Need-mul-i (grow-claims t) (grow-at t) grow.Post grow-Inv-loop grow-μ-loop
-grow-mul-i t c = omega (arith, enough t (c .before .before), c .before .loop .inv .4 .few, c .loop-test .taken, c .before .before .before .before .before .before .before .before .before .before .before .before .before .good)
+grow-mul-i t c = omega (arith, enough t (c .before .before), children-few (c .before .loop .inv .4), c .loop-test .taken, c .before .before .before .before .before .before .before .before .before .before .before .before .before .good)
 
 grow-slice-read-i : (t : ℕ) → grow-lts.Need-slice-read-i (grow-claims t) (grow-at t) grow.Post grow-Inv-loop grow-μ-loop
-grow-slice-read-i t c = omega (arith, enough t (c .before .before .before), c .before .before .loop .inv .4 .few, c .before .loop-test .taken, c .before .before .loop .inv .3, c .before .before .before .before .before .scratch .given .1)
+grow-slice-read-i t c = omega (arith, enough t (c .before .before .before), children-few (c .before .before .loop .inv .4), c .before .loop-test .taken, c .before .before .loop .inv .3, c .before .before .before .before .before .scratch .given .1)
 
 grow-cast-i : (t : ℕ) → grow-lts.Need-cast-i (grow-claims t) (grow-at t) grow.Post grow-Inv-loop grow-μ-loop
 grow-cast-i t c = let w = c .before .before .before .before .before .before .before .before .before .before .before .before .before .before .pre .1 .1 in omega (arith, found-small (w .lists) (w .root) (c .before .before .loop .inv .4) .1 (c .before .before .loop .j) (c .before .loop-test .taken))
@@ -199,7 +199,7 @@ grow-cast-plant : (t : ℕ) → grow-lts.Need-cast-plant (grow-claims t) (grow-a
 grow-cast-plant t c = omega (arith, c .before .before .before .before .before .before .before .before .if1 .left, c .before .before .before .before .before .before .before .before .before .before .before .before .before .before .pre .1 .1 .tables .few)
 
 grow-add-plant : (t : ℕ) → grow-lts.Need-add-plant (grow-claims t) (grow-at t) grow.Post grow-Inv-loop grow-μ-loop
-grow-add-plant t c = omega (arith, enough t (c .before .before .before .before .before .before), c .before .before .before .before .before .loop .inv .4 .few, c .before .before .before .before .before .before .before .before .before .before .before .before .before .before .before .before .before .good)
+grow-add-plant t c = omega (arith, enough t (c .before .before .before .before .before .before), children-few (c .before .before .before .before .before .loop .inv .4), c .before .before .before .before .before .before .before .before .before .before .before .before .before .before .before .before .before .good)
 
 grow-plant-requires : (t : ℕ) → grow-lts.Need-plant-requires (grow-claims t) (grow-at t) grow.Post grow-Inv-loop grow-μ-loop
 grow-plant-requires t c κs =
@@ -228,7 +228,7 @@ grow-returns-2 t c =
     )
 
 grow-add-j : (t : ℕ) → grow-lts.Need-add-j (grow-claims t) (grow-at t) grow.Post grow-Inv-loop grow-μ-loop
-grow-add-j t c = omega (arith, c .before .before .before .before .before .before .before .before .before .before .before .before .loop-test .taken, c .before .before .before .before .before .before .before .before .before .before .before .before .before .before .before .before .before .find-children .ensures .few, enough t (c .before .before .before .before .before .before .before .before .before .before .before .before .before .before), c .before .before .before .before .before .before .before .before .before .before .before .before .before .before .before .before .before .before .before .before .before .before .before .before .before .good)
+grow-add-j t c = omega (arith, c .before .before .before .before .before .before .before .before .before .before .before .before .loop-test .taken, children-few (c .before .before .before .before .before .before .before .before .before .before .before .before .before .loop .inv .4), enough t (c .before .before .before .before .before .before .before .before .before .before .before .before .before .before), c .before .before .before .before .before .before .before .before .before .before .before .before .before .before .before .before .before .before .before .before .before .before .before .before .before .good)
 
 grow-loop-less : (t : ℕ) → grow-lts.Need-loop-less (grow-claims t) (grow-at t) grow.Post grow-Inv-loop grow-μ-loop
 grow-loop-less t c = omega (arith, c .before .before .before .before .before .before .before .before .before .before .before .before .loop-test .taken)

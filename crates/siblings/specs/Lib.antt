@@ -1,0 +1,2 @@
+pub mod NextRoot
+pub mod Positions
