@@ -30,7 +30,10 @@ slice-read-k : tie.Need-slice-read-k Inv-loop μ-loop
 slice-read-k c = search needs
 
 is-before-requires : tie.Need-is-before-requires Inv-loop μ-loop
-is-before-requires c κs = let v = c .before .before .loop .inv .1 in (v .carry-in, v .each (c .before .before .loop .j) (c .before .loop-test .taken))
+is-before-requires c κs =
+    let v = c .before .before .loop .inv .1 in
+    let k = v .each (c .before .before .loop .j) (c .before .loop-test .taken) in
+    (omega (arith, v .carry-in, k), omega (arith, v .carry-in, k))
 
 mul-kids : tie.Need-mul-kids Inv-loop μ-loop
 mul-kids c = search needs

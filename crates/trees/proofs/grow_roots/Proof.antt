@@ -19,12 +19,9 @@ abbrev μ-loop : tie.MeasureT-loop
 μ-loop p by family accepting rejecting roots masks₀ parents₀ scratch₀ places free next₀ after₀ masks parents scratch next after = places + 1 - next
 
 -- ---- places
--- at the loop, and at the call of `grow`
+-- at the loop
 abbrev start : tie.At-loop Inv-loop μ-loop → tie.Start Inv-loop μ-loop
 start c = c .before .before .before .before .before .before .before .before
-
-abbrev called : tie.After-slice-known6 Inv-loop μ-loop → tie.After-grow-arg3 Inv-loop μ-loop
-called c = c .before .before .before .before .before .before .before
 
 to-write : (c : tie.After-grow-arg3 Inv-loop μ-loop)
     → let s = start (c .before .before .before .before .before .before) .args in TreeToWrite (s .p) (s .accepting .now) (s .rejecting .now) (c .before .before .before .before .before .next-root .result) (c .before .before .before .accepts .result) (c .before .before .before .before .before .before .before .places .result) (c .before .before .before .before .before .before .loop .next) (c .before .before .before .before .before .before .loop .masks) (c .before .before .before .before .before .before .loop .parents) (c .before .before .before .before .before .before .loop .scratch) (2 * (length (s .accepting .now) + length (s .rejecting .now)))
