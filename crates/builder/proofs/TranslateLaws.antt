@@ -22,6 +22,10 @@ use Rattle.filling.specs.declared.Building.{Building}
 use Rattle.filling.specs.Filling.{Sized, Builds}
 use Rattle.builder.proofs.StageLaws.{nodes-filled, nodes-cleared}
 
+-- what translating promises of a policy it promises of an equal one
+pub same-policy : {p q : Policy} {entry exit : Tables} {answer : Translation} → p ≡ q → Translates p entry answer exit → Translates q entry answer exit
+same-policy {p} {q} {entry} {exit} {answer} e t = subst (λ (x : Policy). Translates x entry answer exit) e t
+
 -- the first "no" decides
 abbrev decided : Bool → Bool → Bool → Bool → Translation → Translation
 decided a b c d x = cond a (cond b (cond c (cond d x (Refused 10)) (Refused 9)) (Refused 8)) (Refused 7)

@@ -2,10 +2,13 @@
 use decomposition::Filled;
 use filling::Building;
 use policy::Policy;
+use policy::Shape;
 ghost use mathlib.Core.Path.{_≡_};
 ghost use mathlib.Core.Bool.{true};
 ghost use Prim.Native.Nat.{_*_, _≤_};
 ghost use lib.Dec.{eqb};
+ghost use Rattle.policy.specs.declared.Policy.{Policy};
+ghost use Rattle.policy.specs.Making.{fromParts};
 ghost use Rattle.policy.specs.Policies.{legal};
 ghost use Rattle.builder.specs.Tables.{sizesFit, tables, Translates};
 
@@ -65,7 +68,10 @@ pub fn translate(
         return Translation::Refused(7);
     }
     translate_legal(
-        p,
+        policy::shape_of(p),
+        &p.target,
+        &p.colour,
+        &p.family,
         masks,
         parents,
         node_priorities,
@@ -77,8 +83,13 @@ pub fn translate(
 }
 
 // The same for a legal policy, without asking question 7. Inner layer: for callers that know the policy to be legal.
-pub fn translate_legal(
-    p: Policy,
+// Two functions call it, so it is not compiled into them, and a policy would be copied: its shape and its arrays stand
+// for it, and the contract speaks of the policy that they make. With the seven tables these are eleven parameters.
+pub fn translate_legal<'a>(
+    shape: Shape,
+    heads: &'a [u8; 64],
+    colours: &'a [u8; 64],
+    family: &'a [bool; 256],
     masks: &mut [u64],
     parents: &mut [u16],
     node_priorities: &mut [u8],
@@ -87,9 +98,12 @@ pub fn translate_legal(
     targets: &mut [u16],
     priorities: &mut [u8],
 ) -> Translation
-    requires { ⌜ legal p ≡ true ⌝ }
-    ensures { λ r. ⌜ Translates p (tables (now (masks .entry)) (now (parents .entry)) (now («node_priorities» .entry)) (now (sources .entry)) (now (leaves .entry)) (now (targets .entry)) (now (priorities .entry))) r (tables (now (masks .exit)) (now (parents .exit)) (now («node_priorities» .exit)) (now (sources .exit)) (now (leaves .exit)) (now (targets .exit)) (now (priorities .exit))) ⌝ }
+    ghost { Policy }
+    requires policy { λ p. ⌜ fromParts shape (now heads) (now colours) (now family) ≡ p ⌝ }
+    requires lawful { λ p. ⌜ legal p ≡ true ⌝ }
+    ensures { λ p r. ⌜ Translates p (tables (now (masks .entry)) (now (parents .entry)) (now («node_priorities» .entry)) (now (sources .entry)) (now (leaves .entry)) (now (targets .entry)) (now (priorities .entry))) r (tables (now (masks .exit)) (now (parents .exit)) (now («node_priorities» .exit)) (now (sources .exit)) (now (leaves .exit)) (now (targets .exit)) (now (priorities .exit))) ⌝ }
 {
+    let p = policy::from_parts(shape, heads, colours, family);
     if !has_fitting_lengths(
         p.letters,
         masks.len(),
@@ -104,9 +118,9 @@ pub fn translate_legal(
     }
     let Filled::Nodes(nodes) = decomposition::fill_nodes(
         p,
-        &p.target,
-        &p.colour,
-        &p.family,
+        heads,
+        colours,
+        family,
         masks,
         parents,
         node_priorities,
@@ -116,7 +130,9 @@ pub fn translate_legal(
     };
     let Building::Whole(states, start) = filling::build(
         p,
-        &p.target,
+        heads,
+        colours,
+        family,
         masks,
         parents,
         node_priorities,

@@ -16,12 +16,23 @@ use Rattle.policy.specs.Policies.{legal}
 use Rattle.policy.proofs.Laws.{legal-counts}
 use Rattle.forest.specs.Forest.{forest}
 use Rattle.automaton.specs.Automaton.{built, start, places, rowTargets, rowPriorities, stateLeaves, builtFit}
-use Rattle.automaton.specs.Stages.{nodeEnds, stateStarts}
+use Rattle.automaton.specs.Stages.{nodeEnds, stateStarts, Nodes}
 use Rattle.automaton.proofs.Columns.{length-ends, length-leaves, length-starts}
 use Rattle.states.specs.StateTables.{StatesFilled}
 use Rattle.filling.specs.declared.Building.the-variants.{Whole, TooMany}
 use Rattle.filling.specs.declared.Building.{Building}
 use Rattle.filling.specs.Filling.{Sized, Clear, buildingOf, Builds}
+
+-- ---- equal policies: what is known of one is known of the other
+module _ {p q : Policy} (e : p ≡ q) where
+  pub nodes-same : {m a r : List ℕ} {count : ℕ} → (legal p ≡ true) × Nodes p m a r × (count ≡ length (forest p)) → (legal q ≡ true) × Nodes q m a r × (count ≡ length (forest q))
+  nodes-same {m} {a} {r} {count} n = subst (λ (x : Policy). (legal x ≡ true) × Nodes x m a r × (count ≡ length (forest x))) e n
+
+  pub sized-same : {s l t k : List ℕ} → Sized p s l t k → Sized q s l t k
+  sized-same {s} {l} {t} {k} z = subst (λ (x : Policy). Sized x s l t k) e z
+
+  pub builds-same : {s₀ l₀ t₀ k₀ s l t k : List ℕ} {r : Building} → Builds p s₀ l₀ t₀ k₀ r s l t k → Builds q s₀ l₀ t₀ k₀ r s l t k
+  builds-same {s₀} {l₀} {t₀} {k₀} {s} {l} {t} {k} {r} b = subst (λ (x : Policy). Builds x s₀ l₀ t₀ k₀ r s l t k) e b
 
 -- ---- the ends
 pub ends-column : (p : Policy) (ends₀ : List ℕ) {ends : List ℕ} {count : ℕ} → count ≡ length (forest p) → count ≤ length ends₀ → ends ≡ sets ends₀ 0 (nodeEnds p) → Column (nodeEnds p) ends

@@ -1,12 +1,16 @@
 // The automaton's tables from the node tables: the ends of the nodes, the built states and their rows. Inner layer: the policy is legal, the node tables are its
-// forest's, and the tables have lengths that belong together. Beside a policy stand the targets of its edges, lent as `heads`.
+// forest's, and the tables have lengths that belong together. Beside a policy stand its arrays, lent: `heads` are the targets of its edges, `colours` their colours.
+// Where a policy would be copied, its shape and its arrays stand for it, and the contract speaks of the policy that they make.
 // Each stage reads and writes tables of the caller, so the functions have more than eight parameters.
 use policy::Policy;
+use policy::Shape;
 ghost use mathlib.Core.Path.{_≡_};
 ghost use mathlib.Core.Bool.{true};
 ghost use Prim.Native.Nat.{_≤_};
 ghost use lib.ListN.{length};
 ghost use Rattle.tables.specs.Tables.{zeros};
+ghost use Rattle.policy.specs.declared.Policy.{Policy};
+ghost use Rattle.policy.specs.Making.{fromParts};
 ghost use Rattle.policy.specs.Policies.{legal};
 ghost use Rattle.forest.specs.Forest.{forest};
 ghost use Rattle.automaton.specs.Stages.{Nodes};
@@ -35,8 +39,10 @@ pub fn clear_built(
 
 // The states and the rows, in tables that are cleared, with a table for the nodes' ends that has a place for each node.
 fn fill_built(
-    p: Policy,
+    shape: Shape,
     heads: &[u8; 64],
+    colours: &[u8; 64],
+    family: &[bool; 256],
     masks: &[u64],
     parents: &[u16],
     node_priorities: &[u8],
@@ -47,10 +53,13 @@ fn fill_built(
     targets: &mut [u16],
     priorities: &mut [u8],
 ) -> Building
-    requires nodes { ⌜ (legal p ≡ true) × (now heads ≡ p .target) × Nodes p (now masks) (now parents) (now «node_priorities») × (count ≡ length (forest p)) ⌝ }
-    requires room { ⌜ Sized p (now sources) (now leaves) (now targets) (now priorities) × Clear (now sources) (now leaves) (now targets) (now priorities) × (count ≤ length (now ends)) ⌝ }
-    ensures { λ r. ⌜ Builds p (now (sources .entry)) (now (leaves .entry)) (now (targets .entry)) (now (priorities .entry)) r (now (sources .exit)) (now (leaves .exit)) (now (targets .exit)) (now (priorities .exit)) ⌝ }
+    ghost { Policy }
+    requires policy { λ p. ⌜ fromParts shape (now heads) (now colours) (now family) ≡ p ⌝ }
+    requires nodes { λ p. ⌜ (legal p ≡ true) × Nodes p (now masks) (now parents) (now «node_priorities») × (count ≡ length (forest p)) ⌝ }
+    requires room { λ p. ⌜ Sized p (now sources) (now leaves) (now targets) (now priorities) × Clear (now sources) (now leaves) (now targets) (now priorities) × (count ≤ length (now ends)) ⌝ }
+    ensures { λ p r. ⌜ Builds p (now (sources .entry)) (now (leaves .entry)) (now (targets .entry)) (now (priorities .entry)) r (now (sources .exit)) (now (leaves .exit)) (now (targets .exit)) (now (priorities .exit)) ⌝ }
 {
+    let p = policy::from_parts(shape, heads, colours, family);
     ends::fill_ends(p, parents, count, ends);
     let mut starts = [0usize; 17];
     let counted = states::fill_states(p, masks, ends, count, sources, leaves, &mut starts);
@@ -75,8 +84,10 @@ fn fill_built(
 // The same with the table for the nodes' ends that is lent, where it has a place for each node, and otherwise with a longer one. A call that calls itself keeps
 // the longest table out of its own frame, so that few nodes take little space.
 fn build_within(
-    p: Policy,
+    shape: Shape,
     heads: &[u8; 64],
+    colours: &[u8; 64],
+    family: &[bool; 256],
     masks: &[u64],
     parents: &[u16],
     node_priorities: &[u8],
@@ -87,14 +98,18 @@ fn build_within(
     targets: &mut [u16],
     priorities: &mut [u8],
 ) -> Building
-    requires nodes { ⌜ (legal p ≡ true) × (now heads ≡ p .target) × Nodes p (now masks) (now parents) (now «node_priorities») × (count ≡ length (forest p)) ⌝ }
-    requires room { ⌜ Sized p (now sources) (now leaves) (now targets) (now priorities) × Clear (now sources) (now leaves) (now targets) (now priorities) ⌝ }
-    ensures { λ r. ⌜ Builds p (now (sources .entry)) (now (leaves .entry)) (now (targets .entry)) (now (priorities .entry)) r (now (sources .exit)) (now (leaves .exit)) (now (targets .exit)) (now (priorities .exit)) ⌝ }
+    ghost { Policy }
+    requires policy { λ p. ⌜ fromParts shape (now heads) (now colours) (now family) ≡ p ⌝ }
+    requires nodes { λ p. ⌜ (legal p ≡ true) × Nodes p (now masks) (now parents) (now «node_priorities») × (count ≡ length (forest p)) ⌝ }
+    requires room { λ p. ⌜ Sized p (now sources) (now leaves) (now targets) (now priorities) × Clear (now sources) (now leaves) (now targets) (now priorities) ⌝ }
+    ensures { λ p r. ⌜ Builds p (now (sources .entry)) (now (leaves .entry)) (now (targets .entry)) (now (priorities .entry)) r (now (sources .exit)) (now (leaves .exit)) (now (targets .exit)) (now (priorities .exit)) ⌝ }
 {
     if count <= ends.len() {
         return fill_built(
-            p,
+            shape,
             heads,
+            colours,
+            family,
             masks,
             parents,
             node_priorities,
@@ -109,8 +124,10 @@ fn build_within(
     if count <= 2048 {
         let mut more = [0u16; 2048];
         return build_within(
-            p,
+            shape,
             heads,
+            colours,
+            family,
             masks,
             parents,
             node_priorities,
@@ -123,8 +140,10 @@ fn build_within(
         );
     }
     build_large(
-        p,
+        shape,
         heads,
+        colours,
+        family,
         masks,
         parents,
         node_priorities,
@@ -138,8 +157,10 @@ fn build_within(
 
 // The same with a table for as many nodes as there can be.
 fn build_large(
-    p: Policy,
+    shape: Shape,
     heads: &[u8; 64],
+    colours: &[u8; 64],
+    family: &[bool; 256],
     masks: &[u64],
     parents: &[u16],
     node_priorities: &[u8],
@@ -149,14 +170,18 @@ fn build_large(
     targets: &mut [u16],
     priorities: &mut [u8],
 ) -> Building
-    requires nodes { ⌜ (legal p ≡ true) × (now heads ≡ p .target) × Nodes p (now masks) (now parents) (now «node_priorities») × (count ≡ length (forest p)) ⌝ }
-    requires room { ⌜ Sized p (now sources) (now leaves) (now targets) (now priorities) × Clear (now sources) (now leaves) (now targets) (now priorities) ⌝ }
-    ensures { λ r. ⌜ Builds p (now (sources .entry)) (now (leaves .entry)) (now (targets .entry)) (now (priorities .entry)) r (now (sources .exit)) (now (leaves .exit)) (now (targets .exit)) (now (priorities .exit)) ⌝ }
+    ghost { Policy }
+    requires policy { λ p. ⌜ fromParts shape (now heads) (now colours) (now family) ≡ p ⌝ }
+    requires nodes { λ p. ⌜ (legal p ≡ true) × Nodes p (now masks) (now parents) (now «node_priorities») × (count ≡ length (forest p)) ⌝ }
+    requires room { λ p. ⌜ Sized p (now sources) (now leaves) (now targets) (now priorities) × Clear (now sources) (now leaves) (now targets) (now priorities) ⌝ }
+    ensures { λ p r. ⌜ Builds p (now (sources .entry)) (now (leaves .entry)) (now (targets .entry)) (now (priorities .entry)) r (now (sources .exit)) (now (leaves .exit)) (now (targets .exit)) (now (priorities .exit)) ⌝ }
 {
     let mut ends = [0u16; 65535];
     build_within(
-        p,
+        shape,
         heads,
+        colours,
+        family,
         masks,
         parents,
         node_priorities,
@@ -170,9 +195,11 @@ fn build_large(
 }
 
 // The stages after the nodes. Where the built states do not fit, every place is 0. For few nodes a small table of ends serves, which is quicker to lay out.
-pub fn build(
+pub fn build<'a>(
     p: Policy,
-    heads: &[u8; 64],
+    heads: &'a [u8; 64],
+    colours: &'a [u8; 64],
+    family: &'a [bool; 256],
     masks: &[u64],
     parents: &[u16],
     node_priorities: &[u8],
@@ -182,16 +209,20 @@ pub fn build(
     targets: &mut [u16],
     priorities: &mut [u8],
 ) -> Building
-    requires nodes { ⌜ (legal p ≡ true) × (now heads ≡ p .target) × Nodes p (now masks) (now parents) (now «node_priorities») × (count ≡ length (forest p)) ⌝ }
+    requires lent { ⌜ (now heads ≡ p .target) × (now colours ≡ p .colour) × (now family ≡ p .family) ⌝ }
+    requires nodes { ⌜ (legal p ≡ true) × Nodes p (now masks) (now parents) (now «node_priorities») × (count ≡ length (forest p)) ⌝ }
     requires room { ⌜ Sized p (now sources) (now leaves) (now targets) (now priorities) ⌝ }
     ensures { λ r. ⌜ Builds p (now (sources .entry)) (now (leaves .entry)) (now (targets .entry)) (now (priorities .entry)) r (now (sources .exit)) (now (leaves .exit)) (now (targets .exit)) (now (priorities .exit)) ⌝ }
 {
+    let shape = policy::shape_of(p);
     clear_built(sources, leaves, targets, priorities);
     let mut ends = [0u16; 64];
     if count <= 64 {
         return fill_built(
-            p,
+            shape,
             heads,
+            colours,
+            family,
             masks,
             parents,
             node_priorities,
@@ -204,8 +235,10 @@ pub fn build(
         );
     }
     build_within(
-        p,
+        shape,
         heads,
+        colours,
+        family,
         masks,
         parents,
         node_priorities,

@@ -1,6 +1,6 @@
 -- What translating says of a reading: after a refusal it would be question 7 that is answered no, the counts would be 0 and the tables as they were. Assumes nothing.
 use Prim.Native.Nat.{ℕ}
-use mathlib.Core.Path.{_≡_, refl, _∙_, subst}
+use mathlib.Core.Path.{_≡_, refl, _∙_}
 use mathlib.Core.Logic.{_≢_}
 use mathlib.Core.Bool.{false, cond}
 use mathlib.Core.List.{List, [], _∷_}
@@ -8,13 +8,8 @@ use lib.Dec.{eqb}
 use borrow.Author.Tests.{eq-eqb, ne-eqb}
 use Rattle.policy.specs.declared.Policy.{Policy}
 use Rattle.policy.specs.Policies.{legal}
-use Rattle.builder.specs.declared.Translation.{Translation}
-use Rattle.builder.specs.Tables.{Tables, Hold, Translates, countsOf, translationOf, tablesAfter, tables}
+use Rattle.builder.specs.Tables.{Hold, countsOf, translationOf, tablesAfter, tables}
 use Rattle.wulfrenda.specs.Library.{firstOf, offsetAfter}
-
--- what translating promises of a policy it promises of an equal one
-pub same-policy : {p q : Policy} {entry exit : Tables} {answer : Translation} → p ≡ q → Translates p entry answer exit → Translates q entry answer exit
-same-policy {p} {q} {entry} {exit} {answer} e t = subst (λ (x : Policy). Translates x entry answer exit) e t
 
 -- ---- after a refused reading
 module _ (p : Policy) (m q r s l t k : List ℕ) where

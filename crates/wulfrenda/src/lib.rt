@@ -112,7 +112,6 @@ pub extern "C" fn wulfrenda_translate_bytes(
     ensures offset { λ _. ⌜ now (offset .exit) ≡ offsetAfter (readNumberOf (readingOf (now (bytes .entry)) .outcome)) (translateNumberOf (translationOf (readingOf (now (bytes .entry)) .policy) (tables (now (masks .entry)) (now (parents .entry)) (now («node_priorities» .entry)) (now (sources .entry)) (now (leaves .entry)) (now (targets .entry)) (now (priorities .entry))))) (offsetOf (readingOf (now (bytes .entry)) .outcome)) ⌝ }
 {
     let answer = reading::read(bytes);
-    let p = answer.policy;
     let outcome = answer.outcome;
     let read = answers::of_reading(outcome);
     if read.number != 0 {
@@ -121,7 +120,10 @@ pub extern "C" fn wulfrenda_translate_bytes(
         return read.number;
     }
     let t = builder::translate_legal(
-        p,
+        policy::shape_of(answer.policy),
+        &answer.policy.target,
+        &answer.policy.colour,
+        &answer.policy.family,
         masks,
         parents,
         node_priorities,

@@ -1,7 +1,7 @@
 -- `wulfrenda::wulfrenda_translate` meets its contract: the number and the counts of the translation, and its tables. Assumes nothing.
 use mathlib.Core.Path.{ap, _∙_}
 use Rattle.builder.specs.Tables.{numberOf, countsOf}
-use Rattle.wulfrenda.proofs.Bytes.{same-policy}
+use Rattle.builder.proofs.TranslateLaws.{same-policy}
 use borrow.Author.Needs.{needs}
 use Rattle.wulfrenda.proofs.wulfrenda_translate.Statement.{statement}
 use Rattle.wulfrenda.proofs.wulfrenda_translate.Tie as tie
