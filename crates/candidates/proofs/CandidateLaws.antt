@@ -1,17 +1,16 @@
 -- The laws behind the listing of candidates: what is stored, and the candidates state by state and colour set by colour set. Assumes nothing.
 use Prim.Native.Nat.{ℕ, _+_, _*_, _-_, _^_, _≤_, _<_}
 use native.Mathlib.Omega.{arith}
-use native.Mathlib.Decide.{decLt}
 use native.Mathlib.Nat.{mul-le-mul-right, mul-comm, suc-mul}
 use native.Mathlib.Numerals.{add-one}
 use mathlib.Core.Path.{_≡_, refl, sym, ap, ap₂, _∙_, subst}
 use mathlib.Core.Logic.{_⊎_, inl, inr, _≢_}
-use mathlib.Core.Bool.{Bool, true, false, not, cond, true≢false, false≢true}
+use mathlib.Core.Bool.{Bool, true, false, not, cond, false≢true}
 use mathlib.Core.List.{List, [], _∷_, _++_, map, append-nil, List·Memᴰ}
-use lib.Bits.{bitOr, or-zero-r}
+use lib.Bits.{bitAnd, bitOr, or-zero-r}
 use lib.Dec.{eqb}
 use lib.ListN.{length, take, getD, set}
-use lib.Pow.{pow-mono, pow-pos}
+use lib.Pow.{pow-mono}
 use lib.Seq.{take-suc}
 use Rattle.lists.specs.Lists.{filter, flat, below}
 use Rattle.lists.proofs.Bools.{≡eqb, neqb, bool-ext, same-or-not, differs-other, differs-same}
@@ -21,19 +20,20 @@ use Rattle.lists.specs.Bools.{differs}
 use Rattle.tables.specs.Tables.{Stored}
 use Rattle.tables.proofs.Stores.{front-more, stored-none, stored-length, stored-join, stored-more}
 use Rattle.masks.specs.Masks.{has, inside}
-use Rattle.masks.proofs.Bits.{has-high, has-none, mask-ext, inside-all, inside-trans}
+use Rattle.masks.proofs.Bits.{has-none, mask-ext, inside-all}
 use Rattle.policy.specs.declared.Policy.{Policy}
 use Rattle.policy.specs.Policies.{edges, coloursOf, inFamily, accepting, legal, full}
 use Rattle.policy.specs.ByColour.{byColour, edgesIn, tableEdges, tableColours}
-use Rattle.policy.proofs.Laws.{legal-counts, some-colours, colours-up, accepting-is, edge-coloured}
-use Rattle.policy.proofs.ByColour.{edges-in-some, some-edges-in, table-edges-are, table-colours-are, edges-in-full}
+use Rattle.policy.proofs.Laws.{legal-counts, accepting-is, edge-coloured}
+use Rattle.policy.proofs.ByColour.{edges-in-some, table-edges-are, table-colours-are}
 use Rattle.graph.specs.Through.{cycleThrough}
 use Rattle.graph.proofs.Through.{through-inside}
 use Rattle.candidates.specs.declared.Counts.{Counts}
 use Rattle.candidates.specs.Candidates.{lowestIs, largestAt, largestIn, candidatesOf, coloursAt, candidates, mostCandidates, judged, rootCandidates}
-use Rattle.candidates.specs.Listed.{single, isOpen, lowestCycle, keptIn, largestTo, judgedOf, judgedTo, Found, Finding, Put, Listing, Listed}
+use Rattle.candidates.specs.Listed.{single, isOpen, lowestCycle, onCycles, keptIn, largestTo, judgedOf, judgedTo, Found, Finding, Put, Listing, Listed}
 use Rattle.candidates.proofs.Candidates.{lowest-some, largest-in-mem, of-mem, of-colours, of-few}
-use Rattle.candidates.proofs.Covered.{open-cycle, shut-cycle, covered-none, covered-next}
+use Rattle.candidates.proofs.Covered.{open-cycle, shut-cycle, covered-none, covered-next, covered-all}
+use Rattle.candidates.proofs.OnCycles.{largest-on}
 
 -- ---- what is stored
 pub single-none : (x : ℕ) → x ≡ 0 → single x ≡ []
@@ -131,8 +131,8 @@ kept-out {t₀} {t} {u} {at} {next} {k} by c l i {d} a h e q eu ek = rw (eu, ek)
         ∙ ap (λ (b : Bool). keptIn by c (take i l) ++ cond b (getD l i 0 ∷ []) []) (neqb (tableColours by (getD l i 0)) c (λ z. q (e ∙ z)))
         ∙ append-nil (keptIn by c (take i l))
 
-pub found-is : {p q : Policy} {m n : ℕ} {t₀ t : List ℕ} → q ≡ p → Found q m t₀ t n → Found p m t₀ t n
-found-is {p} {q} {m} {n} {t₀} {t} e f = subst (λ (r : Policy). Found r m t₀ t n) e f
+pub found-is : {p q : Policy} {m n k : ℕ} {t₀ t : List ℕ} → q ≡ p → Found q m t₀ t n k → Found p m t₀ t n k
+found-is {p} {q} {m} {n} {k} {t₀} {t} e f = subst (λ (r : Policy). Found r m t₀ t n k) e f
 
 module _ (p : Policy) where
   -- ---- the largest cycles inside m, state by state
@@ -180,26 +180,16 @@ module _ (p : Policy) where
     pub finding-is : {t₀ t u : List ℕ} {seen n v s k : ℕ} → Finding p m t₀ t seen n v → u ≡ t → s ≡ seen → k ≡ n → Finding p m t₀ u s k v
     finding-is {t₀} {t} {u} {seen} {n} {v} {s} {k} f eu es ek = rw (eu, es, ek) f
 
-    pub finding-all : {t₀ t : List ℕ} {seen n v : ℕ} → Finding p m t₀ t seen n v → v ≡ p .states → length t₀ ≡ 16 → Found p m t₀ t n
-    finding-all {t₀} {t} {seen} {n} {v} f e l = record { cycles-are = stored-is (f .found) (largestIn p m) (sym (to-all m v e)); few = omega (arith, f .at-most); long = stored-length (f .found) ∙ l }
+    pub finding-all : {t₀ t : List ℕ} {seen n v : ℕ} → Finding p m t₀ t seen n v → v ≡ p .states → length t₀ ≡ 16 → Found p m t₀ t n seen
+    finding-all {t₀} {t} {seen} {n} {v} f e l = record {
+      cycles-are = stored-is (f .found) (largestIn p m) (sym (to-all m v e));
+      edges-are = covered-all p lawful m v seen (f .seen-is) e;
+      few = omega (arith, f .at-most);
+      long = stored-length (f .found) ∙ l;
+    }
 
   -- ---- the candidates of a colour set
-  of-inside : (c x : ℕ) → List·Memᴰ x (candidatesOf p c) → inside x (full p) ≡ true
-  of-inside c x k =
-      let r = largest-in-mem p m x (of-mem p c x k .0) in
-      subst (λ (y : ℕ). inside y (full p) ≡ true) (sym (r .2)) (inside-trans (cycleThrough p m (r .0)) m (full p) (through-inside p m (r .0)) (edges-in-full p c))
-    where
-      m : ℕ
-      m = edgesIn p c
-
-  -- a candidate's colours are exactly its colour set, so there is none where some colour of the set is on no edge
-  pub candidates-none : (c d : ℕ) → d ≡ coloursOf p (full p) → inside c d ≡ false → candidatesOf p c ≡ []
-  candidates-none c d e f = none-mem (candidatesOf p c) (λ x k. true≢false (sym (subst (λ (r : ℕ). inside c r ≡ true) (sym e) (within x k)) ∙ f))
-    where
-      within : (x : ℕ) → List·Memᴰ x (candidatesOf p c) → inside c (coloursOf p (full p)) ≡ true
-      within x k = subst (λ (r : ℕ). inside r (coloursOf p (full p)) ≡ true) (of-colours p c x k) (colours-up p x (full p) (of-inside c x k))
-
-  -- and none where the set is empty, since every edge has a colour
+  -- none where the set is empty, since every edge has a colour
   pub candidates-empty : (c : ℕ) → c ≡ 0 → candidatesOf p c ≡ []
   candidates-empty c z = none-mem (candidatesOf p c) off
     where
@@ -219,20 +209,11 @@ module _ (p : Policy) where
           let r = largest-in-mem p m x (of-mem p c x k .0) in
           lowest-some p (r .0) x (r .3) .0 (none x (subst (λ (y : ℕ). inside y m ≡ true) (sym (r .2)) (through-inside p m (r .0))))
 
-  pub kept-candidates : legal p ≡ true → (by : List ℕ) (c m : ℕ) (l : List ℕ) → by ≡ byColour p → m ≡ edgesIn p c → l ≡ largestIn p m → keptIn by c l ≡ candidatesOf p c
+  pub kept-candidates : legal p ≡ true → (by : List ℕ) (c : ℕ) (l : List ℕ) → by ≡ byColour p → l ≡ largestIn p (edgesIn p c) → keptIn by c l ≡ candidatesOf p c
   unfolding keptIn candidatesOf
-  kept-candidates lawful by c m l e q k =
+  kept-candidates lawful by c l e k =
       filter-same (λ (x : ℕ). eqb (tableColours by x) c) (λ (x : ℕ). eqb (coloursOf p x) c) (λ x. ap (λ (d : ℕ). eqb d c) (ap (λ (t : List ℕ). tableColours t x) e ∙ table-colours-are p lawful x)) l
-      ∙ ap (filter (λ (x : ℕ). eqb (coloursOf p x) c)) (k ∙ ap (largestIn p) q)
-
-  -- every edge has its colours among those on edges
-  pub all-coloured : (c : ℕ) → c ≡ coloursOf p (full p) → full p ≡ edgesIn p c
-  unfolding full
-  all-coloured c e = mask-ext (full p) (edgesIn p c) (λ f. bool-ext (has (full p) f) (has (edgesIn p c) f) (there f (decLt f (edges p))) (inside-all (edgesIn p c) (full p) (edges-in-full p c) f))
-    where
-      there : (f : ℕ) → Dec (f < edges p) → has (full p) f ≡ true → has (edgesIn p c) f ≡ true
-      there f (yes l) h = some-edges-in p c f l (λ d k. ap (λ (s : ℕ). has s d) e ∙ some-colours p (full p) f d l h k)
-      there f (no n) h = absurd (true≢false (sym h ∙ has-high (edges p) f (full p) (omega (arith, pow-pos (edges p))) (omega arith)))
+      ∙ ap (filter (λ (x : ℕ). eqb (coloursOf p x) c)) k
 
   -- ---- the candidates by verdict, colour set by colour set
   judged-same : (b : Bool) (c : ℕ) → inFamily p c ≡ b → judgedOf p b c ≡ candidatesOf p c
@@ -318,28 +299,32 @@ module _ (p : Policy) where
       none-few true = omega arith
       none-few false = of-few p c
 
-  pub listing-all : {i : ℕ} {a₀ a r₀ r s₀ s : List ℕ} {n : Counts} → Listing p i a₀ a r₀ r n → i ≡ 2 ^ p .colours → {m j : ℕ} → Found p m s₀ s j → m ≡ full p → n .roots ≡ j → Listed p a₀ a r₀ r s₀ s n
+  pub listing-all : {i : ℕ} {a₀ a r₀ r s₀ s : List ℕ} {n : Counts} → Listing p i a₀ a r₀ r n → i ≡ 2 ^ p .colours → {m j k : ℕ} → Found p m s₀ s j k → m ≡ full p → n .roots ≡ j → Listed p a₀ a r₀ r s₀ s n
   unfolding rootCandidates
-  listing-all {i} {a₀} {a} {r₀} {r} {s₀} {s} {n} l e {m} {j} f q h = record {
+  listing-all {i} {a₀} {a} {r₀} {r} {s₀} {s} {n} l e {m} {j} {k} f q h = record {
     accepting-are = stored-is (l .accepting-are) (judged p true) (sym (judged-all true i e));
     rejecting-are = stored-is (l .rejecting-are) (judged p false) (sym (judged-all false i e));
     roots-are = stored-is (subst (λ (j : ℕ). Stored s₀ s 0 j (largestIn p m)) (sym h) (f .cycles-are)) (largestIn p (full p)) (ap (largestIn p) (sym q));
   }
 
   -- the cycles found, as they are read
-  pub found-first : legal p ≡ true → {m n : ℕ} {t₀ t : List ℕ} → Found p m t₀ t n → take n t ≡ largestIn p m
-  found-first lawful {m} {n} {t₀} {t} f =
+  pub found-first : legal p ≡ true → {m n k : ℕ} {t₀ t : List ℕ} → Found p m t₀ t n k → take n t ≡ largestIn p m
+  found-first lawful {m} {n} {k} {t₀} {t} f =
       let e : n ≡ 0 + n = omega arith in
       ap₂ (λ (i : ℕ) (l : List ℕ). take i l) e (f .cycles-are .now-is)
       ∙ front-more t₀ (largestIn p m) 0 n (omega (arith, f .cycles-are .next-is)) (omega (arith, f .few, f .long, stored-length (f .cycles-are), legal-counts p lawful .states-few))
 
-  pub found-roots : legal p ≡ true → {m n j : ℕ} {t₀ t : List ℕ} → Found p m t₀ t n → m ≡ full p → j ≡ n → take j t ≡ largestIn p (full p)
-  found-roots lawful {m} {n} {j} {t₀} {t} f e q = ap (λ (i : ℕ). take i t) q ∙ found-first lawful f ∙ ap (largestIn p) e
+  pub found-roots : legal p ≡ true → {m n j k : ℕ} {t₀ t : List ℕ} → Found p m t₀ t n k → m ≡ full p → j ≡ n → take j t ≡ largestIn p (full p)
+  found-roots lawful {m} {n} {j} {k} {t₀} {t} f e q = ap (λ (i : ℕ). take i t) q ∙ found-first lawful f ∙ ap (largestIn p) e
 
   pub full-is : (n m : ℕ) → n ≡ edges p → m ≡ 2 ^ n - 1 → m ≡ full p
   unfolding full
   full-is n m e q = q ∙ ap (λ (k : ℕ). 2 ^ k - 1) e
 
   -- ---- the edges in some colours, by the table
-  pub edges-are : legal p ≡ true → (t : List ℕ) (c m : ℕ) → t ≡ byColour p → m ≡ tableEdges t c → m ≡ edgesIn p c
+  edges-are : legal p ≡ true → (t : List ℕ) (c m : ℕ) → t ≡ byColour p → m ≡ tableEdges t c → m ≡ edgesIn p c
   edges-are h t c m e q = q ∙ ap (λ (l : List ℕ). tableEdges l c) e ∙ table-edges-are p h c
+
+  -- of them those on cycles have the same largest cycles
+  pub largest-are : legal p ≡ true → (t : List ℕ) (c a k m : ℕ) → t ≡ byColour p → a ≡ tableEdges t c → k ≡ onCycles p (full p) → m ≡ bitAnd a k → largestIn p m ≡ largestIn p (edgesIn p c)
+  largest-are h t c a k m e q o i = ap (largestIn p) i ∙ largest-on p h k o a ∙ ap (largestIn p) (edges-are h t c a e q)

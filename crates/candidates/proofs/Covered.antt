@@ -12,18 +12,19 @@ use lib.Bits.{bitAnd, bitOr, bitXor, and-mask, xor-add-and}
 use lib.Dec.{eqb}
 use lib.Pow.{pow-pos, shl-exact, ones-lt, ones-split, low}
 use Rattle.lists.proofs.Bools.{test, or-cases, or-left, or-right, and-l, and-r, both, eqb≡, ≡eqb, not-true, not-false, bool-ext}
-use Rattle.masks.specs.Masks.{has, minus}
-use Rattle.masks.proofs.Bits.{has-and, has-or, has-none, has-minus, has-full, has-high, mask-ext}
+use Rattle.masks.specs.Masks.{has, minus, inside}
+use Rattle.masks.proofs.Bits.{has-and, has-or, has-none, has-minus, has-full, has-high, mask-ext, inside-all, all-inside}
 use Rattle.masks.proofs.Members.{some-nonzero}
 use Rattle.policy.specs.declared.Policy.{Policy}
 use Rattle.policy.specs.Policies.{edges, edgeOf, source, legal}
 use Rattle.policy.proofs.Laws.{legal-counts, legal-target, source-edge}
-use Rattle.graph.specs.Cycles.{contains}
+use Rattle.graph.specs.Cycles.{isCycle, contains}
 use Rattle.graph.specs.Through.{cycleThrough}
 use Rattle.graph.proofs.Cycles.{Targets, contains-some, some-contains, contains-inside}
-use Rattle.graph.proofs.Through.{through-inside, through-cycle, through-same}
+use Rattle.graph.proofs.Through.{through-inside, through-cycle, through-largest, through-same}
+use Rattle.graph.proofs.Inside.{contains-lt, cycle-state}
 use Rattle.candidates.specs.Candidates.{lowestIs}
-use Rattle.candidates.specs.Listed.{ownEdges, isOpen, lowestCycle, covered}
+use Rattle.candidates.specs.Listed.{ownEdges, isOpen, lowestCycle, covered, onCycles}
 use Rattle.candidates.proofs.Candidates.{lowest-some, some-lowest}
 
 -- ---- the edges that leave a state
@@ -255,3 +256,31 @@ module _ (p : Policy) (lawful : legal p ≡ true) where
     pub covered-next : (v k x r : ℕ) → k ≡ covered p m v → x ≡ lowestCycle p m v → r ≡ bitOr k x → r ≡ covered p m (v + 1)
     unfolding covered
     covered-next v k x r is ix e = e ∙ rw (is, ix, add-one v) refl
+
+    -- ---- the edges on cycles
+    -- a cycle lies inside the largest one through any of its states, which is found at the lowest state of that one
+    pub cycle-on : (x : ℕ) → isCycle p x ≡ true → inside x m ≡ true → inside x (onCycles p m) ≡ true
+    unfolding onCycles
+    cycle-on x cy wi = all-inside x (covered p m (p .states)) (λ e t. has-covered (p .states) (r .0) e (contains-lt p lawful (r .0) y (r .1)) (ap (λ (z : ℕ). has z e) its ∙ inside-all x y i e t))
+      where
+        s : (v : ℕ) × (v < p .states) × (contains p v x ≡ true)
+        s = cycle-state p lawful x cy
+
+        y : ℕ
+        y = cycleThrough p m (s .0)
+
+        i : inside x y ≡ true
+        i = through-largest p targets m (s .0) (s .1) x cy wi (s .2)
+
+        r : (u : ℕ) × (contains p u y ≡ true) × (lowestIs p u y ≡ true)
+        r = some-lowest p (s .0) y (contains-inside p (s .0) x y i (s .2))
+
+        same : cycleThrough p m (r .0) ≡ y
+        same = through-same p targets m (s .0) (r .0) (s .1) (r .1)
+
+        its : lowestCycle p m (r .0) ≡ y
+        its = lowest-is (r .0) (ap (lowestIs p (r .0)) same ∙ r .2) ∙ same
+
+    pub covered-all : (v k : ℕ) → k ≡ covered p m v → v ≡ p .states → k ≡ onCycles p m
+    unfolding onCycles
+    covered-all v k is e = is ∙ ap (covered p m) e

@@ -42,7 +42,7 @@ module _ (p : Policy) where
     within-through m v u x l on cy wi onx = subst (λ (y : ℕ). inside x y ≡ true) (through-same p targets m v u l on) (through-largest p targets m u (contains-lt p lawful u x onx) x cy wi onx)
 
     -- ---- edge sets and colours
-    inside-colours : (x c : ℕ) → isCycle p x ≡ true → inside (coloursOf p x) c ≡ true → inside x (edgesIn p c) ≡ true
+    pub inside-colours : (x c : ℕ) → isCycle p x ≡ true → inside (coloursOf p x) c ≡ true → inside x (edgesIn p c) ≡ true
     inside-colours x c cy i =
         all-inside x (edgesIn p c)
         (λ e t. let l = cycle-edge p x cy e t in some-edges-in p c e l (λ d k. inside-all (coloursOf p x) c i d (some-colours p x e d l t k)))

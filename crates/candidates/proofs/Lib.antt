@@ -3,4 +3,5 @@ pub mod Full
 pub mod Candidates
 pub mod LargerFirst
 pub mod Covered
+pub mod OnCycles
 pub mod CandidateLaws

@@ -45,6 +45,10 @@ module _ (p : Policy) where
   covered m zero = 0
   covered m (suc v) = bitOr (covered m v) (lowestCycle m v)
 
+  -- the edges of m that are on cycles inside m
+  unfoldable pub onCycles : ℕ → ℕ
+  onCycles m = covered m (p .states)
+
   -- ---- in part
   -- the largest cycles inside m at the states below n
   unfoldable pub largestTo : ℕ → ℕ → List ℕ
@@ -59,9 +63,10 @@ module _ (p : Policy) where
   judgedTo b n = filter (λ m. not (differs b (accepting p m))) (flat (map (λ i. candidatesOf p (coloursAt p i)) (below n)))
 
 -- ---- what is listed
--- a list of 16 places, t₀ before, begins with the n largest cycles inside m
-pub record Found (p : Policy) (m : ℕ) (t₀ t : List ℕ) (n : ℕ) : Type 0 where
+-- a list of 16 places, t₀ before, begins with the n largest cycles inside m, and k has their edges
+pub record Found (p : Policy) (m : ℕ) (t₀ t : List ℕ) (n k : ℕ) : Type 0 where
   pub cycles-are : Stored t₀ t 0 n (largestIn p m)
+  pub edges-are : k ≡ onCycles p m
   pub few : n ≤ p .states
   pub long : length t ≡ 16
 
@@ -71,13 +76,15 @@ pub record Finding (p : Policy) (m : ℕ) (t₀ t : List ℕ) (seen n v : ℕ) :
   pub seen-is : seen ≡ covered p m v
   pub found : Stored t₀ t 0 n (largestTo p m v)
 
--- what listing the candidates of a colour set looks at: the targets of the edges, the edges of each colour, the family, the colours on edges, and the n roots
-pub record Ready (p : Policy) (heads by : List ℕ) (family : List Bool) (used : ℕ) (roots : List ℕ) (n : ℕ) : Type 0 where
+-- what listing the candidates of a colour set looks at: the targets of the edges, the edges of each colour, the family, the edges on cycles, their colours, and the
+-- n roots
+pub record Ready (p : Policy) (heads by : List ℕ) (family : List Bool) (cyclic used : ℕ) (roots : List ℕ) (n : ℕ) : Type 0 where
   pub lawful : legal p ≡ true
   pub heads-are : heads ≡ p .target
   pub by-is : by ≡ byColour p
   pub family-is : family ≡ p .family
-  pub used-are : used ≡ coloursOf p (full p)
+  pub cyclic-are : cyclic ≡ onCycles p (full p)
+  pub used-are : used ≡ coloursOf p cyclic
   pub roots-are : take n roots ≡ largestIn p (full p)
   pub roots-few : n ≤ p .states
   pub roots-long : length roots ≡ 16

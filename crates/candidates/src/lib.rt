@@ -20,6 +20,12 @@ pub struct Counts {
     pub roots: usize,
 }
 
+// How many cycles were found, and their edges as one set.
+struct Cycles {
+    count: usize,
+    edges: u64,
+}
+
 // The edges that leave state v.
 fn own_edges(letters: usize, v: usize) -> u64
     requires { ⌜ v * letters + letters ≤ 64 ⌝ }
@@ -51,8 +57,9 @@ fn append(cycles: &mut [u64; 16], n: usize, x: u64) -> usize
     n + 1
 }
 
-// The largest cycles inside m, by their lowest states. `seen` has those of the states below v, so v is the lowest state of its own exactly if it is in none of
-// them. The rows are space that is lent. Called from two places, it is not compiled into them, and takes the parts of the policy, which would be copied.
+// The largest cycles inside m, by their lowest states. `seen` has those of the states below v, so v is the lowest state of
+// its own exactly if it is in none of them. The rows are space that is lent. Called from two places, this is not compiled
+// into them, and takes the parts of the policy, which would be copied.
 fn fill_cycles(
     shape: Shape,
     heads: &[u8; 64],
@@ -61,11 +68,11 @@ fn fill_cycles(
     m: u64,
     rows: &mut [u64; 16],
     cycles: &mut [u64; 16],
-) -> usize
+) -> Cycles
     ghost { Policy }
     requires { λ p. ⌜ fromParts shape (now heads) (now colours) (now family) ≡ p ⌝ }
     requires { λ p. ⌜ (legal p ≡ true) × (length (now rows) ≡ 16) × (length (now cycles) ≡ 16) ⌝ }
-    ensures { λ p r. ⌜ Found p m (now (cycles .entry)) (now (cycles .exit)) r × (length (now (rows .exit)) ≡ 16) ⌝ }
+    ensures { λ p r. ⌜ Found p m (now (cycles .entry)) (now (cycles .exit)) (r .count) (r .edges) × (length (now (rows .exit)) ≡ 16) ⌝ }
 {
     let p = policy::from_parts(shape, heads, colours, family);
     graph::reach_all(p, heads, m, rows);
@@ -79,7 +86,10 @@ fn fill_cycles(
             n = append(cycles, n, x);
         }
     }
-    n
+    Cycles {
+        count: n,
+        edges: seen,
+    }
 }
 
 // Those of the first n cycles whose colours by the table are exactly c, after the first `at` masks of a list.
@@ -136,13 +146,15 @@ fn append_judged(
     }
 }
 
-// The candidates of the colour set c, after those listed so far. There are none where c is empty or some colour of c is on no edge. Where c has every colour on
-// edges, the largest cycles are the roots. The rows and the cycles are space that is lent.
+// The candidates of the colour set c, after those listed so far. Only the edges on cycles count: there are none where c
+// is empty or has a colour that is on no such edge, and where c has all their colours, the largest cycles are the roots.
+// The rows and the cycles are space that is lent.
 fn list_set(
     p: Policy,
     heads: &[u8; 64],
     by: &[u64; 8],
     family: &[bool; 256],
+    cyclic: u64,
     used: u8,
     c: u8,
     roots: &[u64; 16],
@@ -152,7 +164,7 @@ fn list_set(
     rejecting: &mut [u64],
     listed: Counts,
 ) -> Counts
-    requires { ⌜ Ready p (now heads) (now by) (now family) used (now roots) (listed .roots) × (length (now rows) ≡ 16) × (length (now cycles) ≡ 16) × (listed .accepting + p .states ≤ length (now accepting)) × (listed .rejecting + p .states ≤ length (now rejecting)) ⌝ }
+    requires { ⌜ Ready p (now heads) (now by) (now family) cyclic used (now roots) (listed .roots) × (length (now rows) ≡ 16) × (length (now cycles) ≡ 16) × (listed .accepting + p .states ≤ length (now accepting)) × (listed .rejecting + p .states ≤ length (now rejecting)) ⌝ }
     ensures { λ r. ⌜ Put (inFamily p c) (candidatesOf p c) (now (accepting .entry)) (now (accepting .exit)) (now (rejecting .entry)) (now (rejecting .exit)) listed r × (length (now (rows .exit)) ≡ 16) × (length (now (cycles .exit)) ≡ 16) ⌝ }
 {
     if c == 0 {
@@ -172,11 +184,20 @@ fn list_set(
                 listed,
             );
         }
-        let m = policy::edges_in(by, c);
+        let m = masks::both(policy::edges_in(by, c), cyclic);
         let shape = policy::shape_of(p);
         let colours = p.colour;
-        let n = fill_cycles(shape, heads, &colours, family, m, rows, cycles);
-        return append_judged(by, c, verdict, cycles, n, accepting, rejecting, listed);
+        let found = fill_cycles(shape, heads, &colours, family, m, rows, cycles);
+        return append_judged(
+            by,
+            c,
+            verdict,
+            cycles,
+            found.count,
+            accepting,
+            rejecting,
+            listed,
+        );
     }
     listed
 }
@@ -189,8 +210,10 @@ fn set_count(p: Policy) -> usize
     1 << p.colours
 }
 
-// The candidates of a policy by verdict, each list by falling masks of their colours and then by their lowest states; and the candidates for a root. Places past
-// them stay. `by` has the edges of each colour. This is an inner layer: its callers have asked whether the policy is legal, and lend enough places.
+// The candidates of a policy by verdict, each list by falling masks of their colours and then by their lowest states; and
+// the candidates for a root. Places past them stay. `by` has the edges of each colour; it is copied, since no list
+// overlaps the copy: what was read of it is not read again after each store. This is an inner layer: its callers have
+// asked whether the policy is legal, and lend enough places.
 pub fn fill_candidates(
     p: Policy,
     heads: &[u8; 64],
@@ -206,25 +229,28 @@ pub fn fill_candidates(
     ensures { λ r. ⌜ Listed p (now (accepting .entry)) (now (accepting .exit)) (now (rejecting .entry)) (now (rejecting .exit)) (now (roots .entry)) (now (roots .exit)) r ⌝ }
 {
     let all = masks::full(policy::edges(p));
-    let used = policy::colours_in(by, all);
     let sets = set_count(p);
     let mut rows = [0u64; 16];
     let mut cycles = [0u64; 16];
     let shape = policy::shape_of(p);
     let colours = p.colour;
     let rooted = fill_cycles(shape, heads, &colours, family, all, &mut rows, roots);
+    let cyclic = rooted.edges;
+    let table = *by;
+    let used = policy::colours_in(&table, cyclic);
     let mut listed = Counts {
         accepting: 0,
         rejecting: 0,
-        roots: rooted,
+        roots: rooted.count,
     };
     for i in 0..sets {
         let c = (sets - 1 - i) as u8;
         listed = list_set(
             p,
             heads,
-            by,
+            &table,
             family,
+            cyclic,
             used,
             c,
             roots,

@@ -94,7 +94,7 @@ returns c =
     let p = q .from-parts .result in
     let at = c .before .loop in
     let last : at .v ≡ p .states = omega arith in (
-      subst (λ (p : Policy). Found p (s .args .m) (s .args .cycles .now) (at .cycles) (at .n)) (q .from-parts .ensures) (finding-all p (lawful q) (s .args .m) (at .inv .1) last (s .pre .2)),
+      subst (λ (p : Policy). Found p (s .args .m) (s .args .cycles .now) (at .cycles) (at .n) (at .seen)) (q .from-parts .ensures) (finding-all p (lawful q) (s .args .m) (at .inv .1) last (s .pre .2)),
       reached p (s .args .m) (s .args .rows .now) _ (lawful q) (s .pre .1) (c .before .before .before .reach-all .ensures) .1,
     )
 

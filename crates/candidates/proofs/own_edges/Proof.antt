@@ -1,7 +1,6 @@
 -- `candidates::own_edges` meets its contract. Assumes nothing.
 use Prim.Native.Nat.{ℕ, _*_, _%_, _^_}
 use mathlib.Core.Path.{ap, _∙_}
-use native.Mathlib.Omega.{arith}
 use borrow.Author.Needs.{needs}
 use Rattle.candidates.proofs.Covered.{first-few, own-moved}
 use Rattle.candidates.proofs.own_edges.Statement.{statement}
