@@ -4,7 +4,7 @@ use Prim.Native.Nat.{ℕ, zero, suc, _+_, _-_, _≤_, _<_}
 use native.Mathlib.Omega.{arith}
 use mathlib.Core.Path.{_≡_, refl, sym, ap, _∙_, subst}
 use mathlib.Core.Logic.{_⊎_, inl, inr}
-use mathlib.Core.Bool.{Bool, true, false, cond}
+use mathlib.Core.Bool.{Bool, true, false, cond, true≢false}
 use mathlib.Core.List.{List, []}
 use lib.Dec.{eqb, lit≤}
 use lib.ListN.{length, getD, take, drop, length-drop}
@@ -15,15 +15,16 @@ use Rattle.masks.specs.Masks.{insert}
 use Rattle.policy.specs.declared.Policy.{Policy}
 use Rattle.policy.specs.Policies.{edgeOf, legalCounts}
 use Rattle.policy.proofs.Laws.{counts}
-use Rattle.policy.specs.Making.{counted, zeroPolicy, withEdge, withSet, withTables}
+use Rattle.policy.specs.declared.Shape as policy-shape
+use Rattle.policy.specs.Making.{counted, fromParts, zeroPolicy, withEdge, withSet, withTables}
 use Rattle.reading.specs.declared.Draft.{Draft}
 use Rattle.reading.specs.declared.Answer.{Answer}
 use Rattle.reading.specs.declared.Command.{Command}
 use Rattle.reading.specs.declared.Command.the-variants.{End, Shape, Edge, Accept}
 use Rattle.reading.specs.declared.Outcome.{Outcome}
 use Rattle.reading.specs.declared.Outcome.the-variants.{Read, Refused}
-use Rattle.reading.specs.Reading.{Bounded, HandsBack, ReadsPolicy, draftAfter, answerAt, commandAt, emptyDraft, isEnd, nextOffset, numberAt, numberOf, offsetOf, operandCount, partAfter, readingOf, refusalOf, restOf, stopFrom, stopMost, stopOf, withinLimits}
-use Rattle.reading.proofs.Questions.{passed, room}
+use Rattle.reading.specs.Reading.{Bounded, HandsBack, ReadsPolicy, draftAfter, answerAt, commandAt, emptyDraft, inPlace, isEnd, isShape, nextOffset, numberAt, numberOf, offsetOf, operandCount, partAfter, readingOf, refusalOf, restOf, stopFrom, stopMost, stopOf, withinLimits}
+use Rattle.reading.proofs.Questions.{Passed, passed, room}
 
 module _ (b : List ℕ) where
   -- a command that is not refused ends within the bytes
@@ -86,14 +87,28 @@ bounded-after d (Accept s) h w = record { few-edges = h .few-edges; few-colours 
 pub record Onway (b : List ℕ) (at : ℕ) (d : Draft) : Type 0 where
   pub within : at ≤ length b
   pub bounded : Bounded (d .policy)
+  pub first : at ≡ 0 → d .policy ≡ zeroPolicy
   pub is : stopFrom b at d ≡ stopOf b
 
 module _ (b : List ℕ) where
   pub onway-start : {p : Policy} → p ≡ counted 0 0 0 0 → Onway b 0 (record { policy = p; given = 0 })
   unfolding stopOf emptyDraft zeroPolicy
-  onway-start e = rw e (record { within = omega arith; bounded = bounded-zero; is = refl })
+  onway-start e = rw e (record { within = omega arith; bounded = bounded-zero; first = λ z. refl; is = refl })
+
+-- a shape that is not refused stands first
+first-shape : {b : List ℕ} {at : ℕ} {d : Draft} → Passed b at d → {v a k i : ℕ} → commandAt b at ≡ Shape v a k i → at ≡ 0
+unfolding inPlace isShape
+first-shape {b} {at} {d} w {v} {a} {k} {i} e = go (test (eqb at 0)) (ap (inPlace at) (sym e) ∙ w .place)
+  where
+    go : (eqb at 0 ≡ true) ⊎ (eqb at 0 ≡ false) → inPlace at (Shape v a k i) ≡ true → at ≡ 0
+    go (inl t) h = eqb-true at 0 t
+    go (inr f) h = absurd (true≢false (sym h ∙ rw f))
 
 module _ {b : List ℕ} {at : ℕ} {d : Draft} (o : Onway b at d) where
+  -- the draft is empty where a shape is taken
+  pub onway-shape : {v a k i : ℕ} → refusalOf b at d ≡ 0 → commandAt b at ≡ Shape v a k i → d .policy ≡ zeroPolicy
+  onway-shape z e = o .first (first-shape (passed z) e)
+
   pub onway-refused : {n : ℕ} {p : Policy} → n ≡ refusalOf b at d → (n ≡ 0 → ⊥) → p ≡ counted 0 0 0 0 → _≡_ {A = Answer} (record { outcome = Refused n at; policy = p }) (readingOf b)
   unfolding readingOf answerAt numberAt zeroPolicy
   onway-refused e h q =
@@ -112,6 +127,7 @@ module _ {b : List ℕ} {at : ℕ} {d : Draft} (o : Onway b at d) where
         rw (q, is-c, k) (record {
           within = next-within b at d z .1;
           bounded = bounded-after d (commandAt b at) (o .bounded) (w .within);
+          first = λ h. absurd (omega arith);
           is = sym (stop-on b at d (o .within) z (rw is-c at t)) ∙ o .is;
         })
 
@@ -122,9 +138,15 @@ pub record Taken (d : Draft) (c : Command) (p : Policy) (given : ℕ) : Type 0 w
   pub is : _≡_ {A = Draft} (record { policy = p; given = given }) (draftAfter d c)
 
 module _ {d : Draft} {c : Command} {p : Policy} {given : ℕ} where
-  pub taken-shape : {v a k i : ℕ} → c ≡ Shape v a k i → p ≡ counted v a k i → given ≡ 0 → Taken d c p given
-  unfolding draftAfter isEnd
-  taken-shape e q g = rw (e, q, g) (record { goes-on = refl; is = refl })
+  -- the counts are put into a policy that is all zero
+  pub taken-shape :
+      {v a k i : ℕ} → c ≡ Shape v a k i → d .policy ≡ zeroPolicy →
+      p ≡ fromParts (record { states = v; letters = a; colours = k; initial = i }) (d .policy .target) (d .policy .colour) (d .policy .family) → given ≡ 0 → Taken d c p given
+  unfolding draftAfter isEnd zeroPolicy counted
+  taken-shape {v} {a} {k} {i} e z q g =
+      let s : policy-shape.Shape = record { states = v; letters = a; colours = k; initial = i } in
+      let made : p ≡ counted v a k i = q ∙ ap (λ (x : Policy). fromParts s (x .target) (x .colour) (x .family)) z in
+      rw (e, made, g) (record { goes-on = refl; is = refl })
 
   pub taken-edge : {v a t k e : ℕ} → c ≡ Edge v a t k → e ≡ edgeOf (d .policy) v a → p ≡ withEdge (d .policy) e t k → given ≡ insert (d .given) e → Taken d c p given
   unfolding draftAfter isEnd

@@ -190,7 +190,7 @@ fn refusal(bytes: &[u8], at: usize, d: Draft, family: &[bool; 256]) -> u8
 }
 
 // ---- reading
-// The policy of the commands up to the end command, or the first refusal. The draft's policy is written in place.
+// The policy of the commands up to the end command, or the first refusal. The draft's policy is written in place; it is all zero where the shape is given, at the first byte.
 pub fn read(bytes: &[u8]) -> Answer
     ensures { λ r. ⌜ ReadsPolicy (now (bytes .entry)) r ⌝ }
 {
@@ -216,7 +216,10 @@ pub fn read(bytes: &[u8]) -> Answer
                 };
             }
             Command::Shape(states, letters, colours, initial) => {
-                p = policy::counted(states, letters, colours, initial);
+                p.states = states;
+                p.letters = letters;
+                p.colours = colours;
+                p.initial = initial;
                 given = 0;
             }
             Command::Edge(state, letter, target, colour) => {

@@ -10,7 +10,7 @@ use Rattle.policy.specs.Making.{withEdge, withSet, withTables}
 use Rattle.reading.specs.declared.Draft.{Draft}
 use Rattle.reading.specs.Reading.{isEnd, refusalOf, withinLimits}
 use Rattle.reading.proofs.Questions.{passed, edge-within}
-use Rattle.reading.proofs.Commands.{Onway, onway-start, onway-refused, onway-end, onway-on, Taken, taken-shape, taken-edge, taken-accept, reads}
+use Rattle.reading.proofs.Commands.{Onway, onway-start, onway-shape, onway-refused, onway-end, onway-on, Taken, taken-shape, taken-edge, taken-accept, reads}
 use Rattle.reading.proofs.read.Statement.{statement}
 use Rattle.reading.proofs.read.Tie as tie
 
@@ -42,7 +42,7 @@ taken : (c : tie.At-match-came Inv-loop μ-loop) → Taken (draft (c .before .be
 unfolding withTables withEdge withSet
 taken c =
     ⊎-elim
-    (λ w. taken-shape (w .1 .given .1) (w .4 ∙ w .3 .ensures) (w .5))
+    (λ w. taken-shape (w .1 .given .1) (onway-shape (c .before .before .before .before .before .before .loop .inv) (accepted (c .before .before)) (sym (c .before .command-at .ensures) ∙ w .1 .given .1)) (w .3) (w .4))
     (⊎-elim
     (λ w. taken-edge (w .1 .given .1) (w .3 .ensures) (w .5) (w .6 ∙ w .4 .ensures))
     (λ w. taken-accept (w .1 .given .1) (w .3 .ensures .0) (w .4) (w .5)))
@@ -82,9 +82,6 @@ returns-2 c = reads _ _ (onway-end (c .before .before .before .before .before .b
 
 enum-known-states : tie.Need-enum-known-states Inv-loop μ-loop
 enum-known-states c = search needs
-
-counted-requires-2 : tie.Need-counted-requires-2 Inv-loop μ-loop
-counted-requires-2 c κs = search needs
 
 enum-known-state : tie.Need-enum-known-state Inv-loop μ-loop
 enum-known-state c = search needs
@@ -143,7 +140,6 @@ read-spec =
     add-end
     returns-2
     enum-known-states
-    counted-requires-2
     enum-known-state
     edge-of-requires
     element-write-p
