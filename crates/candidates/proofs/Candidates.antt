@@ -1,6 +1,6 @@
--- The candidates are the full cycles, each once: every node of the forest is one, the children of a candidate are the
+-- The candidates are the full cycles, each once: the roots are among them, and the children of each; the children of a candidate are the
 -- largest candidates of the other verdict properly inside it, and the roots are the largest cycles through the states. Assumes nothing.
-use Prim.Native.Nat.{ℕ, zero, suc, _-_, _^_, _≤_, _<_}
+use Prim.Native.Nat.{ℕ, _-_, _^_, _≤_, _<_}
 use native.Mathlib.Omega.{arith}
 use native.Mathlib.Decide.{decLt}
 use mathlib.Core.Path.{_≡_, sym, ap, _∙_, subst}
@@ -27,8 +27,7 @@ use Rattle.graph.specs.Through.{cycleThrough}
 use Rattle.graph.proofs.Cycles.{Targets, contains-inside}
 use Rattle.graph.proofs.Through.{through-cycle, through-largest, through-same, contains-nonzero}
 use Rattle.graph.proofs.Inside.{contains-lt, cycle-state, inside-full}
-use Rattle.forest.specs.Forest.{Node, isRoot, node, inOrder, largest, roots, children}
-use Rattle.forest.specs.Laws.{ForestLaws, maskAt, parentAt}
+use Rattle.forest.specs.Forest.{inOrder, largest, roots, children}
 use Rattle.candidates.specs.Candidates.{lowestIs, largestAt, largestIn, candidatesOf, coloursAt, candidates, judged, rootCandidates, childrenIn}
 use Rattle.forest.proofs.Order.{order-mem, mem-order, distinct-ordered}
 use Rattle.forest.proofs.Largest.{largest-order-mem, in-largest-order, largest-ordered}
@@ -285,17 +284,3 @@ module _ (p : Policy) where
         apart : (x y : ℕ) → List·Memᴰ x (rootCandidates p) → List·Memᴰ y (rootCandidates p) → (properly x y ≡ true) ⊎ (properly x y ≡ false) → properly x y ≡ false
         apart x y k l (inl t) = absurd (omega (arith, properly-lt x y t, root-candidates-same x y k l (properly-inside x y t)))
         apart x y k l (inr f) = f
-
-    -- ---- every node of the forest
-    node-to : (ns : List Node) → ForestLaws p ns → (k n : ℕ) → n < k → n < length ns → List·Memᴰ (maskAt ns n) (candidates p)
-    node-to ns laws zero n l h = absurd (omega arith)
-    node-to ns laws (suc k) n l h = go (test (isRoot (node ns n))) (node-to ns laws k)
-      where
-        go : (isRoot (node ns n) ≡ true) ⊎ (isRoot (node ns n) ≡ false) → ((j : ℕ) → j < k → j < length ns → List·Memᴰ (maskAt ns j) (candidates p)) → List·Memᴰ (maskAt ns n) (candidates p)
-        go (inl t) ih = root-candidate (maskAt ns n) (laws .root-mask n h t)
-        go (inr f) ih =
-            let lt = laws .parent-lt n h f in
-            child-candidate (maskAt ns (parentAt ns n)) (maskAt ns n) (ih (parentAt ns n) (omega arith) (omega arith)) (laws .child-mask n h f)
-
-    pub node-candidate : (ns : List Node) → ForestLaws p ns → (n : ℕ) → n < length ns → List·Memᴰ (maskAt ns n) (candidates p)
-    node-candidate ns laws n h = node-to ns laws (suc n) n (omega arith) h

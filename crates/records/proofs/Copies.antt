@@ -34,17 +34,17 @@ module _ {A : Type 0} (d : A) (f : ℕ → A) (n : ℕ) where
 
 -- t is t₀ with the first i of s stored from a place on
 module _ {A : Type 0} (s t₀ : List A) (at : ℕ) where
-  pub record Stored (t : List A) (i : ℕ) : Type 0 where
+  pub record Storing (t : List A) (i : ℕ) : Type 0 where
     pub fits : at + length s ≤ length t₀
     pub at-most : i ≤ length s
     pub long : length t ≡ length t₀
     pub is : t ≡ paste t₀ at s i
 
-  pub stored-none : at + length s ≤ length t₀ → Stored t₀ 0
-  stored-none h = record { fits = h; at-most = omega arith; long = refl; is = paste-zero t₀ at s }
+  pub storing-none : at + length s ≤ length t₀ → Storing t₀ 0
+  storing-none h = record { fits = h; at-most = omega arith; long = refl; is = paste-zero t₀ at s }
 
-  pub stored-more : (t : List A) (i : ℕ) (d x : A) → i < length s → x ≡ getD s i d → Stored t i → Stored (set t (at + i) x) (i + 1)
-  stored-more t i d x h e c =
+  pub storing-more : (t : List A) (i : ℕ) (d x : A) → i < length s → x ≡ getD s i d → Storing t i → Storing (set t (at + i) x) (i + 1)
+  storing-more t i d x h e c =
       let l : at + i < length t₀ = omega arith in
       record {
         fits = c .fits;
@@ -53,7 +53,7 @@ module _ {A : Type 0} (s t₀ : List A) (at : ℕ) where
         is = rw (add-one, e) (ap (λ (l : List A). set l (at + i) (getD s i d)) (c .is) ∙ paste-suc t₀ at s i d l h);
       }
 
-  pub stored-all : (t : List A) (i : ℕ) → length s ≤ i → Stored t i → t ≡ sets t₀ at s
-  stored-all t i h c =
+  pub storing-all : (t : List A) (i : ℕ) → length s ≤ i → Storing t i → t ≡ sets t₀ at s
+  storing-all t i h c =
       let e : i ≡ length s = omega arith in
       c .is ∙ rw (e, take-length) (sym (sets-eq s t₀ at (c .fits)))

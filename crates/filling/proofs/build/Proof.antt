@@ -1,5 +1,4 @@
 -- `build` meets its contract: the policy's parts make it again, and what is built in the tables once they are cleared is built in them. Assumes nothing.
-use native.Mathlib.Omega.{arith}
 use lib.ListN.{length-replicate}
 use borrow.Author.Needs.{needs}
 use mathlib.Core.Path.{_≡_, sym}

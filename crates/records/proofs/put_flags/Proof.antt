@@ -7,12 +7,12 @@ use mathlib.Core.List.{map}
 use lib.ListN.{length, length-map, List·getD-map}
 use borrow.Author.Needs.{needs}
 use Rattle.records.specs.Records.{flag}
-use Rattle.records.proofs.Copies.{Stored, stored-none, stored-more, stored-all}
+use Rattle.records.proofs.Copies.{Storing, storing-none, storing-more, storing-all}
 use Rattle.records.proofs.put_flags.Statement.{statement}
 use Rattle.records.proofs.put_flags.Tie as tie
 
 abbrev Inv-loop : tie.InvT-loop
-Inv-loop packed₀ at flags i₀ i-end packed i = (i-end ≡ length flags) × (length (map flag flags) ≡ length flags) × Stored (map flag flags) packed₀ at packed i
+Inv-loop packed₀ at flags i₀ i-end packed i = (i-end ≡ length flags) × (length (map flag flags) ≡ length flags) × Storing (map flag flags) packed₀ at packed i
 
 abbrev μ-loop : tie.MeasureT-loop
 μ-loop packed₀ at flags i₀ i-end packed i = length flags - i
@@ -20,7 +20,7 @@ abbrev μ-loop : tie.MeasureT-loop
 loop-holds : tie.Need-loop-holds Inv-loop μ-loop
 loop-holds c =
     let long = length-map (c .before .before .args .flags .now) flag in
-    (refl, long, stored-none _ _ _ (omega arith))
+    (refl, long, storing-none _ _ _ (omega arith))
 
 shared-slice-read-flag : tie.Need-shared-slice-read-flag Inv-loop μ-loop
 shared-slice-read-flag c = omega arith
@@ -44,13 +44,13 @@ loop-again : tie.Need-loop-again Inv-loop μ-loop
 loop-again c =
     let loop = c .before .before .before .loop in
     let flags = c .before .before .before .before .before .before .args .flags .now in
-    (refl, loop .inv .1, stored-more _ _ _ _ _ 0 _ (omega arith) (c .flag .ensures ∙ sym (List·getD-map flag flags (loop .i) false)) (loop .inv .2))
+    (refl, loop .inv .1, storing-more _ _ _ _ _ 0 _ (omega arith) (c .flag .ensures ∙ sym (List·getD-map flag flags (loop .i) false)) (loop .inv .2))
 
 same-length : tie.Need-same-length Inv-loop μ-loop
 same-length c = c .before .loop .inv .2 .long
 
 returns : tie.Need-returns Inv-loop μ-loop
-returns c = stored-all _ _ _ _ _ (omega arith) (c .before .loop .inv .2)
+returns c = storing-all _ _ _ _ _ (omega arith) (c .before .loop .inv .2)
 
 pub put-flags-spec : {M : Type 1} → statement M
 put-flags-spec =
