@@ -1,9 +1,10 @@
 -- The built automaton (document 01, "The built automaton"; document 004, Definition 5.12), over the numbered nodes ns of the forest.
-use Prim.Native.Nat.{min, ℕ}
+use Prim.Native.Nat.{ℕ}
 use mathlib.Core.Bool.{Bool, not, _&&_, cond}
 use mathlib.Core.List.{List, [], _∷_, map}
 use lib.Dec.{eqb, ltb, leb}
 use lib.ListN.{length, getD}
+use Rattle.tables.specs.Tables.{places}
 use Rattle.lists.specs.Lists.{any, filter, firstOr, flat, position, below}
 use Rattle.masks.specs.Masks.{has}
 use Rattle.policy.specs.declared.Policy.{Policy}
@@ -118,10 +119,6 @@ module _ (p : Policy) where
 
   unfoldable pub rowPriorities : List ℕ
   rowPriorities = flat (map (λ s. map (rowPriority s) (below (p .letters))) (below (length built)))
-
--- only the first 65,535 places of a table count
-unfoldable pub places : List ℕ → ℕ
-places t = min (length t) 65535
 
 module _ (p : Policy) where
   -- ---- the columns of the built states

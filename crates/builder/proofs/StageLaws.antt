@@ -7,14 +7,14 @@ use mathlib.Core.Bool.{Bool, true, false, true≢false}
 use mathlib.Core.List.{List}
 use lib.ListN.{length}
 use Rattle.lists.proofs.Bools.{test, le-true}
-use Rattle.tables.specs.Tables.{padded, zeros, Column}
+use Rattle.tables.specs.Tables.{padded, zeros, Column, places}
 use Rattle.tables.proofs.Columns.{column-padded}
 use Rattle.policy.specs.declared.Policy.{Policy}
 use Rattle.decomposition.specs.declared.Filled as node-filled
 use Rattle.decomposition.specs.declared.Filled.the-variants as node-variants
-use Rattle.forest.specs.Forest.{forest, nodeMasks, nodeParents, nodePriorities}
-use Rattle.decomposition.specs.NodeTables.{NodeTables, nodeTables, nodesFit, fillingOf, filledOf}
-use Rattle.automaton.specs.Automaton.{built, start, places, builtFit}
+use Rattle.forest.specs.Forest.{forest, nodeMasks, nodeParents, nodePriorities, forestFits}
+use Rattle.decomposition.specs.NodeTables.{NodeTables, nodeTables, fillingOf, filledOf}
+use Rattle.automaton.specs.Automaton.{built, start, builtFit}
 use Rattle.automaton.specs.Stages.{Nodes}
 use Rattle.automaton.proofs.Columns.{length-masks, length-parents, length-node-priorities}
 use Rattle.filling.specs.declared.Building.{Building}
@@ -46,9 +46,9 @@ pub fits-few : (p : Policy) (s₀ : List ℕ) → builtFit p s₀ ≡ true → l
 unfolding builtFit places
 fits-few p s₀ f = let h : length (built p) ≤ min (length s₀) 65535 = le-true (length (built p)) (places s₀) f in omega arith
 
-pub nodes-few : (p : Policy) (m₀ q₀ r₀ : List ℕ) → nodesFit p (nodeTables m₀ q₀ r₀) ≡ true → length (forest p) ≤ 65535
-unfolding nodesFit
-nodes-few p m₀ q₀ r₀ f = let h : length (forest p) ≤ min (length m₀) 65535 = le-true (length (forest p)) (min (length m₀) 65535) f in omega arith
+pub nodes-few : (p : Policy) (m₀ : List ℕ) → forestFits p m₀ ≡ true → length (forest p) ≤ 65535
+unfolding forestFits places
+nodes-few p m₀ f = let h : length (forest p) ≤ min (length m₀) 65535 = le-true (length (forest p)) (min (length m₀) 65535) f in omega arith
 
 -- ---- what each stage answered
 module _ (p : Policy) (s₀ : List ℕ) {r : Building} (e : r ≡ buildingOf p s₀) where
@@ -69,38 +69,38 @@ module _ (p : Policy) (s₀ : List ℕ) {r : Building} (e : r ≡ buildingOf p s
       go (inr f) = f
 
 module _ (p : Policy) (m₀ q₀ r₀ : List ℕ) {r : node-filled.Filled} (e : r ≡ fillingOf p (nodeTables m₀ q₀ r₀)) where
-  pub nodes-fits : {n : ℕ} → r ≡ node-variants.Nodes n → (nodesFit p (nodeTables m₀ q₀ r₀) ≡ true) × (n ≡ length (forest p))
+  pub nodes-fits : {n : ℕ} → r ≡ node-variants.Nodes n → (forestFits p m₀ ≡ true) × (n ≡ length (forest p))
   unfolding fillingOf
-  nodes-fits {n} d = go (test (nodesFit p (nodeTables m₀ q₀ r₀)))
+  nodes-fits {n} d = go (test (forestFits p m₀))
     where
-      go : (nodesFit p (nodeTables m₀ q₀ r₀) ≡ true) ⊎ (nodesFit p (nodeTables m₀ q₀ r₀) ≡ false) → (nodesFit p (nodeTables m₀ q₀ r₀) ≡ true) × (n ≡ length (forest p))
+      go : (forestFits p m₀ ≡ true) ⊎ (forestFits p m₀ ≡ false) → (forestFits p m₀ ≡ true) × (n ≡ length (forest p))
       go (inl t) = let q : node-variants.Nodes n ≡ node-variants.Nodes (length (forest p)) = sym d ∙ e ∙ rw t refl in (t, ap nodesOf q)
       go (inr f) = let q : node-variants.Nodes n ≡ node-variants.TooMany = sym d ∙ e ∙ rw f refl in absurd (true≢false (ap areNodes q))
 
-  pub nodes-none : r ≡ node-variants.TooMany → nodesFit p (nodeTables m₀ q₀ r₀) ≡ false
+  pub nodes-none : r ≡ node-variants.TooMany → forestFits p m₀ ≡ false
   unfolding fillingOf
-  nodes-none d = go (test (nodesFit p (nodeTables m₀ q₀ r₀)))
+  nodes-none d = go (test (forestFits p m₀))
     where
-      go : (nodesFit p (nodeTables m₀ q₀ r₀) ≡ true) ⊎ (nodesFit p (nodeTables m₀ q₀ r₀) ≡ false) → nodesFit p (nodeTables m₀ q₀ r₀) ≡ false
+      go : (forestFits p m₀ ≡ true) ⊎ (forestFits p m₀ ≡ false) → forestFits p m₀ ≡ false
       go (inl t) = let q : node-variants.Nodes (length (forest p)) ≡ node-variants.TooMany = sym (sym d ∙ e ∙ rw t refl) in absurd (true≢false (ap areNodes q))
       go (inr f) = f
 
 -- ---- the node tables
 module _ (p : Policy) (m₀ q₀ r₀ m q r : List ℕ) (e : nodeTables m q r ≡ filledOf p (nodeTables m₀ q₀ r₀)) where
-  pub nodes-filled : nodesFit p (nodeTables m₀ q₀ r₀) ≡ true → (m ≡ padded (length m₀) (nodeMasks p)) × (q ≡ padded (length q₀) (nodeParents p)) × (r ≡ padded (length r₀) (nodePriorities p))
+  pub nodes-filled : forestFits p m₀ ≡ true → (m ≡ padded (length m₀) (nodeMasks p)) × (q ≡ padded (length q₀) (nodeParents p)) × (r ≡ padded (length r₀) (nodePriorities p))
   unfolding filledOf
   nodes-filled t =
       let d : nodeTables m q r ≡ nodeTables (padded (length m₀) (nodeMasks p)) (padded (length q₀) (nodeParents p)) (padded (length r₀) (nodePriorities p)) = e ∙ rw t refl in
       (ap (λ (x : NodeTables). x .masks) d, ap (λ (x : NodeTables). x .parents) d, ap (λ (x : NodeTables). x .node-priorities) d)
 
-  pub nodes-cleared : nodesFit p (nodeTables m₀ q₀ r₀) ≡ false → (m ≡ zeros m₀) × (q ≡ zeros q₀) × (r ≡ zeros r₀)
+  pub nodes-cleared : forestFits p m₀ ≡ false → (m ≡ zeros m₀) × (q ≡ zeros q₀) × (r ≡ zeros r₀)
   unfolding filledOf
   nodes-cleared f =
       let d : nodeTables m q r ≡ nodeTables (zeros m₀) (zeros q₀) (zeros r₀) = e ∙ rw f refl in
       (ap (λ (x : NodeTables). x .masks) d, ap (λ (x : NodeTables). x .parents) d, ap (λ (x : NodeTables). x .node-priorities) d)
 
-  pub nodes-are : nodesFit p (nodeTables m₀ q₀ r₀) ≡ true → length q₀ ≡ length m₀ → length r₀ ≡ length m₀ → Nodes p m q r
-  unfolding nodesFit
+  pub nodes-are : forestFits p m₀ ≡ true → length q₀ ≡ length m₀ → length r₀ ≡ length m₀ → Nodes p m q r
+  unfolding forestFits places
   nodes-are t lq lr = record {
     few = omega (arith, few);
     masks-are = subst (Column (nodeMasks p)) (sym (f .0)) (column-padded (length m₀) (nodeMasks p) (omega (arith, few, length-masks p)));

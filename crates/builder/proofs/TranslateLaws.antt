@@ -10,8 +10,7 @@ use Rattle.lists.proofs.Bools.{eqb≡, and-l, and-r}
 use Rattle.tables.specs.Tables.{padded, zeros}
 use Rattle.policy.specs.declared.Policy.{Policy}
 use Rattle.policy.specs.Policies.{legal}
-use Rattle.forest.specs.Forest.{forest}
-use Rattle.decomposition.specs.NodeTables as node-tables
+use Rattle.forest.specs.Forest.{forest, forestFits}
 use Rattle.decomposition.specs.NodeTables.{nodeTables, filledOf}
 use Rattle.forest.specs.Forest.{nodeMasks, nodeParents, nodePriorities}
 use Rattle.builder.specs.declared.Translation.{Translation}
@@ -159,14 +158,14 @@ module _ (p : Policy) (m₀ q₀ r₀ s₀ l₀ t₀ k₀ : List ℕ) where
     built-zero g b = (rw g at (b .sources-are), rw g at (b .leaves-are), rw g at (b .targets-are), rw g at (b .priorities-are))
 
     -- 9 and 10 clear them
-    pub refused-nine : node-tables.nodesFit p (nodeTables m₀ q₀ r₀) ≡ false → nodeTables m q r ≡ filledOf p (nodeTables m₀ q₀ r₀) → (s ≡ zeros s₀) × (l ≡ zeros l₀) × (w ≡ zeros t₀) × (k ≡ zeros k₀)
+    pub refused-nine : forestFits p m₀ ≡ false → nodeTables m q r ≡ filledOf p (nodeTables m₀ q₀ r₀) → (s ≡ zeros s₀) × (l ≡ zeros l₀) × (w ≡ zeros t₀) × (k ≡ zeros k₀)
         → Translates p entry (Refused 9) (tables m q r s l w k)
     unfolding translationOf tablesAfter nodesFit
     refused-nine f e b =
         let n = no-third (legal p) (lengthsFit p entry) (nodesFit p entry) (statesFit p entry) done (filled p entry) (cleared p entry) entry t h f in
         all-is (n .0) (subst (λ (x : Tables). Hold x m q r s l w k) (n .1) (held-cleared (nodes-cleared p m₀ q₀ r₀ m q r e f) b))
 
-    pub refused-ten : {y : Building} → node-tables.nodesFit p (nodeTables m₀ q₀ r₀) ≡ true → builtFit p s₀ ≡ false → (m ≡ zeros m₀) × (q ≡ zeros q₀) × (r ≡ zeros r₀) → Builds p s₀ l₀ t₀ k₀ y s l w k
+    pub refused-ten : {y : Building} → forestFits p m₀ ≡ true → builtFit p s₀ ≡ false → (m ≡ zeros m₀) × (q ≡ zeros q₀) × (r ≡ zeros r₀) → Builds p s₀ l₀ t₀ k₀ y s l w k
         → Translates p entry (Refused 10) (tables m q r s l w k)
     unfolding translationOf tablesAfter nodesFit statesFit builtFit
     refused-ten f g z b =
@@ -174,7 +173,7 @@ module _ (p : Policy) (m₀ q₀ r₀ s₀ l₀ t₀ k₀ : List ℕ) where
         all-is (n .0) (subst (λ (x : Tables). Hold x m q r s l w k) (n .1) (held-cleared z (built-zero g b)))
 
     -- both counts and the start
-    pub translated : {y : Building} {n c a : ℕ} → node-tables.nodesFit p (nodeTables m₀ q₀ r₀) ≡ true → n ≡ length (forest p) → builtFit p s₀ ≡ true → c ≡ length (built p) → a ≡ start p
+    pub translated : {y : Building} {n c a : ℕ} → forestFits p m₀ ≡ true → n ≡ length (forest p) → builtFit p s₀ ≡ true → c ≡ length (built p) → a ≡ start p
         → nodeTables m q r ≡ filledOf p (nodeTables m₀ q₀ r₀) → Builds p s₀ l₀ t₀ k₀ y s l w k → Translates p entry (Translated n c a) (tables m q r s l w k)
     unfolding translationOf tablesAfter nodesFit statesFit builtFit
     translated {y} {n} {c} {a} f en g ec ea e b =

@@ -10,10 +10,7 @@ use Rattle.lists.specs.Questions.{ask}
 use Rattle.tables.specs.Tables.{padded, zeros}
 use Rattle.policy.specs.declared.Policy.{Policy}
 use Rattle.policy.specs.Policies.{legal}
-use Rattle.forest.specs.Forest.{forest}
-use Rattle.decomposition.specs.NodeTables.{nodeTables}
-use Rattle.forest.specs.Forest.{nodeMasks, nodeParents, nodePriorities}
-use Rattle.decomposition.specs.NodeTables as node-tables
+use Rattle.forest.specs.Forest.{forest, nodeMasks, nodeParents, nodePriorities, forestFits}
 use Rattle.automaton.specs.Automaton.{stateSources, stateLeaves, built, start, rowTargets, rowPriorities, builtFit}
 use Rattle.builder.specs.declared.Translation.{Translation}
 use Rattle.builder.specs.declared.Translation.the-variants.{Translated, Refused}
@@ -55,7 +52,7 @@ module _ (p : Policy) where
 
     -- questions 9 and 10
     unfoldable pub nodesFit : Bool
-    nodesFit = node-tables.nodesFit p (nodeTables (t .masks) (t .parents) (t .node-priorities))
+    nodesFit = forestFits p (t .masks)
 
     unfoldable pub statesFit : Bool
     statesFit = builtFit p (t .sources)

@@ -2,13 +2,13 @@
 -- colour set are found among its edges on cycles, and have colours of such edges only. Assumes nothing.
 use Prim.Native.Nat.{ℕ, _<_}
 use native.Mathlib.Decide.{ℕ-discrete}
-use mathlib.Core.Path.{_≡_, refl, sym, ap, ap₂, _∙_, subst}
+use mathlib.Core.Path.{_≡_, sym, ap, _∙_, subst}
 use mathlib.Core.Bool.{true, false, cond, true≢false, false≢true}
-use mathlib.Core.List.{List, [], _∷_, map, List·Memᴰ, List·Memᴰ·head, List·Memᴰ·tail}
+use mathlib.Core.List.{[], _∷_, List·Memᴰ}
 use lib.Bits.{bitAnd}
 use Rattle.lists.specs.Lists.{flat, below}
 use Rattle.lists.proofs.Bools.{and-l, both}
-use Rattle.lists.proofs.Lists.{below-lt, none-mem}
+use Rattle.lists.proofs.Lists.{below-lt, none-mem, map-same}
 use Rattle.masks.specs.Masks.{has, inside}
 use Rattle.masks.proofs.Bits.{has-and, has-none, inside-all, all-inside, inside-antisym}
 use Rattle.policy.specs.declared.Policy.{Policy}
@@ -25,10 +25,6 @@ use Rattle.candidates.specs.Listed.{onCycles}
 use Rattle.candidates.proofs.Full.{inside-colours}
 use Rattle.candidates.proofs.Candidates.{lowest-some, largest-in-mem, of-mem, of-colours}
 use Rattle.candidates.proofs.Covered.{cycle-on}
-
-map-same : {A : Type 0} (f g : ℕ → A) (l : List ℕ) → ((x : ℕ) → List·Memᴰ x l → f x ≡ g x) → map f l ≡ map g l
-map-same f g [] h = refl
-map-same f g (x ∷ l) h = ap₂ _∷_ (h x (List·Memᴰ·head refl)) (map-same f g l (λ y m. h y (List·Memᴰ·tail m)))
 
 module _ (p : Policy) (lawful : legal p ≡ true) where
   targets : Targets p

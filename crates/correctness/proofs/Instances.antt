@@ -8,16 +8,15 @@ use lib.ListN.{length, getD, take}
 use Rattle.lists.specs.Lists.{any}
 use denote.Ref.{RefT}
 use Rattle.masks.specs.Masks.{has, insert, inside, properly, members, submasks, setOf}
-use Rattle.tables.specs.Tables.{padded, zeros}
+use Rattle.tables.specs.Tables.{padded, zeros, places}
 use Rattle.policy.specs.declared.Policy.{Policy}
 use Rattle.policy.specs.Policies.{edges, edgeOf, source, targetOf, colourOf, edgeColours, coloursOf, inFamily, accepting, countsFit, legalCounts, legalEdge, legalEdges, legalSet, legalFamily, legalGraph, legal, full}
 use Rattle.policy.specs.Making.{counted, zeroPolicy, withEdge, withSet, withTables}
 use Rattle.reading.specs.Reading.{operandCount, commandAt, isShape, isEnd, operandsThere, inPlace, withinLimits, firstTime, allGiven, completeAtEnd, emptyDraft, draftAfter, nextOffset, stopMost, stopFrom, stopOf, numberAt, answerAt, readingOf as bytesReadingOf, refusalOf as readRefusalOf, offsetOf, numberOf as readNumberOf}
 use Rattle.reading.specs.declared.Answer.{Answer}
 use Rattle.graph.specs.Cycles.{spread, closure, reach, isCycle, contains, cyclesIn}
-use Rattle.forest.specs.Forest.{before, place, inOrder, largest, roots, opposed, children, trees, tree, forest, priority, transientPriority, node, upFrom, chain, childOf, inRoot, nodeMasks, nodeParents, nodePriorities}
-use Rattle.automaton.specs.Automaton.{places, next, holds, kids, isLeaf, leaves, firstLeaf, statesOver, builtStates, deepest, lead, entered, firstLeafBelow, leafAfter, priorityAfter, built, stateAt, number, start, rowTarget, rowPriority, rowTargets, rowPriorities, stateSources, stateLeaves, builtFit}
-use Rattle.decomposition.specs.NodeTables as node-tables
+use Rattle.forest.specs.Forest.{before, place, inOrder, largest, roots, opposed, children, trees, tree, forest, priority, transientPriority, node, upFrom, chain, childOf, inRoot, nodeMasks, nodeParents, nodePriorities, forestFits}
+use Rattle.automaton.specs.Automaton.{next, holds, kids, isLeaf, leaves, firstLeaf, statesOver, builtStates, deepest, lead, entered, firstLeafBelow, leafAfter, priorityAfter, built, stateAt, number, start, rowTarget, rowPriority, rowTargets, rowPriorities, stateSources, stateLeaves, builtFit}
 use Rattle.builder.specs.Tables.{Tables, Hold, countsOf, numberOf as translateNumberOf, sizesFit, lengthsFit, nodesFit, statesFit, filled, cleared, translationOf, tablesAfter}
 use Rattle.builder.proofs.TranslateLaws.{number-of, counts-of}
 use Rattle.running.specs.declared.Run.{Run}
@@ -38,7 +37,7 @@ unfolding has insert edges edgeOf inFamily countsFit legalCounts counted zeroPol
 bytes-give = refl
 
 cases-hold : CasesHold cases
-unfolding has insert inside properly setOf members submasks padded zeros edges edgeOf source targetOf colourOf edgeColours coloursOf inFamily accepting countsFit legalCounts legalEdge legalEdges legalSet legalFamily legalGraph legal counted zeroPolicy spread closure reach isCycle contains before place inOrder largest full cyclesIn roots opposed children trees tree forest priority transientPriority node upFrom chain childOf inRoot nodeMasks nodeParents nodePriorities places next holds kids isLeaf leaves firstLeaf statesOver builtStates deepest lead entered firstLeafBelow leafAfter priorityAfter built stateAt number start rowTarget rowPriority rowTargets rowPriorities stateSources stateLeaves builtFit node-tables.nodesFit sizesFit lengthsFit nodesFit statesFit filled cleared translationOf tablesAfter
+unfolding has insert inside properly setOf members submasks padded zeros edges edgeOf source targetOf colourOf edgeColours coloursOf inFamily accepting countsFit legalCounts legalEdge legalEdges legalSet legalFamily legalGraph legal counted zeroPolicy spread closure reach isCycle contains before place inOrder largest full cyclesIn roots opposed children trees tree forest priority transientPriority node upFrom chain childOf inRoot nodeMasks nodeParents nodePriorities places next holds kids isLeaf leaves firstLeaf statesOver builtStates deepest lead entered firstLeafBelow leafAfter priorityAfter built stateAt number start rowTarget rowPriority rowTargets rowPriorities stateSources stateLeaves builtFit forestFits sizesFit lengthsFit nodesFit statesFit filled cleared translationOf tablesAfter
 cases-hold = (refl, refl, (refl, refl, (refl, refl, (refl, refl, (refl, refl, tt)))))
 
 policy-back : policyOf (recordOf B) ≡ B

@@ -11,13 +11,13 @@ use lib.Arith.{digits-lt}
 use lib.ListN.{length, getD, take, replicate, length-map, length-take, List·getD-map}
 use lib.Seq.{getD-take, take-append-seam}
 use Rattle.lists.proofs.Bools.{both, le-true}
-use Rattle.tables.specs.Tables.{padded}
+use Rattle.tables.specs.Tables.{padded, places}
 use Rattle.tables.proofs.Tables.{getD-padded}
 use Rattle.policy.specs.declared.Policy.{Policy}
 use Rattle.policy.specs.Policies.{legal}
 use Rattle.policy.proofs.Laws.{legal-counts}
 use Rattle.forest.specs.Forest.{forest}
-use Rattle.automaton.specs.Automaton.{Built, built, stateAt, start, places, stateSources, rowTargets, rowPriorities, builtFit}
+use Rattle.automaton.specs.Automaton.{Built, built, stateAt, start, stateSources, rowTargets, rowPriorities, builtFit}
 use Rattle.builder.specs.Tables.{Tables, lengthsFit, nodesFit, statesFit, filled, countsOf, translationOf, tablesAfter, numberOf}
 use Rattle.builder.specs.declared.Translation.the-variants.{Translated, Refused}
 use Rattle.running.specs.declared.Run.{Run}

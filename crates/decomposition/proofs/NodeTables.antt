@@ -11,21 +11,21 @@ use lib.ListN.{length, getD, take, set, length-set}
 use lib.Seq.{sets, take-suc, take-all, length-take-le, getD-take}
 use borrow.Author.Tests.{le-leb, lt-leb}
 use Rattle.lists.proofs.Bools.{test}
-use Rattle.tables.specs.Tables.{padded, zeros}
+use Rattle.tables.specs.Tables.{padded, zeros, places}
 use Rattle.tables.proofs.Tables.{zeros-padded, zeros-same, length-zeros, length-padded, getD-padded, padded-more}
 use Rattle.tables.proofs.Stores.{sets-padded}
 use Rattle.policy.specs.declared.Policy.{Policy}
 use Rattle.policy.specs.Policies.{accepting, legal}
-use Rattle.forest.specs.Forest.{forest, node, priority, nodeMasks, nodeParents, nodePriorities}
+use Rattle.forest.specs.Forest.{forest, node, priority, nodeMasks, nodeParents, nodePriorities, forestFits}
 use Rattle.forest.specs.Laws.{ForestLaws, maskAt, parentAt, rootAt}
 use Rattle.forest.proofs.Children.{root-few, child-fewer, ordered-children, ordered-roots}
 use Rattle.forest.proofs.Priorities.{priority-root, priority-child}
 use Rattle.forest.proofs.Numbered.{Numbered, numbered}
 use Rattle.forest.proofs.Forest.{forest-laws, priority-few}
 use Rattle.forest.proofs.Columns.{length-masks, length-parents, length-node-priorities, masks-at, parents-at, node-priorities-at}
-use Rattle.trees.specs.Growing.{forestFits, ForestWritten}
+use Rattle.trees.specs.Growing.{ForestWritten}
 use Rattle.decomposition.specs.declared.Filled.the-variants.{Nodes, TooMany}
-use Rattle.decomposition.specs.NodeTables.{NodeColumns, nodeTables, nodesFit, fillingOf, refusalOf, countAfter, filledOf, Fills}
+use Rattle.decomposition.specs.NodeTables.{NodeColumns, nodeTables, fillingOf, refusalOf, countAfter, filledOf, Fills}
 
 -- ---- the table t holds the first n entries of the column l
 module _ (l t : List ℕ) where
@@ -152,13 +152,13 @@ module _ {p : Policy} (m₀ q₀ r₀ : List ℕ) {m₁ q₁ r₁ m q : List ℕ
     all-nodes = omega (arith, g .count-is)
 
     grown-masks : m ≡ padded (length m₀) (nodeMasks p)
-    unfolding forestFits
+    unfolding forestFits places
     grown-masks =
         g .masks-are ∙ ap (λ (b : Bool). cond b (sets m₁ 0 (nodeMasks p)) (zeros m₁)) (le-leb (length (forest p)) (min (length m₁) 65535) fits)
         ∙ sets-padded m₁ (nodeMasks p) (clear m₀ m₁ (z .0)) (omega (arith, fits, length-masks p)) ∙ ap (λ (k : ℕ). padded k (nodeMasks p)) long-masks
 
     grown-parents : q ≡ padded (length q₀) (nodeParents p)
-    unfolding forestFits
+    unfolding forestFits places
     grown-parents =
         g .parents-are ∙ ap (λ (b : Bool). cond b (sets q₁ 0 (nodeParents p)) (zeros q₁)) (le-leb (length (forest p)) (min (length m₁) 65535) fits)
         ∙ sets-padded q₁ (nodeParents p) (clear q₀ q₁ (z .1)) (omega (arith, fits, length-parents p, long-masks, long-parents)) ∙ ap (λ (k : ℕ). padded k (nodeParents p)) long-parents
@@ -182,7 +182,7 @@ module _ {p : Policy} (m₀ q₀ r₀ : List ℕ) {m₁ q₁ r₁ m q : List ℕ
     grown-room = (omega (arith, long-masks, ap length (z .2), length-zeros r₀), clear r₀ r₁ (z .2))
 
     pub filled-whole : {r : List ℕ} → r ≡ padded (length r₁) (nodePriorities p) → Fills p (nodeTables m₀ q₀ r₀) (Nodes n) (nodeTables m q r)
-    unfolding fillingOf refusalOf countAfter filledOf nodesFit
+    unfolding fillingOf refusalOf countAfter filledOf forestFits places
     filled-whole {r} er =
         let b = le-leb (length (forest p)) (min (length m₀) 65535) (omega (arith, fits, long-masks)) in
         let e = er ∙ ap (λ (k : ℕ). padded k (nodePriorities p)) (ap length (z .2) ∙ length-zeros r₀) in
@@ -190,7 +190,7 @@ module _ {p : Policy} (m₀ q₀ r₀ : List ℕ) {m₁ q₁ r₁ m q : List ℕ
 
   -- there are more nodes than places
   pub filled-none : min (length m₁) 65535 < n → Fills p (nodeTables m₀ q₀ r₀) TooMany (nodeTables m q r₁)
-  unfolding fillingOf refusalOf countAfter filledOf nodesFit forestFits
+  unfolding fillingOf refusalOf countAfter filledOf forestFits places
   filled-none h =
       let many : min (length m₁) 65535 < length (forest p) = omega (arith, g .count-is) in
       let b = lt-leb (length (forest p)) (min (length m₀) 65535) (omega (arith, many, long-masks)) in

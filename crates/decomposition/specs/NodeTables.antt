@@ -1,14 +1,13 @@
 -- The node tables (document 01, "Cycles and the forest"): what filling them answers, and what each place holds at exit.
-use Prim.Native.Nat.{ℕ, _≤_, min}
+use Prim.Native.Nat.{ℕ, _≤_}
 use mathlib.Core.Path.{_≡_}
-use mathlib.Core.Bool.{Bool, cond}
+use mathlib.Core.Bool.{cond}
 use mathlib.Core.List.{List}
-use lib.Dec.{leb}
 use lib.ListN.{length}
 use Rattle.lists.specs.Questions.{ask}
 use Rattle.tables.specs.Tables.{padded, zeros, Column}
 use Rattle.policy.specs.declared.Policy.{Policy}
-use Rattle.forest.specs.Forest.{forest, nodeMasks, nodeParents, nodePriorities}
+use Rattle.forest.specs.Forest.{forest, forestFits, nodeMasks, nodeParents, nodePriorities}
 use Rattle.decomposition.specs.declared.Filled.{Filled}
 use Rattle.decomposition.specs.declared.Filled.the-variants.{Nodes, TooMany}
 
@@ -39,24 +38,20 @@ countOf (Nodes n) = n
 countOf TooMany = 0
 
 module _ (p : Policy) (t : NodeTables) where
-  -- question 9: the nodes fit. Only the first 65,535 places of a table count
-  unfoldable pub nodesFit : Bool
-  nodesFit = leb (length (forest p)) (min (length (t .masks)) 65535)
-
   -- how many nodes there are
   unfoldable pub fillingOf : Filled
-  fillingOf = cond nodesFit (Nodes (length (forest p))) TooMany
+  fillingOf = cond (forestFits p (t .masks)) (Nodes (length (forest p))) TooMany
 
   unfoldable pub refusalOf : ℕ
-  refusalOf = ask nodesFit 9 0
+  refusalOf = ask (forestFits p (t .masks)) 9 0
 
   unfoldable pub countAfter : ℕ
-  countAfter = cond nodesFit (length (forest p)) 0
+  countAfter = cond (forestFits p (t .masks)) (length (forest p)) 0
 
   -- the tables at exit: the columns of the forest where the nodes fit, and otherwise 0 in every place
   unfoldable pub filledOf : NodeTables
   filledOf =
-      cond nodesFit (nodeTables (padded (length (t .masks)) (nodeMasks p)) (padded (length (t .parents)) (nodeParents p)) (padded (length (t .node-priorities)) (nodePriorities p)))
+      cond (forestFits p (t .masks)) (nodeTables (padded (length (t .masks)) (nodeMasks p)) (padded (length (t .parents)) (nodeParents p)) (padded (length (t .node-priorities)) (nodePriorities p)))
       (nodeTables (zeros (t .masks)) (zeros (t .parents)) (zeros (t .node-priorities)))
 
 -- ---- what filling promises: the tables at entry, the answer, the tables at exit

@@ -8,14 +8,14 @@ use mathlib.Core.List.{List, [], _∷_}
 use lib.ListN.{length}
 use lib.Seq.{sets}
 use Rattle.lists.proofs.Bools.{le-true}
-use Rattle.tables.specs.Tables.{padded, zeros, Column}
+use Rattle.tables.specs.Tables.{padded, zeros, Column, places}
 use Rattle.tables.proofs.Tables.{zeros-same, length-zeros}
 use Rattle.tables.proofs.Columns.{column-padded, column-sets}
 use Rattle.policy.specs.declared.Policy.{Policy}
 use Rattle.policy.specs.Policies.{legal}
 use Rattle.policy.proofs.Laws.{legal-counts}
 use Rattle.forest.specs.Forest.{forest}
-use Rattle.automaton.specs.Automaton.{built, start, places, rowTargets, rowPriorities, stateLeaves, builtFit}
+use Rattle.automaton.specs.Automaton.{built, start, rowTargets, rowPriorities, stateLeaves, builtFit}
 use Rattle.automaton.specs.Stages.{nodeEnds, stateStarts, Nodes}
 use Rattle.automaton.proofs.Columns.{length-ends, length-leaves, length-starts}
 use Rattle.states.specs.StateTables.{StatesFilled}

@@ -3,10 +3,11 @@ use Prim.Native.Nat.{ℕ, zero, suc, _+_, _%_}
 use mathlib.Core.Bool.{Bool, false, not, _&&_, cond}
 use mathlib.Core.List.{List, [], _∷_, _++_, map}
 use lib.Count.{ones}
-use lib.Dec.{eqb, ltb}
+use lib.Dec.{eqb, ltb, leb}
 use lib.ListN.{length, getD}
 use Rattle.lists.specs.Lists.{any, filter}
 use Rattle.lists.specs.Bools.{differs}
+use Rattle.tables.specs.Tables.{places}
 use Rattle.masks.specs.Masks.{has, properly}
 use Rattle.policy.specs.declared.Policy.{Policy}
 use Rattle.policy.specs.Policies.{edges, coloursOf, accepting, full}
@@ -125,3 +126,7 @@ module _ (p : Policy) where
 
   unfoldable pub nodePriorities : List ℕ
   nodePriorities = map (priority p) (forest p)
+
+  -- question 9, from a node table: the nodes fit its places
+  unfoldable pub forestFits : List ℕ → Bool
+  forestFits masks = leb (length (forest p)) (places masks)

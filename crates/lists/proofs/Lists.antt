@@ -84,6 +84,11 @@ below-lt (suc n) x m = go (below-lt n x) (List·Memᴰ·append-cases (below n) m
     go ih (inl k) = omega (arith, ih k)
     go ih (inr k) = omega (arith, List·Memᴰ·eq-of-singleton k)
 
+-- functions that agree on the members
+pub map-same : {A B : Type 0} (f g : A → B) (l : List A) → ((x : A) → List·Memᴰ x l → f x ≡ g x) → map f l ≡ map g l
+map-same f g [] h = refl
+map-same f g (x ∷ l) h = ap₂ _∷_ (h x (List·Memᴰ·head refl)) (map-same f g l (λ y m. h y (List·Memᴰ·tail m)))
+
 -- ---- places of a list
 module _ {A : Type 0} where
   pub getD-mem : (l : List A) (i : ℕ) (d : A) → i < length l → List·Memᴰ (getD l i d) l

@@ -17,7 +17,7 @@ use Rattle.lists.proofs.Bools.{le-true, and-l}
 use Rattle.lists.proofs.Lists.{below-lt, flat-mem, map-mem}
 use Rattle.lists.proofs.Filters.{filter-append, filter-all, filter-none}
 use Rattle.lists.proofs.Numbers.{leb-min}
-use Rattle.tables.specs.Tables.{zeros, Stored}
+use Rattle.tables.specs.Tables.{zeros, Stored, places}
 use Rattle.tables.proofs.Tables.{zeros-same}
 use Rattle.tables.proofs.Stores.{stored-none, stored-length, stored-join, stored-one, stored-more, sets-padded}
 use Rattle.policy.specs.declared.Policy.{Policy}
@@ -25,7 +25,7 @@ use Rattle.policy.specs.Policies.{legal}
 use Rattle.policy.proofs.Laws.{legal-counts}
 use Rattle.forest.specs.Forest.{forest}
 use Rattle.forest.proofs.Forest.{forest-laws}
-use Rattle.automaton.specs.Automaton.{Built, orElse, isLeaf, leaves, statesOver, builtStates, built, start, places, stateSources, stateLeaves, builtFit}
+use Rattle.automaton.specs.Automaton.{Built, orElse, isLeaf, leaves, statesOver, builtStates, built, start, stateSources, stateLeaves, builtFit}
 use Rattle.automaton.specs.Stages.{firstOver, stateStarts}
 use Rattle.automaton.proofs.Columns.{length-sources, length-leaves, length-starts}
 use Rattle.automaton.proofs.Starts.{over-le, first-number}

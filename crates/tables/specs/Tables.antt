@@ -1,5 +1,5 @@
--- What a table holds: a list at its beginning, 0 in every place past it, what a run of stores leaves, or what is left free.
-use Prim.Native.Nat.{ℕ, _+_, _-_, _≤_, _<_}
+-- What a table holds: a list at its beginning, 0 in every place past it, what a run of stores leaves, or what is left free; and how many of its places count.
+use Prim.Native.Nat.{ℕ, _+_, _-_, _≤_, _<_, min}
 use mathlib.Core.Path.{_≡_}
 use mathlib.Core.List.{List, _++_}
 use lib.ListN.{length, getD, replicate}
@@ -12,6 +12,10 @@ padded n l = l ++ replicate (n - length l) 0
 -- 0 in every place
 unfoldable pub zeros : List ℕ → List ℕ
 zeros t = replicate (length t) 0
+
+-- how many places of a table count: only the first 65,535
+unfoldable pub places : List ℕ → ℕ
+places t = min (length t) 65535
 
 -- a table that begins with the list l
 pub record Column (l t : List ℕ) : Type 0 where

@@ -12,18 +12,18 @@ use lib.Seq.{sets, take-all}
 use borrow.Author.Tests.{le-leb, lt-leb}
 use Rattle.lists.specs.Lists.{Distinct}
 use Rattle.lists.proofs.Lists.{getD-mem}
-use Rattle.tables.specs.Tables.{zeros}
+use Rattle.tables.specs.Tables.{zeros, places}
 use Rattle.tables.proofs.Tables.{zeros-same}
 use Rattle.policy.specs.declared.Policy.{Policy}
 use Rattle.policy.specs.Policies.{accepting, legal}
 use Rattle.graph.proofs.Cycles.{cycle-some}
-use Rattle.forest.specs.Forest.{forest, inOrder, mostLevels, roots}
+use Rattle.forest.specs.Forest.{forest, inOrder, mostLevels, roots, forestFits}
 use Rattle.candidates.specs.Candidates.{rootCandidates}
 use Rattle.siblings.specs.NextRoot.{nextIn}
 use Rattle.siblings.proofs.NextRoot.{next-first, next-at}
 use Rattle.candidates.specs.Listed.{Candidates}
 use Rattle.forest.specs.Subtrees.{treeSize, rowMasks, rowParents}
-use Rattle.trees.specs.Growing.{TreeToWrite, TreeWritten, Scratch, forestFits, ForestWritten}
+use Rattle.trees.specs.Growing.{TreeToWrite, TreeWritten, Scratch, ForestWritten}
 use Rattle.forest.proofs.Levels.{levels-most}
 use Rattle.forest.proofs.Children.{root-cycle, root-few, ordered-roots}
 use Rattle.candidates.proofs.Candidates.{root-candidate, roots-are, root-candidates-cycle, root-candidates-distinct}
@@ -100,7 +100,7 @@ module _ {p : Policy} {a r : List ℕ} (g : Candidates p a r) {rs : List ℕ} (e
       -- one tree too many: the tables, as long as they were, are cleared
       pub roots-over : places ≡ min (length masks₀) 65535 → places < next′ → (masks₁ parents₁ : List ℕ) {masks₂ parents₂ : List ℕ} → length masks₁ ≡ length masks₀ → length parents₁ ≡ length parents₀ → masks₂ ≡ zeros masks₁ → parents₂ ≡ zeros parents₁
           → ForestWritten p masks₀ parents₀ masks₂ parents₂ next′
-      unfolding forestFits
+      unfolding forestFits places
       roots-over e l masks₁ parents₁ lm lp em ep =
           let o = row-over (v .row) (root-below z) root-is w l in
           let many : min (length masks₀) 65535 < length (forest p) = omega (arith, o .1, ap length (forest-masks p), length-masks p) in
@@ -112,7 +112,7 @@ module _ {p : Policy} {a r : List ℕ} (g : Candidates p a r) {rs : List ℕ} (e
 
     -- there are no more
     pub roots-all : places ≡ min (length masks₀) 65535 → m ≡ 0 → ForestWritten p masks₀ parents₀ masks parents next
-    unfolding forestFits
+    unfolding forestFits places
     roots-all e z =
         let all : take (v .count) (roots p) ≡ roots p = take-all (v .count) (roots p) none-left in
         let many : next ≡ length (forest p) = omega (arith, v .row .next-is, ap (λ (l : List ℕ). length (rowMasks p l)) all, ap length (forest-masks p), length-masks p) in

@@ -5,14 +5,13 @@ use mathlib.Core.Path.{_≡_}
 use mathlib.Core.Logic.{_≢_}
 use mathlib.Core.Bool.{Bool, cond}
 use mathlib.Core.List.{List, _++_, List·Memᴰ}
-use lib.Dec.{leb}
 use lib.ListN.{length, getD}
 use lib.Seq.{sets}
 use Rattle.tables.specs.Tables.{zeros}
 use Rattle.tables.specs.Copies.{part}
 use Rattle.policy.specs.declared.Policy.{Policy}
 use Rattle.policy.specs.Policies.{accepting}
-use Rattle.forest.specs.Forest.{forest, mostLevels, levelsLeft, nodeMasks, nodeParents}
+use Rattle.forest.specs.Forest.{forest, forestFits, mostLevels, levelsLeft, nodeMasks, nodeParents}
 use Rattle.forest.specs.Subtrees.{treeMasks, treeParents, treeSize}
 use Rattle.candidates.specs.Candidates.{candidates}
 use Rattle.candidates.specs.Listed.{Candidates}
@@ -69,10 +68,6 @@ Kept a b t₀ t = (j : ℕ) → a ≤ j → j < b → getD t j 0 ≡ getD t₀ j
 pub record Scratch (p : Policy) (n : ℕ) (scratch : List ℕ) : Type 0 where
   pub long : 2 * n + mostLevels p * n ≤ length scratch
   pub none : (i : ℕ) → getD scratch i 0 ≡ 0
-
--- the nodes fit. Only the first 65,535 places of a table count
-unfoldable pub forestFits : Policy → List ℕ → Bool
-forestFits p masks = leb (length (forest p)) (min (length masks) 65535)
 
 -- how many nodes there are, or one more than fit; the tables at exit, from masks₀ and parents₀: the columns of the forest where the nodes fit, and otherwise 0 in every place
 pub record ForestWritten (p : Policy) (masks₀ parents₀ masks parents : List ℕ) (count : ℕ) : Type 0 where

@@ -176,7 +176,7 @@ cast-t63 c =
     let m = made q in
     let s = start m in
     let f = nodes-fits (m .from-parts .result) (s .args .masks .now) (s .args .parents .now) (s .args .node-priorities .now) (n .fill-nodes .ensures .answer-is) (counted b .nodes .given .1) in
-    omega (arith, f .1, nodes-few (m .from-parts .result) (s .args .masks .now) (s .args .parents .now) (s .args .node-priorities .now) (f .0))
+    omega (arith, f .1, nodes-few (m .from-parts .result) (s .args .masks .now) (f .0))
 
 cast-t64 : tie.Need-cast-t64
 cast-t64 c =
