@@ -5,5 +5,6 @@ pub mod EdgeRuns
 pub mod Ends
 pub mod Leaves
 pub mod Next
+pub mod RowPriorities
 pub mod Starts
 pub mod Tables

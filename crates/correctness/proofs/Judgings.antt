@@ -4,7 +4,7 @@ use Prim.Native.Nat.{ℕ, _≤_, _<_}
 use native.Mathlib.Omega.{arith}
 use mathlib.Core.Path.{_≡_, refl, sym, ap, _∙_, subst}
 use mathlib.Core.Logic.{_⊎_, inl, inr, _≢_, _↔_}
-use mathlib.Core.Bool.{Bool, true, false, cond, true≢false, false≢true}
+use mathlib.Core.Bool.{true, false, true≢false, false≢true}
 use mathlib.Core.List.{List, [], _∷_, _++_, List·Memᴰ, List·Memᴰ·head, List·Memᴰ·tail, nil≢cons}
 use lib.Dec.{ltb}
 use lib.ListN.{length, take}
@@ -18,10 +18,9 @@ use Rattle.recurrence.proofs.Runs.{numbered-recurring}
 use Rattle.recurrence.proofs.Repeats.{iter-keeps}
 use Rattle.policy.specs.declared.Policy.{Policy}
 use Rattle.policy.specs.Policies.{legal, inFamily}
-use Rattle.forest.specs.Forest.{forest, node, priority, transientPriority, inRoot, even}
-use Rattle.forest.proofs.Priorities.{transient-few}
-use Rattle.forest.proofs.Forest.{priority-few}
-use Rattle.automaton.specs.Automaton.{deepest, priorityAfter, built, stateAt}
+use Rattle.forest.specs.Forest.{forest, even}
+use Rattle.automaton.specs.Automaton.{built, stateAt}
+use Rattle.automaton.proofs.RowPriorities.{priority-after-few}
 use Rattle.automaton.proofs.EdgeRuns.{metRun}
 use Rattle.running.specs.declared.Run.{Run}
 use Rattle.running.specs.declared.Reading.{Reading}
@@ -55,17 +54,9 @@ met-no-dangling (NotRead n r) k ks e = absurd (nil≢cons e)
 
 module _ (p : Policy) (ok : legal p ≡ true) where
   -- ---- a priority that is met is at most 9
-  after-few : (e l : ℕ) → priorityAfter (forest p) p e l ≤ 9
-  unfolding priorityAfter
-  after-few e l = go (inRoot (forest p) e)
-    where
-      go : (b : Bool) → cond b (priority p (node (forest p) (deepest (forest p) e l))) (transientPriority p) ≤ 9
-      go true = priority-few p ok (deepest (forest p) e l)
-      go false = transient-few p
-
   met-few : (es : List ℕ) (l k : ℕ) → List·Memᴰ k (metRun (forest p) p es l) → k ≤ 9
   unfolding metRun
-  met-few (e ∷ es) l k (List·Memᴰ·head q) = subst (λ (x : ℕ). x ≤ 9) (sym q) (after-few e l)
+  met-few (e ∷ es) l k (List·Memᴰ·head q) = subst (λ (x : ℕ). x ≤ 9) (sym q) (priority-after-few p ok e l)
   met-few (e ∷ es) l k (List·Memᴰ·tail m) = met-few es _ k m
 
   module _ (targets priorities : List ℕ) (rows : Rows p targets priorities) where

@@ -5,11 +5,12 @@ use mathlib.Core.Bool.{true, _&&_}
 use mathlib.Core.List.{List, [], _∷_, List·Memᴰ}
 use lib.Dec.{eqb}
 use Rattle.lists.specs.Lists.{below}
-use Rattle.lists.proofs.Bools.{and-l, and-r, both, eqb≡, ≡eqb}
+use Rattle.lists.proofs.Bools.{and-l, and-r, both, eqb≡, ≡eqb, bool-ext}
 use Rattle.lists.proofs.Lists.{all-each, each-all, mem-below, below-lt}
 use Rattle.policy.specs.declared.Policy.{Policy}
 use Rattle.policy.specs.Policies.{edges, source, targetOf}
-use Rattle.graph.specs.Cycles.{Path, Cycle}
+use Rattle.graph.specs.Cycles.{Path, Cycle, isCycle}
+use Rattle.graph.proofs.Cycles.{Targets, cycle-sound, cycle-complete}
 use Rattle.graph.specs.SameGraph.{sameTarget, sameTargets, sameGraph}
 
 module _ (p q : Policy) where
@@ -72,3 +73,15 @@ same-graph-turned p q h =
     ∙ both (eqb (q .states) (p .states) && eqb (q .letters) (p .letters)) (sameTargets q p)
     (both (eqb (q .states) (p .states)) _ (≡eqb (q .states) (p .states) (sym (same-states p q h))) (≡eqb (q .letters) (p .letters) (sym (same-letters p q h))))
     (each-all (sameTarget q p) (below (edges q)) (λ e k. ≡eqb (targetOf q e) (targetOf p e) (sym (same-target p q h e (subst (λ (n : ℕ). e < n) (sym (same-edges p q h)) (below-lt (edges q) e k))))))
+
+-- the two have the same cycles
+pub same-cycles : (p q : Policy) → Targets p → sameGraph p q ≡ true → (m : ℕ) → isCycle p m ≡ isCycle q m
+same-cycles p q targets s m =
+    bool-ext (isCycle p m) (isCycle q m)
+    (λ t. cycle-complete q others m (same-cycle p q s m (cycle-sound p m t)))
+    (λ t. cycle-complete p targets m (same-cycle q p (same-graph-turned p q s) m (cycle-sound q m t)))
+  where
+    others : Targets q
+    others e l =
+        let k : e < edges p = subst (λ (n : ℕ). e < n) (sym (same-edges p q s)) l in
+        subst (λ (n : ℕ). targetOf q e < n) (same-states p q s) (subst (λ (x : ℕ). x < p .states) (same-target p q s e k) (targets e k))

@@ -70,6 +70,10 @@ module _ (p : Policy) where
   unfolding legalGraph
   graph-parts h = (and-l (legalCounts p) (legalEdges p) h, and-r (legalCounts p) (legalEdges p) h)
 
+  pub legal-parts : legal p ≡ true → (legalCounts p ≡ true) × (legalEdges p ≡ true) × (legalFamily p ≡ true)
+  unfolding legal
+  legal-parts h = let g = graph-parts (legal-graph h) in (g .0, g .1, and-r (legalGraph p) (legalFamily p) h)
+
   pub parts-legal : legalCounts p ≡ true → legalEdges p ≡ true → legalFamily p ≡ true → legal p ≡ true
   unfolding legal legalGraph
   parts-legal c e f = both (legalCounts p && legalEdges p) (legalFamily p) (both (legalCounts p) (legalEdges p) c e) f
