@@ -1,0 +1,3 @@
+pub mod Laws
+pub mod Visits
+pub mod Sweeping
