@@ -170,7 +170,7 @@ module _ (owners sources targets priorities : List ℕ) (letters states : ℕ) (
         go (inl q) = both (ltb s states) (waiting k (getD m₀ s 0)) (lt-ltb s states h) (ap (waiting k) (sym q) ∙ e)
         go (inr q) = q .0
 
-    waits-out : (s : ℕ) → waiting k (getD m s 0) ≡ true → now-in s ≡ false
+    pub waits-out : (s : ℕ) → waiting k (getD m s 0) ≡ true → now-in s ≡ false
     waits-out s e = and-right-false (from s) (eqb (getD m s 0) (k .to)) (neqb (getD m s 0) (k .to) (waiting-not (getD m s 0) e))
 
     -- ---- one state more

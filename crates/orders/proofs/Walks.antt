@@ -51,17 +51,23 @@ gathered a b n m o o′ w i le x = record {
 
 -- ---- painting
 pub painted-none : (b : ℕ) (o m : List ℕ) → Painted b 0 o m m
-painted-none b o m = record { long = refl; on = λ i h. absurd (omega arith); off = λ s h. refl }
+painted-none b o m = record { long = refl; each = λ s. inr refl; on = λ i h. absurd (omega arith); off = λ s h. refl }
 
 pub painted-more : (b n : ℕ) (o m m′ : List ℕ) (s : ℕ) → s ≡ getD o n 0 → s < length m → Painted b n o m m′ → Painted b (n + 1) o m (set m′ s b)
 painted-more b n o m m′ s at lt x = record {
   long = length-set m′ s b ∙ x .long;
+  each = λ t. each t (ℕ-discrete t s) (x .each t);
   on = λ i h. on i h (ℕ-discrete (getD o i 0) s) (ℕ-discrete i n);
   off = λ t h. getD-set-other m′ s t b 0 (λ e. h (n, omega arith, sym (e ∙ at))) ∙ x .off t (λ q. h (q .0, omega (arith, q .1), q .2));
 }
   where
     here : getD (set m′ s b) s 0 ≡ b
     here = getD-set-same m′ s b 0 (omega (arith, x .long))
+
+    each : (t : ℕ) → Dec (t ≡ s) → (getD m′ t 0 ≡ b) ⊎ (getD m′ t 0 ≡ getD m t 0) → (getD (set m′ s b) t 0 ≡ b) ⊎ (getD (set m′ s b) t 0 ≡ getD m t 0)
+    each t (yes e) y = inl (ap (λ (z : ℕ). getD (set m′ s b) z 0) e ∙ here)
+    each t (no e) (inl y) = inl (getD-set-other m′ s t b 0 e ∙ y)
+    each t (no e) (inr y) = inr (getD-set-other m′ s t b 0 e ∙ y)
 
     on : (i : ℕ) → i < n + 1 → Dec (getD o i 0 ≡ s) → Dec (i ≡ n) → getD (set m′ s b) (getD o i 0) 0 ≡ b
     on i h (yes e) d = ap (λ (z : ℕ). getD (set m′ s b) z 0) e ∙ here

@@ -1,7 +1,7 @@
 -- Sets of states as a part of a list of their numbers: the first n places list a set, in any order.
 use Prim.Native.Nat.{ℕ, _+_, _≤_, _<_}
 use mathlib.Core.Path.{_≡_}
-use mathlib.Core.Logic.{_≢_}
+use mathlib.Core.Logic.{_⊎_, _≢_}
 use mathlib.Core.Bool.{Bool, true, false, _||_}
 use mathlib.Core.List.{List}
 use lib.Dec.{eqb}
@@ -51,6 +51,7 @@ pub record Gathered (a b n : ℕ) (m o : List ℕ) (r : ℕ) (o′ : List ℕ) :
 -- the mark of each of the first n states is b
 pub record Painted (b n : ℕ) (o m m′ : List ℕ) : Type 0 where
   pub long : length m′ ≡ length m
+  pub each : (s : ℕ) → (getD m′ s 0 ≡ b) ⊎ (getD m′ s 0 ≡ getD m s 0)
   pub on : (i : ℕ) → i < n → getD m′ (getD o i 0) 0 ≡ b
   pub off : (s : ℕ) → (Among o n s → ⊥) → getD m′ s 0 ≡ getD m s 0
 

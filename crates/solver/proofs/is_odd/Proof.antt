@@ -1,0 +1,15 @@
+use Rattle.games.specs.Games.{serves}
+use native.Mathlib.Omega.{arith}
+use borrow.Author.Needs.{needs}
+use Rattle.solver.proofs.is_odd.Statement.{statement}
+use Rattle.solver.proofs.is_odd.Tie as tie
+use Rattle.solver.proofs.is_odd.Reads as reads
+use Rattle.solver.proofs.is_odd.Lts as lts
+
+-- src/lib.rt:24:1
+returns : tie.Need-returns
+unfolding serves
+returns c = search needs
+
+pub is-odd-spec : {M : Type 1} → statement M
+is-odd-spec = tie.close (tie.spec returns)
