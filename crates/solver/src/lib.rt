@@ -1,248 +1,197 @@
-// The winners of the game of row tables, and letters that win: Zielonka's recursion over the priorities, in place. The table of winners holds marks on the way,
-// and an order of the states has those of the arena in front. A game is four tables, and its states are walked by the order, the marks and the letters, so a
-// function that hands on all of them has nine parameters or more.
-use attracting::Task;
-use holding::Hold;
+// The game of row tables, solved: the winner of each state, and letters that win. Scratch for the order of the states comes in three sizes. A call that calls
+// itself keeps the longest table out of its own frame, so that few states take little space.
+// A game is four tables, and the answer is two, so the functions have eight parameters.
+use recursion::Level;
 ghost use mathlib.Core.Path.{_≡_};
-ghost use mathlib.Core.Logic.{_≢_};
+ghost use mathlib.Core.Bool.{cond};
 ghost use Prim.Native.Nat.{ℕ, _+_, _*_, _≤_, _<_};
 ghost use lib.ListN.{length, getD};
-ghost use Rattle.games.specs.Games.{serves};
-ghost use Rattle.games.proofs.Regions.{Arena};
-ghost use Rattle.orders.specs.Orders.{Lists, Rearranged};
-ghost use Rattle.attracting.specs.Attracting.{Rows, tableGame, fromOf};
-ghost use Rattle.levels.specs.Levels.{wonMark, live, Headed, rowsTask, lostTask, holdOf, heldTask, SolvedAt, Turning, Loses, Holds, Turns};
+ghost use Rattle.attracting.specs.Attracting.{Rows};
 ghost use Rattle.solver.specs.Answers.{Fills, Finished, Answers};
 
-// A level of the recursion, in a game with so many letters.
-pub struct Level {
-    pub letters: usize,
-    pub at: u8,
-}
-
-// Whether a priority serves the plant.
-fn is_odd(priority: u8) -> bool
-    ensures { λ r. ⌜ r ≡ serves priority ⌝ }
+// Every state live.
+fn fill(states: usize, marks: &mut [u8])
+    requires { ⌜ states ≤ length (now marks) ⌝ }
+    ensures { λ _. ⌜ Fills states (now (marks .entry)) (now (marks .exit)) ⌝ }
 {
-    priority % 2 == 1
-}
-
-// The mark of the states that a player has won at a level.
-fn won_mark(level: u8, plant: bool) -> u8
-    requires { ⌜ level ≤ 33 ⌝ }
-    ensures { λ r. ⌜ r ≡ wonMark level plant ⌝ }
-{
-    if plant {
-        return 4 * level + 2;
-    }
-    4 * level + 1
-}
-
-fn rows_task(l: Level) -> Task
-    requires { ⌜ l .at ≤ 32 ⌝ }
-    ensures { λ r. ⌜ r ≡ rowsTask (l .letters) (l .at) ⌝ }
-{
-    Task {
-        letters: l.letters,
-        level: l.at,
-        plant: is_odd(l.at),
-        live: 255,
-        also: 255,
-        to: 4 * l.at + 3,
-        rows: true,
+    let mut s = 0;
+    while s < states {
+        marks[s] = 255;
+        s = s + 1;
     }
 }
 
-fn lost_task(l: Level) -> Task
-    requires { ⌜ l .at ≤ 32 ⌝ }
-    ensures { λ r. ⌜ r ≡ lostTask (l .letters) (l .at) ⌝ }
+// A letter, or 255 where the owner does not win.
+fn letter_or(own: bool, letter: u8) -> u8
+    ensures { λ r. ⌜ r ≡ cond own letter 255 ⌝ }
 {
-    let plant = is_odd(l.at);
-    Task {
-        letters: l.letters,
-        level: l.at,
-        plant: !plant,
-        live: 4 * l.at + 3,
-        also: won_mark(l.at + 1, plant),
-        to: won_mark(l.at + 1, !plant),
-        rows: false,
+    if own {
+        return letter;
+    }
+    255
+}
+
+// The marks of level 0 as winners, and 255 for the letters that are not wanted.
+fn finish(owners: &[u8], sources: &[u8], marks: &mut [u8], choices: &mut [u8])
+    requires sources { ⌜ ((s : ℕ) → s < length (now sources) → getD (now sources) s 0 < length (now owners)) ⌝ }
+    requires { ⌜ (length (now sources) ≤ length (now marks)) × (length (now sources) ≤ length (now choices)) × ((s : ℕ) → s < length (now sources) → 1 ≤ getD (now marks) s 0) ⌝ }
+    ensures { λ _. ⌜ Finished (now (owners .entry)) (now (sources .entry)) (length (now (sources .entry))) (now (marks .entry)) (now (choices .entry)) (now (marks .exit)) (now (choices .exit)) ⌝ }
+{
+    let states = sources.len();
+    let mut s = 0;
+    while s < states {
+        let winner = marks[s] - 1;
+        let own = attracting::owns_state(winner == 1, owners, sources, s);
+        let letter = letter_or(own, choices[s]);
+        choices[s] = letter;
+        marks[s] = winner;
+        s = s + 1;
     }
 }
 
-fn held_task(l: Level) -> Task
-    requires { ⌜ l .at ≤ 32 ⌝ }
-    ensures { λ r. ⌜ r ≡ heldTask (l .letters) (l .at) ⌝ }
-{
-    Task {
-        letters: l.letters,
-        level: l.at,
-        plant: is_odd(l.at),
-        live: 255,
-        also: 255,
-        to: 4 * l.at + 3,
-        rows: false,
-    }
-}
-
-fn hold_of(l: Level) -> Hold
-    requires { ⌜ l .at ≤ 32 ⌝ }
-    ensures { λ r. ⌜ r ≡ holdOf (l .letters) (l .at) ⌝ }
-{
-    Hold {
-        letters: l.letters,
-        level: l.at,
-        plant: is_odd(l.at),
-        held: 4 * l.at + 3,
-    }
-}
-
-// The other player takes what it has won above the level, and attracts to that. Of the first n states, the arena, the first `kept` are not its own yet: how many
-// are left.
-fn lose(
-    l: Level,
+// The whole game, with an order that has a place for each state.
+fn solve_all(
+    letters: usize,
     owners: &[u8],
     sources: &[u8],
     targets: &[u16],
     priorities: &[u8],
-    n: usize,
-    kept: usize,
     order: &mut [u16],
-    marks: &mut [u8],
+    winners: &mut [u8],
     choices: &mut [u8],
-) -> usize
-    requires rows { ⌜ Rows (now owners) (now sources) (now targets) (now priorities) (l .letters) (length (now sources)) ⌝ }
-    requires small { ⌜ l .at ≤ 32 ⌝ }
-    requires long { ⌜ (length (now sources) ≤ length (now marks)) × (length (now sources) ≤ length (now choices)) ⌝ }
-    requires arena { ⌜ (kept ≤ n) × (n ≤ length (now order)) × ((i : ℕ) → i < n → getD (now order) i 0 < length (now sources)) ⌝ }
-    requires { ⌜ Lists (fromOf (now owners) (now sources) (now targets) (now priorities) (l .letters) (length (now sources)) (lostTask (l .letters) (l .at)) (now marks)) kept (now order) ⌝ }
-    ensures { λ r. ⌜ Loses (now (owners .entry)) (now (sources .entry)) (now (targets .entry)) (now (priorities .entry)) (l .letters) (length (now (sources .entry))) (l .at) n kept (now (order .entry)) (now (marks .entry)) (now (choices .entry)) r (now (order .exit)) (now (marks .exit)) (now (choices .exit)) ⌝ }
+)
+    requires rows { ⌜ Rows (now owners) (now sources) (now targets) (now priorities) letters (length (now sources)) ⌝ }
+    requires levels { ⌜ (0 < letters) × ((s a : ℕ) → s < length (now sources) → a < letters → getD (now priorities) (s * letters + a) 0 < 10) ⌝ }
+    requires long { ⌜ (length (now sources) ≤ length (now winners)) × (length (now sources) ≤ length (now choices)) ⌝ }
+    requires { ⌜ length (now sources) ≤ length (now order) ⌝ }
+    ensures { λ _. ⌜ Answers (now (owners .entry)) (now (sources .entry)) (now (targets .entry)) (now (priorities .entry)) letters (length (now (sources .entry))) (now (winners .entry)) (now (choices .entry)) (now (winners .exit)) (now (choices .exit)) ⌝ }
 {
-    let k = lost_task(l);
-    let rest = attracting::attract(
-        k, owners, sources, targets, priorities, kept, order, marks, choices,
-    );
-    let theirs = won_mark(l.at, k.plant);
-    orders::paint(theirs, n, order, marks);
-    orders::paint(k.live, rest, order, marks);
-    rest
-}
-
-// What the player whom the level serves still holds of the first `rest` states, and attracts to that, is its own: how many remain.
-fn hold(
-    l: Level,
-    owners: &[u8],
-    sources: &[u8],
-    targets: &[u16],
-    priorities: &[u8],
-    rest: usize,
-    order: &mut [u16],
-    marks: &mut [u8],
-    choices: &mut [u8],
-) -> usize
-    requires rows { ⌜ Rows (now owners) (now sources) (now targets) (now priorities) (l .letters) (length (now sources)) ⌝ }
-    requires small { ⌜ l .at ≤ 32 ⌝ }
-    requires long { ⌜ (length (now sources) ≤ length (now marks)) × (length (now sources) ≤ length (now choices)) ⌝ }
-    requires arena { ⌜ (rest ≤ length (now order)) × ((i : ℕ) → i < rest → getD (now order) i 0 < length (now sources)) ⌝ }
-    requires { ⌜ ((s : ℕ) → s < length (now sources) → getD (now marks) s 0 ≢ 255) ⌝ }
-    ensures { λ r. ⌜ Holds (now (owners .entry)) (now (sources .entry)) (now (targets .entry)) (now (priorities .entry)) (l .letters) (length (now (sources .entry))) (l .at) rest (now (order .entry)) (now (marks .entry)) (now (choices .entry)) r (now (order .exit)) (now (marks .exit)) (now (choices .exit)) ⌝ }
-{
-    let freed = holding::release(
-        hold_of(l),
+    let states = sources.len();
+    fill(states, winners);
+    orders::number(states, order);
+    let l = Level { letters, at: 0 };
+    recursion::solve(
+        l,
         owners,
         sources,
         targets,
         priorities,
-        rest,
+        states,
         order,
-        marks,
+        winners,
         choices,
     );
-    let k = held_task(l);
-    let again = attracting::attract(
-        k, owners, sources, targets, priorities, freed, order, marks, choices,
-    );
-    let own = won_mark(l.at, k.plant);
-    orders::paint(own, rest, order, marks);
-    orders::paint(255, again, order, marks);
-    again
+    finish(owners, sources, winners, choices);
 }
 
-// A turn, after what is left of the first n states, the arena, was solved one level up: how many are live again. Where the other player has won nothing there,
-// all is the player's whom the level serves.
-fn turn(
-    l: Level,
+// The same with the order that is lent, where it has a place for each state, and otherwise with a longer one.
+fn solve_within(
+    letters: usize,
     owners: &[u8],
     sources: &[u8],
     targets: &[u16],
     priorities: &[u8],
-    n: usize,
     order: &mut [u16],
-    marks: &mut [u8],
-    choices: &mut [u8],
-) -> usize
-    requires rows { ⌜ Rows (now owners) (now sources) (now targets) (now priorities) (l .letters) (length (now sources)) ⌝ }
-    requires small { ⌜ l .at ≤ 32 ⌝ }
-    requires long { ⌜ (length (now sources) ≤ length (now marks)) × (length (now sources) ≤ length (now choices)) ⌝ }
-    requires { ⌜ Turning (now owners) (now sources) (now targets) (now priorities) (l .letters) (length (now sources)) (l .at) n (now order) (now marks) ⌝ }
-    ensures { λ r. ⌜ Turns (now (owners .entry)) (now (sources .entry)) (now (targets .entry)) (now (priorities .entry)) (l .letters) (length (now (sources .entry))) (l .at) n (now (order .entry)) (now (marks .entry)) (now (choices .entry)) r (now (order .exit)) (now (marks .exit)) (now (choices .exit)) ⌝ }
-{
-    let k = lost_task(l);
-    let kept = orders::gather(k.live, k.also, n, order, marks);
-    if kept == n {
-        let own = won_mark(l.at, !k.plant);
-        orders::paint(own, n, order, marks);
-        return 0;
-    }
-    let rest = lose(
-        l, owners, sources, targets, priorities, n, kept, order, marks, choices,
-    );
-    hold(
-        l, owners, sources, targets, priorities, rest, order, marks, choices,
-    )
-}
-
-// The first n states, which are those that are live, solved on rows of the level and above: each is marked by its winner at this level, and has a letter where its
-// owner wins.
-fn solve(
-    l: Level,
-    owners: &[u8],
-    sources: &[u8],
-    targets: &[u16],
-    priorities: &[u8],
-    n: usize,
-    order: &mut [u16],
-    marks: &mut [u8],
+    winners: &mut [u8],
     choices: &mut [u8],
 )
-    requires rows { ⌜ Rows (now owners) (now sources) (now targets) (now priorities) (l .letters) (length (now sources)) ⌝ }
-    requires levels { ⌜ (l .at ≤ 10) × ((s a : ℕ) → s < length (now sources) → a < l .letters → getD (now priorities) (s * l .letters + a) 0 < 10) ⌝ }
-    requires long { ⌜ (length (now sources) ≤ length (now marks)) × (length (now sources) ≤ length (now choices)) ⌝ }
-    requires arena { ⌜ Headed (length (now sources)) (l .at) (now marks) × Arena (tableGame (now owners) (now sources) (now targets) (now priorities) (l .letters) (length (now sources))) (l .at) (live (length (now sources)) (now marks)) ⌝ }
-    requires { ⌜ Lists (live (length (now sources)) (now marks)) n (now order) ⌝ }
-    ensures { λ _. ⌜ SolvedAt (now (owners .entry)) (now (sources .entry)) (now (targets .entry)) (now (priorities .entry)) (l .letters) (length (now (sources .entry))) (l .at) (now (marks .entry)) (now (choices .entry)) (now (marks .exit)) (now (choices .exit)) × Rearranged n (now (order .entry)) (now (order .exit)) ⌝ }
+    requires rows { ⌜ Rows (now owners) (now sources) (now targets) (now priorities) letters (length (now sources)) ⌝ }
+    requires levels { ⌜ (0 < letters) × ((s a : ℕ) → s < length (now sources) → a < letters → getD (now priorities) (s * letters + a) 0 < 10) ⌝ }
+    requires { ⌜ (length (now sources) ≤ length (now winners)) × (length (now sources) ≤ length (now choices)) ⌝ }
+    ensures { λ _. ⌜ Answers (now (owners .entry)) (now (sources .entry)) (now (targets .entry)) (now (priorities .entry)) letters (length (now (sources .entry))) (now (winners .entry)) (now (choices .entry)) (now (winners .exit)) (now (choices .exit)) ⌝ }
 {
-    let mut left = n;
-    while 0 < left {
-        let rest = attracting::attract(
-            rows_task(l),
+    if sources.len() <= order.len() {
+        solve_all(
+            letters,
             owners,
             sources,
             targets,
             priorities,
-            left,
             order,
-            marks,
+            winners,
             choices,
         );
-        let above = Level {
-            letters: l.letters,
-            at: l.at + 1,
-        };
-        solve(
-            above, owners, sources, targets, priorities, rest, order, marks, choices,
-        );
-        left = turn(
-            l, owners, sources, targets, priorities, left, order, marks, choices,
-        );
+        return;
     }
+    if sources.len() <= 1024 {
+        let mut more = [0u16; 1024];
+        solve_within(
+            letters,
+            owners,
+            sources,
+            targets,
+            priorities,
+            &mut more,
+            winners,
+            choices,
+        );
+        return;
+    }
+    solve_large(
+        letters,
+        owners,
+        sources,
+        targets,
+        priorities,
+        winners,
+        choices,
+    );
+}
+
+// The same with an order of as many states as there can be.
+fn solve_large(
+    letters: usize,
+    owners: &[u8],
+    sources: &[u8],
+    targets: &[u16],
+    priorities: &[u8],
+    winners: &mut [u8],
+    choices: &mut [u8],
+)
+    requires rows { ⌜ Rows (now owners) (now sources) (now targets) (now priorities) letters (length (now sources)) ⌝ }
+    requires levels { ⌜ (0 < letters) × ((s a : ℕ) → s < length (now sources) → a < letters → getD (now priorities) (s * letters + a) 0 < 10) ⌝ }
+    requires { ⌜ (length (now sources) ≤ length (now winners)) × (length (now sources) ≤ length (now choices)) ⌝ }
+    ensures { λ _. ⌜ Answers (now (owners .entry)) (now (sources .entry)) (now (targets .entry)) (now (priorities .entry)) letters (length (now (sources .entry))) (now (winners .entry)) (now (choices .entry)) (now (winners .exit)) (now (choices .exit)) ⌝ }
+{
+    let mut order = [0u16; 65535];
+    solve_within(
+        letters,
+        owners,
+        sources,
+        targets,
+        priorities,
+        &mut order,
+        winners,
+        choices,
+    );
+}
+
+// The winner of each state, 0 the supervisor and 1 the plant, and at each state that its owner wins a letter, 255 at the others.
+pub fn solve_rows(
+    letters: usize,
+    states: usize,
+    owners: &[u8],
+    sources: &[u8],
+    targets: &[u16],
+    priorities: &[u8],
+    winners: &mut [u8],
+    choices: &mut [u8],
+)
+    requires rows { ⌜ Rows (now owners) (now sources) (now targets) (now priorities) letters states ⌝ }
+    requires levels { ⌜ (0 < letters) × ((s a : ℕ) → s < states → a < letters → getD (now priorities) (s * letters + a) 0 < 10) ⌝ }
+    requires { ⌜ (states ≤ length (now winners)) × (states ≤ length (now choices)) ⌝ }
+    ensures { λ _. ⌜ Answers (now (owners .entry)) (now (sources .entry)) (now (targets .entry)) (now (priorities .entry)) letters states (now (winners .entry)) (now (choices .entry)) (now (winners .exit)) (now (choices .exit)) ⌝ }
+{
+    let built = &sources[..states];
+    let mut order = [0u16; 64];
+    solve_within(
+        letters,
+        owners,
+        built,
+        targets,
+        priorities,
+        &mut order,
+        winners,
+        choices,
+    );
 }

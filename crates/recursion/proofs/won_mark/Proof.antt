@@ -1,10 +1,10 @@
-use Rattle.solver.proofs.Steps.{won-true, won-false}
+use Rattle.recursion.proofs.Steps.{won-true, won-false}
 use native.Mathlib.Omega.{arith}
 use borrow.Author.Needs.{needs}
-use Rattle.solver.proofs.won_mark.Statement.{statement}
-use Rattle.solver.proofs.won_mark.Tie as tie
-use Rattle.solver.proofs.won_mark.Reads as reads
-use Rattle.solver.proofs.won_mark.Lts as lts
+use Rattle.recursion.proofs.won_mark.Statement.{statement}
+use Rattle.recursion.proofs.won_mark.Tie as tie
+use Rattle.recursion.proofs.won_mark.Reads as reads
+use Rattle.recursion.proofs.won_mark.Lts as lts
 
 mul-result : tie.Need-mul-result
 mul-result c = search needs

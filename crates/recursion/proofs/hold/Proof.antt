@@ -1,17 +1,17 @@
-use Rattle.solver.proofs.Steps.{held-asks, holds, hold-rows, paint-asks-twice, front-asks, le-trans, marks-few, marks-few-more}
+use Rattle.recursion.proofs.Steps.{held-asks, holds, hold-rows, paint-asks-twice, front-asks, le-trans, marks-few, marks-few-more}
 use lib.ListN.{length}
 use native.Mathlib.Omega.{arith}
 use borrow.Author.Needs.{needs}
-use Rattle.solver.proofs.hold.Statement.{statement}
-use Rattle.solver.proofs.hold.Tie as tie
-use Rattle.solver.proofs.hold.Reads as reads
-use Rattle.solver.proofs.hold.Lts as lts
+use Rattle.recursion.proofs.hold.Statement.{statement}
+use Rattle.recursion.proofs.hold.Tie as tie
+use Rattle.recursion.proofs.hold.Reads as reads
+use Rattle.recursion.proofs.hold.Lts as lts
 use Rattle.attracting.proofs.attract.Reads as attract-reads
 use Rattle.holding.proofs.release.Reads as release-reads
 use Rattle.orders.proofs.paint.Reads as paint-reads
-use Rattle.solver.proofs.held_task.Reads as held-task-reads
-use Rattle.solver.proofs.hold_of.Reads as hold-of-reads
-use Rattle.solver.proofs.won_mark.Reads as won-mark-reads
+use Rattle.recursion.proofs.held_task.Reads as held-task-reads
+use Rattle.recursion.proofs.hold_of.Reads as hold-of-reads
+use Rattle.recursion.proofs.won_mark.Reads as won-mark-reads
 
 hold-of-requires : tie.Need-hold-of-requires
 hold-of-requires c κs = c .before .before .before .before .before .before .before .pre .1 .0

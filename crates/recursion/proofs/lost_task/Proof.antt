@@ -1,12 +1,12 @@
-use Rattle.solver.proofs.Steps.{lost-is}
+use Rattle.recursion.proofs.Steps.{lost-is}
 use native.Mathlib.Omega.{arith}
 use borrow.Author.Needs.{needs}
-use Rattle.solver.proofs.lost_task.Statement.{statement}
-use Rattle.solver.proofs.lost_task.Tie as tie
-use Rattle.solver.proofs.lost_task.Reads as reads
-use Rattle.solver.proofs.lost_task.Lts as lts
-use Rattle.solver.proofs.is_odd.Reads as is-odd-reads
-use Rattle.solver.proofs.won_mark.Reads as won-mark-reads
+use Rattle.recursion.proofs.lost_task.Statement.{statement}
+use Rattle.recursion.proofs.lost_task.Tie as tie
+use Rattle.recursion.proofs.lost_task.Reads as reads
+use Rattle.recursion.proofs.lost_task.Lts as lts
+use Rattle.recursion.proofs.is_odd.Reads as is-odd-reads
+use Rattle.recursion.proofs.won_mark.Reads as won-mark-reads
 
 is-odd-requires : tie.Need-is-odd-requires
 is-odd-requires c κs = search needs

@@ -1,10 +1,10 @@
 use Rattle.games.specs.Games.{serves}
 use native.Mathlib.Omega.{arith}
 use borrow.Author.Needs.{needs}
-use Rattle.solver.proofs.is_odd.Statement.{statement}
-use Rattle.solver.proofs.is_odd.Tie as tie
-use Rattle.solver.proofs.is_odd.Reads as reads
-use Rattle.solver.proofs.is_odd.Lts as lts
+use Rattle.recursion.proofs.is_odd.Statement.{statement}
+use Rattle.recursion.proofs.is_odd.Tie as tie
+use Rattle.recursion.proofs.is_odd.Reads as reads
+use Rattle.recursion.proofs.is_odd.Lts as lts
 
 -- src/lib.rt:24:1
 returns : tie.Need-returns

@@ -1,15 +1,15 @@
-use Rattle.solver.proofs.Steps.{lost-asks, loses, paint-asks, front-asks, marks-few}
+use Rattle.recursion.proofs.Steps.{lost-asks, loses, paint-asks, front-asks, marks-few}
 use lib.ListN.{length}
 use native.Mathlib.Omega.{arith}
 use borrow.Author.Needs.{needs}
-use Rattle.solver.proofs.lose.Statement.{statement}
-use Rattle.solver.proofs.lose.Tie as tie
-use Rattle.solver.proofs.lose.Reads as reads
-use Rattle.solver.proofs.lose.Lts as lts
+use Rattle.recursion.proofs.lose.Statement.{statement}
+use Rattle.recursion.proofs.lose.Tie as tie
+use Rattle.recursion.proofs.lose.Reads as reads
+use Rattle.recursion.proofs.lose.Lts as lts
 use Rattle.attracting.proofs.attract.Reads as attract-reads
 use Rattle.orders.proofs.paint.Reads as paint-reads
-use Rattle.solver.proofs.lost_task.Reads as lost-task-reads
-use Rattle.solver.proofs.won_mark.Reads as won-mark-reads
+use Rattle.recursion.proofs.lost_task.Reads as lost-task-reads
+use Rattle.recursion.proofs.won_mark.Reads as won-mark-reads
 
 lost-task-requires : tie.Need-lost-task-requires
 lost-task-requires c κs = c .before .before .before .before .before .before .before .pre .1 .0

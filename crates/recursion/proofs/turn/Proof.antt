@@ -1,17 +1,17 @@
-use Rattle.solver.proofs.Steps.{gather-asks, lose-asks, gathered-lists, hold-asks, none-live-yet, loses-long, turns-own, turns-lost}
+use Rattle.recursion.proofs.Steps.{gather-asks, lose-asks, gathered-lists, hold-asks, none-live-yet, loses-long, turns-own, turns-lost}
 use lib.ListN.{length}
 use native.Mathlib.Omega.{arith}
 use borrow.Author.Needs.{needs}
-use Rattle.solver.proofs.turn.Statement.{statement}
-use Rattle.solver.proofs.turn.Tie as tie
-use Rattle.solver.proofs.turn.Reads as reads
-use Rattle.solver.proofs.turn.Lts as lts
+use Rattle.recursion.proofs.turn.Statement.{statement}
+use Rattle.recursion.proofs.turn.Tie as tie
+use Rattle.recursion.proofs.turn.Reads as reads
+use Rattle.recursion.proofs.turn.Lts as lts
 use Rattle.orders.proofs.gather.Reads as gather-reads
 use Rattle.orders.proofs.paint.Reads as paint-reads
-use Rattle.solver.proofs.hold.Reads as hold-reads
-use Rattle.solver.proofs.lose.Reads as lose-reads
-use Rattle.solver.proofs.lost_task.Reads as lost-task-reads
-use Rattle.solver.proofs.won_mark.Reads as won-mark-reads
+use Rattle.recursion.proofs.hold.Reads as hold-reads
+use Rattle.recursion.proofs.lose.Reads as lose-reads
+use Rattle.recursion.proofs.lost_task.Reads as lost-task-reads
+use Rattle.recursion.proofs.won_mark.Reads as won-mark-reads
 
 lost-task-requires : tie.Need-lost-task-requires
 lost-task-requires c κs = c .before .before .before .before .before .before .before .pre .1 .0

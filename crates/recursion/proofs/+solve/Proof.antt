@@ -1,19 +1,19 @@
-use Rattle.solver.proofs.Going.{Going, going-start, going-end, going-lt, going-asks, going-head, going-arena, going-listed, going-turning, going-long, going-less, going-more}
-use Rattle.solver.proofs.Steps.{marks-few}
+use Rattle.recursion.proofs.Going.{Going, going-start, going-end, going-lt, going-asks, going-head, going-arena, going-listed, going-turning, going-long, going-less, going-more}
+use Rattle.recursion.proofs.Steps.{marks-few}
 use lib.ListN.{length}
 use Prim.Native.Nat.{ℕ, _-_, _<_}
 use native.Mathlib.Omega.{arith}
 use borrow.Author.Needs.{needs}
 use borrow.Fn.Kinds.{In}
 use borrow.Fn.PlainCycle.{Measures, is, falls, and}
-use Rattle.solver.proofs.solve.Reads as solve
-use Rattle.solver.proofs.solve.Kinds as solve-kinds
-use Rattle.solver.proofs.+solve.Lts-solve as solve-lts
+use Rattle.recursion.proofs.solve.Reads as solve
+use Rattle.recursion.proofs.solve.Kinds as solve-kinds
+use Rattle.recursion.proofs.+solve.Lts-solve as solve-lts
 use Rattle.attracting.proofs.attract.Reads as attract-reads
-use Rattle.solver.proofs.rows_task.Reads as rows-task-reads
-use Rattle.solver.proofs.turn.Reads as turn-reads
-use Rattle.solver.proofs.+solve.{statement}
-use Rattle.solver.proofs.+solve.Tie.{close}
+use Rattle.recursion.proofs.rows_task.Reads as rows-task-reads
+use Rattle.recursion.proofs.turn.Reads as turn-reads
+use Rattle.recursion.proofs.+solve.{statement}
+use Rattle.recursion.proofs.+solve.Tie.{close}
 
 abbrev μ-solve : Measures 7 solve-kinds.ps ℕ
 μ-solve κs a = 10 - a .0 .at

@@ -16,7 +16,7 @@ use Rattle.attracting.specs.declared.Task.{Task}
 use Rattle.attracting.specs.Attracting.{Rows, tableGame, fromOf, Attracts, Waits}
 use Rattle.levels.specs.Levels.{takenMark, live, Headed, rowsTask, SolvedAt, Turning, Turns}
 use Rattle.levels.proofs.Levels.{Level, level-start, level-end, turn-head, turn-arena, turning, turned, turn-lt}
-use Rattle.solver.proofs.Steps.{Asks}
+use Rattle.recursion.proofs.Steps.{Asks}
 
 module _ (owners sources targets priorities : List ℕ) (letters states p : ℕ) (m₀ c₀ : List ℕ) (n₀ : ℕ) (o₀ : List ℕ) where
   -- what is live is the front of the order, and still to be solved

@@ -121,9 +121,11 @@ module _ (owners sources targets priorities : List ℕ) (letters states p : ℕ)
       → Released owners sources targets priorities (g .letters) g rest o m c freed o₁ m₁ → rest ≤ length o → ((i : ℕ) → i < rest → getD o i 0 < states)
       → ((s : ℕ) → s < states → getD m s 0 ≢ 255) → Asks k m₁ freed o₁
   held-asks k g rest o m c freed o₁ m₁ e f rows d long inside none =
-      subst (λ (z : Task). Asks z m₁ freed o₁) (sym e)
-      (rows, ((λ z. absurd (omega arith)), (λ z. absurd (omega arith))),
-      held-lists rest o m c freed o₁ m₁ (subst (λ (z : Hold). Released owners sources targets priorities (z .letters) z rest o m c freed o₁ m₁) f d) long inside none)
+      subst (λ (z : Task). Asks z m₁ freed o₁) (sym e) (
+        rows,
+        ((λ z. absurd (omega arith)), (λ z. absurd (omega arith))),
+        held-lists rest o m c freed o₁ m₁ (subst (λ (z : Hold). Released owners sources targets priorities (z .letters) z rest o m c freed o₁ m₁) f d) long inside none,
+      )
 
   pub holds : (k : Task) (g : Hold) (own rest : ℕ) (o m c : List ℕ) (freed : ℕ) (o₁ m₁ : List ℕ) (again : ℕ) (o′ m₂ m₃ m′ c′ : List ℕ) → k ≡ heldTask letters p → g ≡ holdOf letters p → own ≡ wonMark p (k .plant)
       → Released owners sources targets priorities (g .letters) g rest o m c freed o₁ m₁
