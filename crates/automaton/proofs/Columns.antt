@@ -76,6 +76,13 @@ module _ (p : Policy) where
       end-at c = c .each n (omega (arith, length-ends)) ∙ getD-map-below (endOf (forest p)) (length (forest p)) n 0 h
 
     -- ---- those of the built states
+    pub sources-long : Column (stateSources p) t → length (built p) ≤ length t
+    sources-long c = omega (arith, c .long, length-sources)
+
+    pub source-at : (s : ℕ) → s < length (built p) → Column (stateSources p) t → getD t s 0 ≡ stateAt p s .state
+    unfolding stateSources stateAt
+    source-at s h c = column-at (λ (b : Built). b .state) (built p) c (record { state = 0; leaf = 0 }) s h
+
     pub leaves-long : Column (stateLeaves p) t → length (built p) ≤ length t
     leaves-long c = omega (arith, c .long, length-leaves)
 

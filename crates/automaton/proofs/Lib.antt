@@ -6,5 +6,6 @@ pub mod Ends
 pub mod Leaves
 pub mod Next
 pub mod RowPriorities
+pub mod RowTables
 pub mod Starts
 pub mod Tables

@@ -18,6 +18,7 @@ use Rattle.policy.specs.Policies.{legal}
 use Rattle.policy.proofs.Laws.{legal-counts}
 use Rattle.forest.specs.Forest.{forest}
 use Rattle.automaton.specs.Automaton.{Built, built, stateAt, start, stateSources, rowTargets, rowPriorities, builtFit}
+use Rattle.automaton.proofs.RowTables.{targets-long, priorities-long, row-target, row-priority}
 use Rattle.builder.specs.Tables.{Tables, lengthsFit, nodesFit, statesFit, filled, countsOf, translationOf, tablesAfter, numberOf}
 use Rattle.builder.specs.declared.Translation.the-variants.{Translated, Refused}
 use Rattle.running.specs.declared.Run.{Run}
@@ -25,7 +26,7 @@ use Rattle.running.specs.Running.{rowOf, rowStates}
 use Rattle.correctness.specs.Calls.{Translating, TablesHold}
 use Rattle.correctness.specs.Demand3.{stateCount, under, Beginning}
 use Rattle.correctness.proofs.BuiltRows.{Rows, StandsOver}
-use Rattle.correctness.proofs.DefinedRows.{targets-long, priorities-long, row-target, row-priority, rows-of}
+use Rattle.correctness.proofs.DefinedRows.{rows-of}
 use Rattle.correctness.proofs.Joint.{start-stands}
 
 -- the policy was translated: what each of the three contracts comes to where 0 is returned

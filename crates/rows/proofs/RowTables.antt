@@ -7,12 +7,10 @@ use native.Mathlib.Decide.{ℕ-discrete, decLt}
 use mathlib.Core.Path.{_≡_, refl, sym, ap, ap₂, _∙_, subst}
 use mathlib.Core.Logic.{_⊎_, inl, inr}
 use mathlib.Core.Bool.{true}
-use mathlib.Core.List.{List, List·Memᴰ, map}
+use mathlib.Core.List.{List, List·Memᴰ}
 use lib.Arith.{digits-div, digits-mod, digits-lt}
 use lib.ListN.{length, getD, set, replicate, length-set}
 use lib.Seq.{getD-set-same, getD-set-other, getD-append-add, ext-getD}
-use Rattle.lists.specs.Lists.{below}
-use Rattle.lists.proofs.Lists.{getD-map-below, length-pieces, getD-pieces, length-map-below}
 use Rattle.tables.specs.Tables.{padded, zeros, Column}
 use Rattle.tables.proofs.Tables.{length-padded, getD-padded}
 use Rattle.policy.specs.declared.Policy.{Policy}
@@ -26,6 +24,7 @@ use Rattle.rows.specs.Rows.{RowFrom, PartlyFilled, HasRow, RowsWritten}
 use Rattle.automaton.proofs.EdgeRuns.{Good}
 use Rattle.automaton.proofs.Leaves.{good-leaves}
 use Rattle.automaton.proofs.Tables.{built-good}
+use Rattle.automaton.proofs.RowTables.{targets-long, priorities-long, row-target, row-priority}
 use Rattle.automaton.proofs.Columns.{leaf-at, leaves-long, start-at}
 use Rattle.automaton.proofs.Starts.{over-mono, in-run, run-has}
 
@@ -81,35 +80,15 @@ module _ (l : List ℕ) where
 
 -- ---- the rows by state and letter
 module _ (p : Policy) where
-  pub length-targets : length (rowTargets p) ≡ length (built p) * p .letters
-  unfolding rowTargets
-  length-targets = length-pieces (λ (s : ℕ). map (rowTarget p s) (below (p .letters))) (p .letters) (λ s. length-map-below (rowTarget p s) (p .letters)) (length (built p))
-
-  pub length-priorities : length (rowPriorities p) ≡ length (built p) * p .letters
-  unfolding rowPriorities
-  length-priorities = length-pieces (λ (s : ℕ). map (rowPriority p s) (below (p .letters))) (p .letters) (λ s. length-map-below (rowPriority p s) (p .letters)) (length (built p))
-
   module _ (s a : ℕ) (h : s < length (built p)) (k : a < p .letters) where
-    pub target-in : getD (rowTargets p) (s * p .letters + a) 0 ≡ rowTarget p s a
-    unfolding rowTargets
-    target-in =
-        getD-pieces (λ (s : ℕ). map (rowTarget p s) (below (p .letters))) (p .letters) (λ s. length-map-below (rowTarget p s) (p .letters)) (length (built p)) s a 0 h k
-        ∙ getD-map-below (rowTarget p s) (p .letters) a 0 k
-
-    pub priority-in : getD (rowPriorities p) (s * p .letters + a) 0 ≡ rowPriority p s a
-    unfolding rowPriorities
-    priority-in =
-        getD-pieces (λ (s : ℕ). map (rowPriority p s) (below (p .letters))) (p .letters) (λ s. length-map-below (rowPriority p s) (p .letters)) (length (built p)) s a 0 h k
-        ∙ getD-map-below (rowPriority p s) (p .letters) a 0 k
-
     pub row-lt : s * p .letters + a < length (built p) * p .letters
     row-lt = digits-lt h k
 
     -- a row that is there stays there
     pub has-kept : {t₀ k₀ t k : List ℕ} → PartlyFilled (rowTargets p) t₀ t → PartlyFilled (rowPriorities p) k₀ k → HasRow p t₀ k₀ s a → HasRow p t k s a
     has-kept u v r = record {
-      target-is = partly-keeps (rowTargets p) u (s * p .letters + a) (r .target-is ∙ sym target-in) ∙ target-in;
-      priority-is = partly-keeps (rowPriorities p) v (s * p .letters + a) (r .priority-is ∙ sym priority-in) ∙ priority-in;
+      target-is = partly-keeps (rowTargets p) u (s * p .letters + a) (r .target-is ∙ sym (row-target p s a h k)) ∙ row-target p s a h k;
+      priority-is = partly-keeps (rowPriorities p) v (s * p .letters + a) (r .priority-is ∙ sym (row-priority p s a h k)) ∙ row-priority p s a h k;
     }
 
 -- ---- the rows of several edges
@@ -138,10 +117,10 @@ module _ (p : Policy) where
     pub written-all : {t₀ k₀ t k : List ℕ} {n : ℕ} → RowsWritten p t₀ k₀ t k 0 n → edges p ≤ n → t₀ ≡ zeros t₀ → k₀ ≡ zeros k₀ → p .letters * length (built p) ≤ length t₀
         → p .letters * length (built p) ≤ length k₀ → (t ≡ padded (length t₀) (rowTargets p)) × (k ≡ padded (length k₀) (rowPriorities p))
     written-all {t₀} {k₀} {t} {k} {n} w m zt zk lt lk = (
-      partly-whole (rowTargets p) (w .targets-are) zt (omega (arith, length-targets p, rows-room t₀ lt))
-          (λ i h. let r = right i (omega (arith, length-targets p)) in subst (λ (j : ℕ). getD t j 0 ≡ getD (rowTargets p) j 0) (div-add-mod' i (p .letters)) (r .2 .target-is ∙ sym (target-in p (i / p .letters) (i % p .letters) (r .0) (r .1)))),
-      partly-whole (rowPriorities p) (w .priorities-are) zk (omega (arith, length-priorities p, rows-room k₀ lk))
-          (λ i h. let r = right i (omega (arith, length-priorities p)) in subst (λ (j : ℕ). getD k j 0 ≡ getD (rowPriorities p) j 0) (div-add-mod' i (p .letters)) (r .2 .priority-is ∙ sym (priority-in p (i / p .letters) (i % p .letters) (r .0) (r .1)))),
+      partly-whole (rowTargets p) (w .targets-are) zt (omega (arith, targets-long p, rows-room t₀ lt))
+          (λ i h. let r = right i (omega (arith, targets-long p)) in subst (λ (j : ℕ). getD t j 0 ≡ getD (rowTargets p) j 0) (div-add-mod' i (p .letters)) (r .2 .target-is ∙ sym (row-target p (i / p .letters) (i % p .letters) (r .0) (r .1)))),
+      partly-whole (rowPriorities p) (w .priorities-are) zk (omega (arith, priorities-long p, rows-room k₀ lk))
+          (λ i h. let r = right i (omega (arith, priorities-long p)) in subst (λ (j : ℕ). getD k j 0 ≡ getD (rowPriorities p) j 0) (div-add-mod' i (p .letters)) (r .2 .priority-is ∙ sym (row-priority p (i / p .letters) (i % p .letters) (r .0) (r .1)))),
     )
       where
         right : (i : ℕ) → i < length (built p) * p .letters → (i / p .letters < length (built p)) × (i % p .letters < p .letters) × HasRow p t k (i / p .letters) (i % p .letters)
@@ -308,10 +287,10 @@ module _ {p : Policy} {v a : ℕ} {heads entries starts t₀ k₀ : List ℕ} (g
           is = edge-rows-row q r
 
           ut : PartlyFilled (rowTargets p) t (set t i x)
-          ut = partly-set (rowTargets p) t i x (edge-rows-in .0) (omega (arith, at-row, length-targets p)) (is .0 ∙ sym (target-in p s a (in-built .0) (g .letter-in)))
+          ut = partly-set (rowTargets p) t i x (edge-rows-in .0) (omega (arith, at-row, targets-long p)) (is .0 ∙ sym (row-target p s a (in-built .0) (g .letter-in)))
 
           uk : PartlyFilled (rowPriorities p) k (set k i y)
-          uk = partly-set (rowPriorities p) k i y (edge-rows-in .1) (omega (arith, at-row, length-priorities p)) (is .1 ∙ sym (priority-in p s a (in-built .0) (g .letter-in)))
+          uk = partly-set (rowPriorities p) k i y (edge-rows-in .1) (omega (arith, at-row, priorities-long p)) (is .1 ∙ sym (row-priority p s a (in-built .0) (g .letter-in)))
 
           go : (j : ℕ) → firstOver p v ≤ j → j < s + 1 → Dec (j ≡ s) → HasRow p (set t i x) (set k i y) j a
           go j b c (yes z) =

@@ -1,1 +1,4 @@
 pub mod Winners
+pub mod Bridge
+pub mod OwnersLaws
+pub mod SolveLaws
