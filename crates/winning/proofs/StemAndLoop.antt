@@ -25,7 +25,8 @@ use Rattle.running.proofs.Steps.{row-moves}
 use Rattle.judging.specs.Judging.{nonEmpty, inRange}
 use Rattle.correctness.specs.Demand3.{letterAt, InRound, Recurs, policyState, coloursMet}
 use Rattle.correctness.proofs.BuiltRows.{policyRun, builtRun, RecurringColour, RecurringPriority}
-use Rattle.correctness.proofs.DefinedRows.{rows-of, row-target, row-priority}
+use Rattle.automaton.proofs.RowTables.{row-target, row-priority}
+use Rattle.correctness.proofs.DefinedRows.{rows-of}
 use Rattle.correctness.proofs.Joint.{stands-after}
 use Rattle.correctness.proofs.Period.{Settled, settled}
 use Rattle.correctness.proofs.Sequences.{roundStart, recurs-along}
