@@ -44,12 +44,12 @@ wulfrenda-translated-bytes t returned = record {
 }
 
 -- ---- running
-read-answered : (c : Call read) → Answered (readShows (c .at))
+pub read-answered : (c : Call read) → Answered (readShows (c .at))
 read-answered c =
     let e = c .learnt .answer-is in
     record { number-is = ap runNumberOf e; next-is = ap (λ (q : Reading). runAfter q .state) e; priority-is = ap priorityOf e }
 
-wulfrenda-run-answered : (c : Call wulfrenda-run) → Answered (wulfrendaRunShows (c .at))
+pub wulfrenda-run-answered : (c : Call wulfrenda-run) → Answered (wulfrendaRunShows (c .at))
 wulfrenda-run-answered c = record { number-is = c .learnt .0; next-is = c .learnt .1 .0; priority-is = c .learnt .1 .1 }
 
 -- ---- demand 3

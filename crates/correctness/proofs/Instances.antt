@@ -32,7 +32,7 @@ use Rattle.correctness.proofs.Translated.{Success, success-start, exact
 use Rattle.correctness.proofs.Demand3.{translated, wulfrenda-translated, wulfrenda-translated-bytes}
 
 -- ---- by computation
-bytes-give : BytesGiveB
+pub bytes-give : BytesGiveB
 unfolding has insert edges edgeOf inFamily countsFit legalCounts counted zeroPolicy withTables withEdge withSet operandCount commandAt isShape isEnd operandsThere inPlace withinLimits firstTime allGiven completeAtEnd emptyDraft draftAfter nextOffset stopMost stopFrom stopOf numberAt answerAt bytesReadingOf readRefusalOf
 bytes-give = refl
 
@@ -40,20 +40,20 @@ cases-hold : CasesHold cases
 unfolding has insert inside properly setOf members submasks padded zeros edges edgeOf source targetOf colourOf edgeColours coloursOf inFamily accepting countsFit legalCounts legalEdge legalEdges legalSet legalFamily legalGraph legal counted zeroPolicy spread closure reach isCycle contains before place inOrder largest full cyclesIn roots opposed children trees tree forest priority transientPriority node upFrom chain childOf inRoot nodeMasks nodeParents nodePriorities places next holds kids isLeaf leaves firstLeaf statesOver builtStates deepest lead entered firstLeafBelow leafAfter priorityAfter built stateAt number start rowTarget rowPriority rowTargets rowPriorities stateSources stateLeaves builtFit forestFits sizesFit lengthsFit nodesFit statesFit filled cleared translationOf tablesAfter
 cases-hold = (refl, refl, (refl, refl, (refl, refl, (refl, refl, (refl, refl, tt)))))
 
-policy-back : policyOf (recordOf B) ≡ B
+pub policy-back : policyOf (recordOf B) ≡ B
 unfolding counted withTables bytesAt flagsAt unpacked policyOf recordOf
 policy-back = refl
 
 -- ---- places
 -- a place that holds x
-placeOf : {X : Type 0} → X → RefT X
+unfoldable pub placeOf : {X : Type 0} → X → RefT X
 placeOf x = record { ptr = (0, 0); name = 0; now = x }
 
-slices : {Rest : Type 0} → Tables → Rest → Slice × (Slice × (Slice × (Slice × (Slice × (Slice × (Slice × Rest))))))
+unfoldable pub slices : {Rest : Type 0} → Tables → Rest → Slice × (Slice × (Slice × (Slice × (Slice × (Slice × (Slice × Rest))))))
 slices t rest =
     (placeOf (t .masks), (placeOf (t .parents), (placeOf (t .node-priorities), (placeOf (t .sources), (placeOf (t .leaves), (placeOf (t .targets), (placeOf (t .priorities), rest)))))))
 
-held : (t : Tables) → Hold t (t .masks) (t .parents) (t .node-priorities) (t .sources) (t .leaves) (t .targets) (t .priorities)
+pub held : (t : Tables) → Hold t (t .masks) (t .parents) (t .node-priorities) (t .sources) (t .leaves) (t .targets) (t .priorities)
 held t = record {
   masks-are = refl;
   parents-are = refl;
@@ -107,7 +107,7 @@ wulfrenda-translate-bytes-call bytes t =
     }
 
 -- ---- calls of running
-read-call : ℕ → List ℕ → List ℕ → ℕ → ℕ → Call read
+unfoldable pub read-call : ℕ → List ℕ → List ℕ → ℕ → ℕ → Call read
 unfolding placeOf
 read-call letters targets priorities s a =
     let run : Run = record { state = s } in
@@ -122,7 +122,7 @@ read-call letters targets priorities s a =
       learnt = reads-letter letters targets priorities run a x refl;
     }
 
-wulfrenda-run-call : ℕ → List ℕ → List ℕ → ℕ → ℕ → Call wulfrenda-run
+unfoldable pub wulfrenda-run-call : ℕ → List ℕ → List ℕ → ℕ → ℕ → Call wulfrenda-run
 unfolding placeOf
 wulfrenda-run-call letters targets priorities s a =
     let x = readingOf letters targets priorities (record { state = s }) a in

@@ -135,11 +135,11 @@ cleared-same p t u s = record {
 }
 
 module _ (p : Policy) (owners : List ℕ) (t : Tables) (winners letters : List ℕ) where
-  number-of : numberOf (solvingOf p owners t winners letters) ≡ refusalOf p owners t winners letters
+  pub number-of : numberOf (solvingOf p owners t winners letters) ≡ refusalOf p owners t winners letters
   unfolding solvingOf refusalOf
   number-of = number-decided (length (forest p)) (length (built p)) (start p) (legal p) (solvingFits p owners t winners letters) (nodesFit p t) (statesFit p t) (ownersFit p owners) (ownersLegal p owners)
 
-  counts-of : countsOf (solvingOf p owners t winners letters) ≡ countsAfter p owners t winners letters
+  pub counts-of : countsOf (solvingOf p owners t winners letters) ≡ countsAfter p owners t winners letters
   unfolding solvingOf refusalOf countsAfter
   counts-of = counts-decided (length (forest p)) (length (built p)) (start p) (legal p) (solvingFits p owners t winners letters) (nodesFit p t) (statesFit p t) (ownersFit p owners) (ownersLegal p owners)
 

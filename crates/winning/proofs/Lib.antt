@@ -3,3 +3,8 @@ pub mod Recurring
 pub mod StemAndLoop
 pub mod OneWinner
 pub mod Winning
+pub mod Done
+pub mod Calls
+pub mod Solved
+pub mod Exists
+pub mod Instances

@@ -1,1 +1,4 @@
 pub mod Winning
+pub mod Calls
+pub mod Solved
+pub mod Instances
