@@ -1,3 +1,4 @@
 pub mod Laws
 pub mod Visits
+pub mod Outcome
 pub mod Sweeping

@@ -1,24 +1,25 @@
 -- A state that a visit adds is attracted; a sweep that adds none shows that nothing can be added. Assumes nothing.
-use Prim.Native.Nat.{ℕ, zero, suc, _+_, _*_, _≤_, _<_}
+use Prim.Native.Nat.{ℕ, suc, _+_, _*_, _≤_, _<_}
 use native.Mathlib.Omega.{arith}
-use native.Mathlib.Decide.{ℕ-discrete, decLt}
+use native.Mathlib.Decide.{ℕ-discrete}
 use mathlib.Core.Path.{_≡_, refl, sym, ap, _∙_, subst}
 use mathlib.Core.Logic.{_⊎_, inl, inr, _≢_}
-use mathlib.Core.Bool.{Bool, true, false, not, _&&_, _||_, cond, true≢false, false≢true}
+use mathlib.Core.Bool.{Bool, true, false, not, _&&_, _||_, cond, Bool·not-not, or-comm, true≢false, false≢true}
 use mathlib.Core.List.{List}
 use lib.Dec.{eqb, ltb, leb}
 use lib.ListN.{length, getD, set, length-set}
 use lib.Seq.{getD-set-same, getD-set-other}
-use borrow.Author.Tests.{lt-ltb}
-use Rattle.lists.proofs.Bools.{test, eqb≡, ≡eqb, neqb, and-l, and-r, both, or-cases, or-left, or-right, lt-true, lt-false, le-true}
+use borrow.Author.Tests.{lt-ltb, le-leb}
+use Rattle.lists.proofs.Bools.{test, eqb≡, ≡eqb, neqb, and-l, and-r, both, and-absent, or-cases, or-left, or-right, or-none, not-itself, lt-true, lt-false, le-true}
 use Rattle.games.specs.Games.{Game}
-use Rattle.games.proofs.Sets.{true-le, or-false, differ, not-not, player, put, put-at, put-else}
-use Rattle.games.proofs.Regions.{Row, Agrees}
-use Rattle.games.proofs.Attract.{Attracted, Complete, Addable, by-choice, by-force, letterOf, added, attracted-same}
+use Rattle.games.proofs.Sets.{put, put-at, put-else}
+use Rattle.games.proofs.Regions.{Row}
+use Rattle.games.proofs.Attract.{Complete, Addable, by-choice, by-force, letterOf, added, attracted-same}
 use Rattle.orders.specs.Orders.{Among, Lists, Rearranged, Kept}
-use Rattle.orders.proofs.Orders.{same-order, order-of-order, wider-order, Parted, parted-none, parted-more, front-more, others-more}
+use Rattle.orders.proofs.Orders.{same-order, order-of-order, wider-order, inside-moved, in-front, Parted, parted-none, parted-more, front-more, others-more}
 use Rattle.attracting.specs.declared.Task.{Task}
-use Rattle.attracting.specs.Attracting.{isIn, opens, nearer, waiting, owns, Rows, tableGame, ownsAt, opensAt, nearsAt, StuckAt, AddableAt, chosen, forced, Visited, arenaOf, fromOf, hitOf, setOf, Attracting, Swept, Attracts, Waits}
+use Rattle.attracting.specs.Attracting.{isIn, waiting, owns, Rows, tableGame, opensAt, nearsAt, StuckAt, AddableAt, chosen, forced, Visited, arenaOf, fromOf, hitOf, setOf, Attracting, Swept, Attracts, Waits}
+use Rattle.attracting.proofs.Outcome.{to-waits}
 
 pub owns-true : (plant : Bool) (o : ℕ) → owns plant o ≡ true → eqb o 1 ≡ plant
 unfolding owns
@@ -40,9 +41,19 @@ owns-false plant o e = go (eqb o 1) plant e
     go false true e = refl
     go false false e = absurd (true≢false e)
 
-and-right-false : (a b : Bool) → b ≡ false → a && b ≡ false
-and-right-false true b e = e
-and-right-false false b e = refl
+pub is-owns : (plant : Bool) (o : ℕ) → eqb o 1 ≡ plant → owns plant o ≡ true
+is-owns plant o e = go (test (owns plant o))
+  where
+    go : (owns plant o ≡ true) ⊎ (owns plant o ≡ false) → owns plant o ≡ true
+    go (inl t) = t
+    go (inr f) = absurd (not-itself plant (sym e ∙ owns-false plant o f))
+
+pub not-owns : (plant : Bool) (o : ℕ) → eqb o 1 ≡ not plant → owns plant o ≡ false
+not-owns plant o e = go (test (owns plant o))
+  where
+    go : (owns plant o ≡ true) ⊎ (owns plant o ≡ false) → owns plant o ≡ false
+    go (inl t) = absurd (not-itself plant (sym (owns-true plant o t) ∙ e))
+    go (inr f) = f
 
 module _ (owners sources targets priorities : List ℕ) (letters states : ℕ) (k : Task) where
   -- t waits, and cannot be attracted yet
@@ -77,9 +88,6 @@ module _ (owners sources targets priorities : List ℕ) (letters states : ℕ) (
   abbrev target : ℕ → ℕ → ℕ
   target s a = getD targets (s * letters + a) 0
 
-  abbrev owning : ℕ → Bool
-  owning = ownsAt owners sources targets priorities letters states k
-
   abbrev opening : List ℕ → ℕ → ℕ → Bool
   opening = opensAt owners sources targets priorities letters states k
 
@@ -98,6 +106,10 @@ module _ (owners sources targets priorities : List ℕ) (letters states : ℕ) (
       go : (eqb m (k .live) ≡ true) ⊎ (eqb m (k .also) ≡ true) → ⊥
       go (inl t) = not-live (sym q ∙ eqb≡ m (k .live) t)
       go (inr t) = not-also (sym q ∙ eqb≡ m (k .also) t)
+
+  choices-kept : (m : List ℕ) (s : ℕ) (c c′ : List ℕ) → AddableAt owners sources targets priorities letters states k m s c c′ → length c′ ≡ length c
+  choices-kept m s c c′ (chosen o a l op ne e) = ap length e ∙ length-set c s a
+  choices-kept m s c c′ (forced o f e) = ap length e
 
   -- ---- the marks as they are, and as they were
   module _ (m₀ c₀ m c : List ℕ) (x : Attracting owners sources targets priorities letters states k m₀ c₀ m c) where
@@ -129,7 +141,7 @@ module _ (owners sources targets priorities : List ℕ) (letters states : ℕ) (
 
     row-opens : (s a : ℕ) → Row G (k .level) arena s a → opening m s a ≡ true
     row-opens s a r =
-        both (leb (k .level) (getD priorities (s * letters + a) 0)) (isIn k (getD m (target s a) 0)) (true-le (k .level) (getD priorities (s * letters + a) 0) (r .above))
+        both (leb (k .level) (getD priorities (s * letters + a) 0)) (isIn k (getD m (target s a) 0)) (le-leb (k .level) (getD priorities (s * letters + a) 0) (r .above))
         (in-forth (target s a) (and-r (ltb (target s a) states) (isIn k (getD m₀ (target s a) 0)) (r .within)))
 
     opens-row : (s a : ℕ) → s < states → a < letters → opening m s a ≡ true → Row G (k .level) arena s a
@@ -151,10 +163,13 @@ module _ (owners sources targets priorities : List ℕ) (letters states : ℕ) (
         go (inr t) q = inl (or-right (eqb (getD m₀ (target s a) 0) (k .to)) (k .rows && eqb (getD priorities (s * letters + a) 0) (k .level)) t)
 
     far-both : (s a : ℕ) → nearing m s a ≡ false → (hits s a ≡ false) × (now-in (target s a) ≡ false)
-    far-both s a e = (go (test (eqb (getD m₀ (target s a) 0) (k .to))) (x .each (target s a)), and-right-false (from (target s a)) (eqb (getD m (target s a) 0) (k .to)) (f .0))
+    far-both s a e = (go (test (eqb (getD m₀ (target s a) 0) (k .to))) (x .each (target s a)), and-absent (from (target s a)) (eqb (getD m (target s a) 0) (k .to)) (f .0))
       where
         f : (eqb (getD m (target s a) 0) (k .to) ≡ false) × (k .rows && eqb (getD priorities (s * letters + a) 0) (k .level) ≡ false)
-        f = or-false (eqb (getD m (target s a) 0) (k .to)) (k .rows && eqb (getD priorities (s * letters + a) 0) (k .level)) e
+        f =
+            let near = eqb (getD m (target s a) 0) (k .to) in
+            let low = k .rows && eqb (getD priorities (s * letters + a) 0) (k .level) in
+            (or-none near low e, or-none low near (or-comm low near ∙ e))
 
         go : (eqb (getD m₀ (target s a) 0) (k .to) ≡ true) ⊎ (eqb (getD m₀ (target s a) 0) (k .to) ≡ false)
             → (getD m (target s a) 0 ≡ getD m₀ (target s a) 0) ⊎ ((from (target s a) ≡ true) × (getD m (target s a) 0 ≡ k .to)) → hits s a ≡ false
@@ -170,8 +185,8 @@ module _ (owners sources targets priorities : List ℕ) (letters states : ℕ) (
         go (inl q) = both (ltb s states) (waiting k (getD m₀ s 0)) (lt-ltb s states h) (ap (waiting k) (sym q) ∙ e)
         go (inr q) = q .0
 
-    pub waits-out : (s : ℕ) → waiting k (getD m s 0) ≡ true → now-in s ≡ false
-    waits-out s e = and-right-false (from s) (eqb (getD m s 0) (k .to)) (neqb (getD m s 0) (k .to) (waiting-not (getD m s 0) e))
+    waits-out : (s : ℕ) → waiting k (getD m s 0) ≡ true → now-in s ≡ false
+    waits-out s e = and-absent (from s) (eqb (getD m s 0) (k .to)) (neqb (getD m s 0) (k .to) (waiting-not (getD m s 0) e))
 
     -- ---- one state more
     addable : (s : ℕ) (c′ : List ℕ) → s < states → AddableAt owners sources targets priorities letters states k m s c c′
@@ -203,16 +218,12 @@ module _ (owners sources targets priorities : List ℕ) (letters states : ℕ) (
       choice-here : (z : AddableAt owners sources targets priorities letters states k m s c c′) → G .owner s ≡ k .plant → letterOf G (k .plant) (k .level) arena from hits now-in s (addable s c′ h z) ≡ getD c′ s 0
       unfolding letterOf addable
       choice-here (chosen o a l op ne e) q = sym (ap (λ (l : List ℕ). getD l s 0) e ∙ getD-set-same c s a 0 (omega arith))
-      choice-here (forced o f e) q = absurd (differ (k .plant) (sym q ∙ owns-false (k .plant) (getD owners (getD sources s 0) 0) o))
-
-      choice-size : (z : AddableAt owners sources targets priorities letters states k m s c c′) → length c′ ≡ length c
-      choice-size (chosen o a l op ne e) = ap length e ∙ length-set c s a
-      choice-size (forced o f e) = ap length e
+      choice-here (forced o f e) q = absurd (not-itself (k .plant) (sym q ∙ owns-false (k .plant) (getD owners (getD sources s 0) 0) o))
 
       pub attracting-more : Attracting owners sources targets priorities letters states k m₀ c₀ m′ c′
       attracting-more = record {
         marks-long = length-set m s (k .to) ∙ x .marks-long;
-        choices-long = choice-size y ∙ x .choices-long;
+        choices-long = choices-kept m s c c′ y ∙ x .choices-long;
         each = λ t. each t (ℕ-discrete t s);
         kept = λ t e. kept t e (ℕ-discrete t s);
         attracted = attracted-same G (k .plant) (k .level) arena from hits (put now-in s true) then-in (put (λ s. getD c s 0) s (letterOf G (k .plant) (k .level) arena from hits now-in s (addable s c′ h y))) (λ s. getD c′ s 0)
@@ -247,8 +258,8 @@ module _ (owners sources targets priorities : List ℕ) (letters states : ℕ) (
     pub complete-of : ((t : ℕ) → t < states → waiting k (getD m t 0) ≡ true → StuckAt owners sources targets priorities letters states k m t)
         → Complete G (k .plant) (k .level) arena from hits now-in
     complete-of stuck = record {
-      own = λ s a f e o r. far-both s a (stuck s (is-state s f) (waits s f e) .own (owns-is s o) a (r .letter) (row-opens s a r));
-      other = λ s f e o. let q = stuck s (is-state s f) (waits s f e) .other (owns-not s o) in let z = far-both s (q .0) (q .3) in (q .0, opens-row s (q .0) (is-state s f) (q .1) (q .2), z .0, z .1);
+      own = λ s a f e o r. far-both s a (stuck s (is-state s f) (waits s f e) .own (is-owns (k .plant) (getD owners (getD sources s 0) 0) o) a (r .letter) (row-opens s a r));
+      other = λ s f e o. let q = stuck s (is-state s f) (waits s f e) .other (not-owns (k .plant) (getD owners (getD sources s 0) 0) o) in let z = far-both s (q .0) (q .3) in (q .0, opens-row s (q .0) (is-state s f) (q .1) (q .2), z .0, z .1);
     }
       where
         is-state : (s : ℕ) → from s ≡ true → s < states
@@ -260,20 +271,6 @@ module _ (owners sources targets priorities : List ℕ) (letters states : ℕ) (
             go : (getD m s 0 ≡ getD m₀ s 0) ⊎ ((from s ≡ true) × (getD m s 0 ≡ k .to)) → waiting k (getD m s 0) ≡ true
             go (inl q) = ap (waiting k) q ∙ and-r (ltb s states) (waiting k (getD m₀ s 0)) f
             go (inr q) = absurd (true≢false (sym (both (from s) (eqb (getD m s 0) (k .to)) f (≡eqb (getD m s 0) (k .to) (q .1))) ∙ e))
-
-        owns-is : (s : ℕ) → G .owner s ≡ k .plant → owning s ≡ true
-        owns-is s o = go (test (owning s))
-          where
-            go : (owning s ≡ true) ⊎ (owning s ≡ false) → owning s ≡ true
-            go (inl t) = t
-            go (inr n) = absurd (differ (k .plant) (sym o ∙ owns-false (k .plant) (getD owners (getD sources s 0) 0) n))
-
-        owns-not : (s : ℕ) → G .owner s ≡ not (k .plant) → owning s ≡ false
-        owns-not s o = go (test (owning s))
-          where
-            go : (owning s ≡ true) ⊎ (owning s ≡ false) → owning s ≡ false
-            go (inl t) = absurd (differ (k .plant) (sym (owns-true (k .plant) (getD owners (getD sources s 0) 0) t) ∙ o))
-            go (inr n) = n
 
   -- ---- at first
   pub attracting-none : (m₀ c₀ : List ℕ) → Attracting owners sources targets priorities letters states k m₀ c₀ m₀ c₀
@@ -298,16 +295,9 @@ module _ (owners sources targets priorities : List ℕ) (letters states : ℕ) (
           waiting-not (getD m₀ s 0) (and-r (ltb s states) (waiting k (getD m₀ s 0)) f) (eqb≡ (getD m₀ s 0) (k .to) (and-r (fromOf owners sources targets priorities letters states k m₀ s) (eqb (getD m₀ s 0) (k .to)) e))
 
   -- ---- what waits after some steps waited before them
-  pub still-waits : (m c m′ c′ : List ℕ) → Attracting owners sources targets priorities letters states k m c m′ c′ → (s : ℕ)
+  still-waits : (m c m′ c′ : List ℕ) → Attracting owners sources targets priorities letters states k m c m′ c′ → (s : ℕ)
       → fromOf owners sources targets priorities letters states k m′ s ≡ true → fromOf owners sources targets priorities letters states k m s ≡ true
   still-waits m c m′ c′ x s e = waits-from m c m′ c′ x s (lt-true s states (and-l (ltb s states) (waiting k (getD m′ s 0)) e)) (and-r (ltb s states) (waiting k (getD m′ s 0)) e)
-
-  to-waits-not : waiting k (k .to) ≡ false
-  to-waits-not = go (test (waiting k (k .to)))
-    where
-      go : (waiting k (k .to) ≡ true) ⊎ (waiting k (k .to) ≡ false) → waiting k (k .to) ≡ false
-      go (inl t) = absurd (waiting-not (k .to) t refl)
-      go (inr f) = f
 
   -- ---- a sweep
   pub sweeping-none : (n : ℕ) (o m c : List ℕ) → Sweeping owners sources targets priorities letters states k n o m c 0 0 o m c
@@ -328,16 +318,12 @@ module _ (owners sources targets priorities : List ℕ) (letters states : ℕ) (
         ((waiting k (getD m′ s 0) ≡ false) × (m″ ≡ m′) × (c″ ≡ c′))
         ⊎ ((waiting k (getD m′ s 0) ≡ true) × (m″ ≡ set m′ s (k .to)) × AddableAt owners sources targets priorities letters states k m′ s c′ c″)
 
-    choices-after : (y : AddableAt owners sources targets priorities letters states k m′ s c′ c″) → length c″ ≡ length c′
-    choices-after (chosen z a l op ne e) = ap length e ∙ length-set c′ s a
-    choices-after (forced z f e) = ap length e
-
     long : (left ≡ true) ⊎ (left ≡ false) → (length m″ ≡ length m) × (length c″ ≡ length c)
     long (inl e) = go (b .goes e)
       where
         go : Goes → (length m″ ≡ length m) × (length c″ ≡ length c)
         go (inl y) = (ap length (y .1) ∙ x .marks-long, ap length (y .2) ∙ x .choices-long)
-        go (inr y) = (ap length (y .1) ∙ length-set m′ s (k .to) ∙ x .marks-long, choices-after (y .2) ∙ x .choices-long)
+        go (inr y) = (ap length (y .1) ∙ length-set m′ s (k .to) ∙ x .marks-long, choices-kept m′ s c′ c″ (y .2) ∙ x .choices-long)
     long (inr e) = let y = b .stays e in (ap length (y .0) ∙ x .marks-long, ap length (y .1) ∙ x .choices-long)
 
     unchanged : m″ ≡ m′ → c″ ≡ c′ → (m₀ c₀ : List ℕ) → Attracting owners sources targets priorities letters states k m₀ c₀ m′ c′ → Attracting owners sources targets priorities letters states k m₀ c₀ m″ c″
@@ -369,10 +355,10 @@ module _ (owners sources targets priorities : List ℕ) (letters states : ℕ) (
       where
         go : Goes → waiting k (getD m″ s 0) ≡ false
         go (inl y) = ap (λ (z : List ℕ). waiting k (getD z s 0)) (y .1) ∙ y .0
-        go (inr y) = ap (waiting k) (ap (λ (l : List ℕ). getD l s 0) (y .1) ∙ getD-set-same m′ s (k .to) 0 (omega (arith, x .marks-long))) ∙ to-waits-not
+        go (inr y) = ap (waiting k) (ap (λ (l : List ℕ). getD l s 0) (y .1) ∙ getD-set-same m′ s (k .to) 0 (omega (arith, x .marks-long))) ∙ to-waits k not-live not-also
 
     flips : (z : Bool) → not left ≡ z → left ≡ not z
-    flips z e = sym (not-not left) ∙ ap not e
+    flips z e = sym (Bool·not-not left) ∙ ap not e
 
     -- all before i stay, and so does the state at i
     all-stay : r ≡ i + 1 → left ≡ false
@@ -441,18 +427,8 @@ module _ (owners sources targets priorities : List ℕ) (letters states : ℕ) (
 
     module _ (n : ℕ) (o m c : List ℕ) (b : Bool) (r : ℕ) (o′ m′ c′ : List ℕ) (x : Attraction owners sources targets priorities letters states k m₀ c₀ n₀ o₀ n o m c b) (y : Swept owners sources targets priorities letters states k n o m c r o′ m′ c′) where
       some-front : (s : ℕ) → fromOf owners sources targets priorities letters states k m′ s ≡ true → Among o′ r s
-      some-front s e = go (y .moved .forth s (x .all s (still-waits m c m′ c′ (y .keeps m c (attracting-none m c)) s e)))
-        where
-          go : Among o′ n s → Among o′ r s
-          go q = which (decLt (q .0) r)
-            where
-              which : Dec (q .0 < r) → Among o′ r s
-              which (yes l) = (q .0, l, q .2)
-              which (no l) =
-                  absurd (true≢false (sym (and-r (ltb s states) (waiting k (getD m′ s 0)) e) ∙ ap (λ (t : ℕ). waiting k (getD m′ t 0)) (sym (q .2)) ∙ y .gone (q .0) (omega arith) (q .1)))
-
-      inside-after : (i : ℕ) → i < n → getD o′ i 0 < states
-      inside-after i h = let q = y .moved .back (getD o′ i 0) (i, h, refl) in subst (λ (t : ℕ). t < states) (q .2) (x .inside (q .0) (q .1))
+      some-front s e = in-front (λ t. waiting k (getD m′ t 0)) n r o′ (y .gone) s (and-r (ltb s states) (waiting k (getD m′ s 0)) e)
+          (y .moved .forth s (x .all s (still-waits m c m′ c′ (y .keeps m c (attracting-none m c)) s e)))
 
       finished : r ≡ n → Attracts owners sources targets priorities letters states k m₀ c₀ m′ c′ × ((i : ℕ) → i < r → waiting k (getD m′ (getD o′ i 0) 0) ≡ true)
       finished e =
@@ -475,7 +451,7 @@ module _ (owners sources targets priorities : List ℕ) (letters states : ℕ) (
         few = omega (arith, y .few, x .few);
         long = x .long;
         moved = order-of-order n₀ o₀ o o′ (x .moved) (wider-order n n₀ o o′ (x .few) (y .moved));
-        inside = λ i h. inside-after i (omega (arith, y .few));
+        inside = λ i h. inside-moved n states o o′ (y .moved) (x .inside) i (omega (arith, y .few));
         all = some-front;
         done = λ e. finished (omega (arith, y .few, lt-false r n e));
       }

@@ -1,14 +1,14 @@
 -- One state, by the first letter whose row passes. Assumes nothing.
-use Prim.Native.Nat.{ℕ, zero, suc, _+_, _*_, _≤_, _<_}
+use Prim.Native.Nat.{ℕ, _+_, _*_, _≤_, _<_}
 use native.Mathlib.Omega.{arith}
 use native.Mathlib.Nat.{suc-mul, mul-le-mul-right}
-use mathlib.Core.Path.{_≡_, refl, sym, ap, _∙_, subst}
+use mathlib.Core.Path.{_≡_, refl, sym, _∙_, subst}
 use mathlib.Core.Logic.{inl, inr}
 use mathlib.Core.Bool.{Bool, true, false, not, _&&_, _||_, true≢false, false≢true}
 use mathlib.Core.List.{List}
-use lib.ListN.{length, getD, set}
+use lib.ListN.{getD, set}
 use Rattle.attracting.specs.declared.Task.{Task}
-use Rattle.attracting.specs.Attracting.{opens, nearer, passing, First, waiting, owns, Rows, ownsAt, opensAt, nearsAt, StuckAt, AddableAt, chosen, forced, Visited}
+use Rattle.attracting.specs.Attracting.{opens, nearer, passing, First, waiting, owns, ownsAt, chosen, forced, Visited}
 
 -- ---- what passing says
 own-true : (x y : Bool) → x && ((y && true) || (not y && not true)) ≡ true → (x ≡ true) × (y ≡ true)

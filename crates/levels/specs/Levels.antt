@@ -8,10 +8,10 @@ use mathlib.Core.List.{List}
 use lib.Dec.{eqb, ltb}
 use lib.ListN.{length, getD}
 use Rattle.games.specs.Games.{serves}
-use Rattle.games.proofs.Regions.{Arena, Region, WonBy}
-use Rattle.orders.specs.Orders.{Among, Lists, Rearranged, Gathered, Painted}
+use Rattle.games.proofs.Regions.{Region, WonBy}
+use Rattle.orders.specs.Orders.{Among, Gathered, Painted}
 use Rattle.attracting.specs.declared.Task.{Task}
-use Rattle.attracting.specs.Attracting.{tableGame, fromOf, Attracts, Waits}
+use Rattle.attracting.specs.Attracting.{tableGame, Attracts, Waits}
 use Rattle.holding.specs.declared.Hold.{Hold}
 use Rattle.holding.specs.Holding.{Released}
 
@@ -61,7 +61,8 @@ module _ (owners sources targets priorities : List ℕ) (letters states : ℕ) w
     pub choices-long : length c ≡ length c₀
     pub outside : (s : ℕ) → live states m₀ s ≡ false → (getD m s 0 ≡ getD m₀ s 0) × (getD c s 0 ≡ getD c₀ s 0)
     pub inside : (s : ℕ) → live states m₀ s ≡ true → (j : Bool) × (getD m s 0 ≡ wonMark p j)
-    pub region : (j : Bool) → Region (tableGame owners sources targets priorities letters states) j p (live states m₀) (WonBy (live states m₀) (λ s. eqb (getD m s 0) (wonMark p true)) j) (λ s. getD c s 0)
+    pub region : (j : Bool)
+        → Region (tableGame owners sources targets priorities letters states) j p (live states m₀) (WonBy (live states m₀) (λ s. eqb (getD m s 0) (wonMark p true)) j) (λ s. getD c s 0)
 
   -- ---- one turn of a level, after what is left of its arena was solved one level up
   -- the first n states of the order are the arena: those with a mark of this turn. None is live

@@ -4,12 +4,12 @@ use native.Mathlib.Omega.{arith}
 use native.Mathlib.Decide.{ℕ-discrete, decLt}
 use mathlib.Core.Path.{_≡_, refl, sym, ap, _∙_, subst}
 use mathlib.Core.Logic.{_⊎_, inl, inr, _≢_}
-use mathlib.Core.Bool.{Bool, true, false, cond, true≢false}
+use mathlib.Core.Bool.{Bool, true, false, true≢false}
 use mathlib.Core.List.{List}
 use lib.ListN.{length, getD, set, length-set}
 use lib.Seq.{getD-set-same, getD-set-other}
 use Rattle.lists.proofs.Bools.{test}
-use Rattle.orders.specs.Orders.{Among, Lists, Rearranged, Swapped, Kept, Painted, Numbered}
+use Rattle.orders.specs.Orders.{Among, Lists, Rearranged, Swapped, Kept}
 
 -- ---- another order
 pub same-order : (n : ℕ) (o : List ℕ) → Rearranged n o o
@@ -51,17 +51,13 @@ lists-moved P n o o′ l a = record {
 pub lists-same : (P Q : ℕ → Bool) (n : ℕ) (o : List ℕ) → ((s : ℕ) → P s ≡ Q s) → Lists P n o → Lists Q n o
 lists-same P Q n o e l = record { long = l .long; each = λ i h. sym (e (getD o i 0)) ∙ l .each i h; all = λ s q. l .all s (e s ∙ q) }
 
--- a front of a list
-pub lists-front : (P Q : ℕ → Bool) (n r : ℕ) (o o′ : List ℕ) → Lists P n o → Rearranged n o o′ → r ≤ n → ((s : ℕ) → Q s ≡ true → P s ≡ true)
-    → ((i : ℕ) → i < r → Q (getD o′ i 0) ≡ true) → ((i : ℕ) → r ≤ i → i < n → Q (getD o′ i 0) ≡ false) → Lists Q r o′
-lists-front P Q n r o o′ l a few sub front others = record { long = omega (arith, l .long, a .long); each = front; all = λ s e. go s e (a .forth s (l .all s (sub s e))) }
+-- the front has all entries of Q
+pub in-front : (Q : ℕ → Bool) (n r : ℕ) (o : List ℕ) → ((i : ℕ) → r ≤ i → i < n → Q (getD o i 0) ≡ false) → (s : ℕ) → Q s ≡ true → Among o n s → Among o r s
+in-front Q n r o others s e h = go (decLt (h .0) r)
   where
-    go : (s : ℕ) → Q s ≡ true → Among o′ n s → Among o′ r s
-    go s e h = which (decLt (h .0) r)
-      where
-        which : Dec (h .0 < r) → Among o′ r s
-        which (yes q) = (h .0, q, h .2)
-        which (no q) = absurd (true≢false (sym e ∙ ap Q (sym (h .2)) ∙ others (h .0) (omega arith) (h .1)))
+    go : Dec (h .0 < r) → Among o r s
+    go (yes q) = (h .0, q, h .2)
+    go (no q) = absurd (true≢false (sym e ∙ ap Q (sym (h .2)) ∙ others (h .0) (omega arith) (h .1)))
 
 -- ---- two entries change places
 module _ (w i : ℕ) (o : List ℕ) (le : w ≤ i) (lt : i < length o) where

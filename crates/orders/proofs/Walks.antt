@@ -4,13 +4,13 @@ use native.Mathlib.Omega.{arith}
 use native.Mathlib.Decide.{ℕ-discrete}
 use mathlib.Core.Path.{_≡_, refl, sym, ap, _∙_, subst}
 use mathlib.Core.Logic.{_⊎_, inl, inr, _≢_}
-use mathlib.Core.Bool.{Bool, true, false, _||_, cond, true≢false, false≢true}
+use mathlib.Core.Bool.{Bool, true, false, _||_, cond, true≢false}
 use mathlib.Core.List.{List}
 use lib.Dec.{eqb}
 use lib.ListN.{length, getD, set, length-set}
 use lib.Seq.{getD-set-same, getD-set-other}
 use Rattle.lists.proofs.Bools.{test}
-use Rattle.orders.specs.Orders.{Among, Lists, Rearranged, Kept, marked, Gathered, Painted, Numbered}
+use Rattle.orders.specs.Orders.{Lists, Kept, marked, Gathered, Painted, Numbered}
 use Rattle.orders.proofs.Orders.{swapped, Parted, parted-none, parted-more, front-more, others-more}
 
 -- ---- one entry more

@@ -4,22 +4,21 @@ use native.Mathlib.Omega.{arith}
 use native.Mathlib.Decide.{decLt}
 use mathlib.Core.Path.{_≡_, refl, sym, ap, _∙_, subst}
 use mathlib.Core.Logic.{_⊎_, inl, inr, _≢_}
-use mathlib.Core.Bool.{Bool, true, false, not, _&&_, _||_, cond, true≢false}
+use mathlib.Core.Bool.{Bool, true, false, not, Bool·not-not}
 use mathlib.Core.List.{List}
 use lib.Dec.{eqb, ltb}
 use lib.ListN.{length, getD}
 use borrow.Author.Tests.{lt-ltb}
-use Rattle.lists.proofs.Bools.{eqb≡, ≡eqb, and-l, and-r, both, or-cases, or-left, lt-true}
+use Rattle.lists.proofs.Bools.{eqb≡, and-l, and-r, both, or-cases, lt-true}
 use Rattle.games.specs.Games.{serves}
-use Rattle.games.proofs.Sets.{not-not}
 use Rattle.orders.specs.Orders.{Among, Lists, Rearranged, marked, Gathered, Painted}
-use Rattle.orders.proofs.Orders.{order-of-order, wider-order, inside-moved}
+use Rattle.orders.proofs.Orders.{order-of-order, wider-order, inside-moved, lists-same, in-front}
 use Rattle.attracting.specs.declared.Task.{Task}
 use Rattle.attracting.specs.Attracting.{waiting, Rows, fromOf, Attracts, Waits}
 use Rattle.holding.specs.declared.Hold.{Hold}
 use Rattle.holding.specs.Holding.{Released}
-use Rattle.levels.specs.Levels.{wonMark, takenMark, lostTask, holdOf, heldTask, Turning, Loses, Holds, Turns, all-own, some-lost}
-use Rattle.levels.proofs.Levels.{won-low, won-high, won-other}
+use Rattle.levels.specs.Levels.{wonMark, takenMark, live, lostTask, holdOf, heldTask, Turning, Loses, Holds, Turns, all-own, some-lost}
+use Rattle.levels.proofs.Marks.{won-low, won-high, won-other, live-state, live-mark, mark-live, live-waits}
 
 -- ---- marks and tasks
 pub won-true : (p : ℕ) (plant : Bool) → plant ≡ true → 4 * p + 2 ≡ wonMark p plant
@@ -29,14 +28,24 @@ pub won-false : (p : ℕ) (plant : Bool) → plant ≡ false → 4 * p + 1 ≡ w
 won-false p plant e = rw e refl
 
 pub task-plant : (letters p : ℕ) (plant j : Bool) (live also to : ℕ) (rows : Bool) → plant ≡ j
-    → _≡_ {A = Task} (record { letters = letters; level = p; plant = plant; live = live; also = also; to = to; rows = rows }) (record { letters = letters; level = p; plant = j; live = live; also = also; to = to; rows = rows })
+    → _≡_ {A = Task} (record { letters = letters; level = p; plant = plant; live = live; also = also; to = to; rows = rows })
+    (record { letters = letters; level = p; plant = j; live = live; also = also; to = to; rows = rows })
 task-plant letters p plant j live also to rows e = ap (λ (z : Bool). record { letters = letters; level = p; plant = z; live = live; also = also; to = to; rows = rows }) e
 
 pub lost-is : (letters p : ℕ) (plant : Bool) (also to : ℕ) → plant ≡ serves p → also ≡ wonMark (p + 1) plant → to ≡ wonMark (p + 1) (not plant)
     → _≡_ {A = Task} (record { letters = letters; level = p; plant = not plant; live = takenMark p; also = also; to = to; rows = false }) (lostTask letters p)
-lost-is letters p plant also to e f g = λ i. record { letters = letters; level = p; plant = not (e i); live = takenMark p; also = (f ∙ ap (wonMark (p + 1)) e) i; to = (g ∙ ap (λ (z : Bool). wonMark (p + 1) (not z)) e) i; rows = false }
+lost-is letters p plant also to e f g = λ i. record {
+  letters = letters;
+  level = p;
+  plant = not (e i);
+  live = takenMark p;
+  also = (f ∙ ap (wonMark (p + 1)) e) i;
+  to = (g ∙ ap (λ (z : Bool). wonMark (p + 1) (not z)) e) i;
+  rows = false;
+}
 
-pub hold-is : (letters p held : ℕ) (plant j : Bool) → plant ≡ j → _≡_ {A = Hold} (record { letters = letters; level = p; plant = plant; held = held }) (record { letters = letters; level = p; plant = j; held = held })
+pub hold-is : (letters p held : ℕ) (plant j : Bool) → plant ≡ j
+    → _≡_ {A = Hold} (record { letters = letters; level = p; plant = plant; held = held }) (record { letters = letters; level = p; plant = j; held = held })
 hold-is letters p held plant j e = ap (λ (z : Bool). record { letters = letters; level = p; plant = z; held = held }) e
 
 -- ---- a list of states that are painted
@@ -64,7 +73,8 @@ marks-few-more h e f q = omega arith
 pub le-trans : {a b d : ℕ} → a ≤ b → b ≤ d → a ≤ d
 le-trans h l = omega arith
 
-pub hold-rows : (owners sources targets priorities : List ℕ) (letters states p : ℕ) (g : Hold) → g ≡ holdOf letters p → Rows owners sources targets priorities letters states → Rows owners sources targets priorities (g .letters) states
+pub hold-rows : (owners sources targets priorities : List ℕ) (letters states p : ℕ) (g : Hold) → g ≡ holdOf letters p → Rows owners sources targets priorities letters states
+    → Rows owners sources targets priorities (g .letters) states
 hold-rows owners sources targets priorities letters states p g e rows = subst (λ (z : Hold). Rows owners sources targets priorities (z .letters) states) (sym e) rows
 
 module _ (owners sources targets priorities : List ℕ) (letters states p : ℕ) (small : p ≤ 32) where
@@ -92,26 +102,20 @@ module _ (owners sources targets priorities : List ℕ) (letters states p : ℕ)
     held = subst (λ (t : Task). Painted (t .live) rest o′ m₂ m′) e z;
   }
 
-  pub loses-long : (n kept : ℕ) (o m c : List ℕ) (rest : ℕ) (o′ m′ c′ : List ℕ) → Loses owners sources targets priorities letters states p n kept o m c rest o′ m′ c′ → (length m′ ≡ length m) × (length c′ ≡ length c)
+  pub loses-long : (n kept : ℕ) (o m c : List ℕ) (rest : ℕ) (o′ m′ c′ : List ℕ) → Loses owners sources targets priorities letters states p n kept o m c rest o′ m′ c′
+      → (length m′ ≡ length m) × (length c′ ≡ length c)
   loses-long n kept o m c rest o′ m′ c′ l = (l .held .long ∙ l .theirs .long ∙ l .attracts .so-far .marks-long, l .attracts .so-far .choices-long)
 
   -- ---- what is still held
-  waiting-255 : (x : ℕ) → waiting (heldTask letters p) x ≡ true → x ≡ 255
-  waiting-255 x e = go (or-cases (eqb x 255) (eqb x 255) e)
-    where
-      go : (eqb x 255 ≡ true) ⊎ (eqb x 255 ≡ true) → x ≡ 255
-      go (inl t) = eqb≡ x 255 t
-      go (inr t) = eqb≡ x 255 t
-
   held-lists : (rest : ℕ) (o m c : List ℕ) (freed : ℕ) (o₁ m₁ : List ℕ) → Released owners sources targets priorities letters (holdOf letters p) rest o m c freed o₁ m₁ → rest ≤ length o
       → ((i : ℕ) → i < rest → getD o i 0 < states) → ((s : ℕ) → s < states → getD m s 0 ≢ 255)
       → Lists (fromOf owners sources targets priorities letters states (heldTask letters p) m₁) freed o₁
-  held-lists rest o m c freed o₁ m₁ d long inside none = record {
-    long = omega (arith, d .few, d .moved .long);
-    each = λ i h. both (ltb (getD o₁ i 0) states) (waiting (heldTask letters p) (getD m₁ (getD o₁ i 0) 0)) (lt-ltb (getD o₁ i 0) states (inside-moved rest states o o₁ (d .moved) inside i (omega (arith, d .few))))
-        (or-left (eqb (getD m₁ (getD o₁ i 0) 0) 255) (eqb (getD m₁ (getD o₁ i 0) 0) 255) (≡eqb (getD m₁ (getD o₁ i 0) 0) 255 (d .live i h)));
-    all = λ s e. all s (lt-true s states (and-l (ltb s states) (waiting (heldTask letters p) (getD m₁ s 0)) e)) (waiting-255 (getD m₁ s 0) (and-r (ltb s states) (waiting (heldTask letters p) (getD m₁ s 0)) e)) (d .each s);
-  }
+  held-lists rest o m c freed o₁ m₁ d long inside none =
+      lists-same (live states m₁) (fromOf owners sources targets priorities letters states (heldTask letters p) m₁) freed o₁ (live-waits states m₁) (record {
+        long = omega (arith, d .few, d .moved .long);
+        each = λ i h. mark-live states m₁ (getD o₁ i 0) (inside-moved rest states o o₁ (d .moved) inside i (omega (arith, d .few))) (d .live i h);
+        all = λ s e. all s (live-state states m₁ s e) (live-mark states m₁ s e) (d .each s);
+      })
     where
       all : (s : ℕ) → s < states → getD m₁ s 0 ≡ 255 → (getD m₁ s 0 ≡ getD m s 0) ⊎ Among o₁ freed s → Among o₁ freed s
       all s h e (inl q) = absurd (none s h (sym q ∙ e))
@@ -127,7 +131,8 @@ module _ (owners sources targets priorities : List ℕ) (letters states p : ℕ)
         held-lists rest o m c freed o₁ m₁ (subst (λ (z : Hold). Released owners sources targets priorities (z .letters) z rest o m c freed o₁ m₁) f d) long inside none,
       )
 
-  pub holds : (k : Task) (g : Hold) (own rest : ℕ) (o m c : List ℕ) (freed : ℕ) (o₁ m₁ : List ℕ) (again : ℕ) (o′ m₂ m₃ m′ c′ : List ℕ) → k ≡ heldTask letters p → g ≡ holdOf letters p → own ≡ wonMark p (k .plant)
+  pub holds : (k : Task) (g : Hold) (own rest : ℕ) (o m c : List ℕ) (freed : ℕ) (o₁ m₁ : List ℕ) (again : ℕ) (o′ m₂ m₃ m′ c′ : List ℕ)
+      → k ≡ heldTask letters p → g ≡ holdOf letters p → own ≡ wonMark p (k .plant)
       → Released owners sources targets priorities (g .letters) g rest o m c freed o₁ m₁
       → Attracts owners sources targets priorities (k .letters) states k m₁ c m₂ c′ × Waits owners sources targets priorities (k .letters) states k freed o₁ again o′ m₂
       → Painted own rest o′ m₂ m₃ → Painted 255 again o′ m₃ m′ → Holds owners sources targets priorities letters states p rest o m c again o′ m′ c′
@@ -161,17 +166,13 @@ module _ (owners sources targets priorities : List ℕ) (letters states p : ℕ)
         lists : Gathered (takenMark p) (wonMark (p + 1) (serves p)) n m o kept o₁ → Lists (fromOf owners sources targets priorities letters states (lostTask letters p) m) kept o₁
         lists g = record {
           long = omega (arith, g .few, g .moved .long, x .long);
-          each = λ i h. both (ltb (getD o₁ i 0) states) (waiting (lostTask letters p) (getD m (getD o₁ i 0) 0)) (lt-ltb (getD o₁ i 0) states (inside-moved n states o o₁ (g .moved) (x .inside) i (omega (arith, g .few)))) (g .front i h);
-          all = λ s u. all s (and-r (ltb s states) (waiting (lostTask letters p) (getD m s 0)) u)
-              (g .moved .forth s (x .marked-in s (lt-true s states (and-l (ltb s states) (waiting (lostTask letters p) (getD m s 0)) u)) (waiting-high (getD m s 0) (and-r (ltb s states) (waiting (lostTask letters p) (getD m s 0)) u))));
+          each = λ i h. both (ltb (getD o₁ i 0) states) (waiting (lostTask letters p) (getD m (getD o₁ i 0) 0))
+              (lt-ltb (getD o₁ i 0) states (inside-moved n states o o₁ (g .moved) (x .inside) i (omega (arith, g .few)))) (g .front i h);
+          all = λ s u. all s (lt-true s states (and-l (ltb s states) (waiting (lostTask letters p) (getD m s 0)) u)) (and-r (ltb s states) (waiting (lostTask letters p) (getD m s 0)) u);
         }
           where
-            all : (s : ℕ) → waiting (lostTask letters p) (getD m s 0) ≡ true → Among o₁ n s → Among o₁ kept s
-            all s u q = go (decLt (q .0) kept)
-              where
-                go : Dec (q .0 < kept) → Among o₁ kept s
-                go (yes l) = (q .0, l, q .2)
-                go (no l) = absurd (true≢false (sym u ∙ ap (marked (takenMark p) (wonMark (p + 1) (serves p)) m) (sym (q .2)) ∙ g .others (q .0) (omega arith) (q .1)))
+            all : (s : ℕ) → s < states → waiting (lostTask letters p) (getD m s 0) ≡ true → Among o₁ kept s
+            all s h u = in-front (marked (takenMark p) (wonMark (p + 1) (serves p)) m) n kept o₁ (g .others) s u (g .moved .forth s (x .marked-in s h (waiting-high (getD m s 0) u)))
 
     pub gather-asks : (size : ℕ) → states ≤ size → (n ≤ length o) × ((i : ℕ) → i < n → getD o i 0 < size)
     gather-asks size le = (x .long, λ i h. omega (arith, x .inside i h))
@@ -186,10 +187,12 @@ module _ (owners sources targets priorities : List ℕ) (letters states p : ℕ)
         front-asks n rest (length o′) (λ i. getD o′ i 0) states (omega (arith, l .waits .few, g .few))
         (paint-asks-twice states n kept o o₁ o′ states (g .few) (x .long) (x .inside) (g .moved) (l .waits .moved) (omega arith))
 
-    pub none-live-yet : (kept : ℕ) (o₁ c : List ℕ) (rest : ℕ) (o′ m′ c′ : List ℕ) → Loses owners sources targets priorities letters states p n kept o₁ m c rest o′ m′ c′ → (s : ℕ) → s < states → getD m′ s 0 ≢ 255
+    pub none-live-yet : (kept : ℕ) (o₁ c : List ℕ) (rest : ℕ) (o′ m′ c′ : List ℕ) → Loses owners sources targets priorities letters states p n kept o₁ m c rest o′ m′ c′
+        → (s : ℕ) → s < states → getD m′ s 0 ≢ 255
     none-live-yet kept o₁ c rest o′ m′ c′ l s h = held (l .held .each s)
       where
-        first : (getD (l .m₁) s 0 ≡ getD m s 0) ⊎ ((fromOf owners sources targets priorities letters states (lostTask letters p) m s ≡ true) × (getD (l .m₁) s 0 ≡ wonMark (p + 1) (not (serves p)))) → getD (l .m₁) s 0 ≢ 255
+        first : (getD (l .m₁) s 0 ≡ getD m s 0) ⊎ ((fromOf owners sources targets priorities letters states (lostTask letters p) m s ≡ true) × (getD (l .m₁) s 0 ≡ wonMark (p + 1) (not (serves p))))
+            → getD (l .m₁) s 0 ≢ 255
         first (inl e) = λ z. x .none-live s h (sym e ∙ z)
         first (inr e) = λ z. absurd (omega (arith, e .1, z, won-high (p + 1) (not (serves p))))
 
@@ -201,11 +204,12 @@ module _ (owners sources targets priorities : List ℕ) (letters states p : ℕ)
         held (inl e) = λ z. absurd (omega (arith, e, z))
         held (inr e) = λ z. theirs (l .theirs .each s) (sym e ∙ z)
 
-    pub turns-own : (k : Task) (kept own : ℕ) (c o′ m′ : List ℕ) → k ≡ lostTask letters p → kept ≡ n → own ≡ wonMark p (not (k .plant)) → Gathered (k .live) (k .also) n m o kept o′ → Painted own n o′ m m′
+    pub turns-own : (k : Task) (kept own : ℕ) (c o′ m′ : List ℕ) → k ≡ lostTask letters p → kept ≡ n → own ≡ wonMark p (not (k .plant))
+        → Gathered (k .live) (k .also) n m o kept o′ → Painted own n o′ m m′
         → Turns owners sources targets priorities letters states p n o m c 0 o′ m′ c
     turns-own k kept own c o′ m′ e f w g y =
         all-own refl (subst (λ (z : ℕ). Gathered (takenMark p) (wonMark (p + 1) (serves p)) n m o z o′) f (subst (λ (t : Task). Gathered (t .live) (t .also) n m o kept o′) e g))
-        (subst (λ (b : ℕ). Painted b n o′ m m′) (w ∙ ap (λ (t : Task). wonMark p (not (t .plant))) e ∙ ap (wonMark p) (not-not (serves p))) y) refl
+        (subst (λ (b : ℕ). Painted b n o′ m m′) (w ∙ ap (λ (t : Task). wonMark p (not (t .plant))) e ∙ ap (wonMark p) (Bool·not-not (serves p))) y) refl
 
     pub turns-lost : (k : Task) (kept rest : ℕ) (c o₁ o₂ m₁ c₁ : List ℕ) (again : ℕ) (o′ m′ c′ : List ℕ) → k ≡ lostTask letters p → kept ≢ n → Gathered (k .live) (k .also) n m o kept o₁
         → Loses owners sources targets priorities letters states p n kept o₁ m c rest o₂ m₁ c₁ → Holds owners sources targets priorities letters states p rest o₂ m₁ c₁ again o′ m′ c′

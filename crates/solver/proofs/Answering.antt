@@ -4,22 +4,22 @@ use native.Mathlib.Omega.{arith}
 use native.Mathlib.Decide.{ℕ-discrete}
 use mathlib.Core.Path.{_≡_, refl, sym, ap, ap₂, _∙_, subst}
 use mathlib.Core.Logic.{_⊎_, inl, inr, _≢_}
-use mathlib.Core.Bool.{Bool, true, false, not, _&&_, cond, true≢false, false≢true}
+use mathlib.Core.Bool.{Bool, true, false, cond}
 use mathlib.Core.List.{List}
 use lib.Dec.{eqb, ltb}
 use lib.ListN.{length, getD, set, take, length-set, length-take}
 use lib.Seq.{getD-set-same, getD-set-other, getD-take}
 use borrow.Author.Tests.{lt-ltb}
-use Rattle.lists.proofs.Bools.{test, eqb≡, ≡eqb, neqb, and-l, and-r, both, lt-true, bool-ext}
+use Rattle.lists.proofs.Bools.{test, ≡eqb, neqb, and-l, both, not-itself, lt-true, bool-ext}
 use Rattle.games.specs.Games.{Game, Total, Solved}
-use Rattle.games.proofs.Sets.{differ}
-use Rattle.games.proofs.Regions.{Row, Arena, Region, WonBy, Solution}
+use Rattle.games.proofs.Regions.{Arena, Solution}
 use Rattle.games.proofs.Peel.{region-move}
 use Rattle.games.proofs.Plays.{solution-solved, solved-with}
 use Rattle.games.proofs.Agree.{solved-agree}
 use Rattle.orders.specs.Orders.{Lists, Numbered}
 use Rattle.attracting.specs.Attracting.{owns, Rows, tableGame}
 use Rattle.levels.specs.Levels.{wonMark, live, Headed, SolvedAt}
+use Rattle.levels.proofs.Marks.{out-of-range}
 use Rattle.solver.specs.Answers.{Fills, Finished, Answers}
 use Rattle.attracting.proofs.Sweeping.{owns-true, owns-false}
 
@@ -158,7 +158,7 @@ module _ (owners sources targets priorities : List ℕ) (letters states : ℕ) (
             go : (owns (eqb (getD w s 0) 1) (getD owners (getD sources s 0) 0) ≡ true) ⊎ (owns (eqb (getD w s 0) 1) (getD owners (getD sources s 0) 0) ≡ false)
                 → cond (owns (eqb (getD w s 0) 1) (getD owners (getD sources s 0) 0)) (getD c s 0) 255 ≡ getD c s 0
             go (inl t) = rw t refl
-            go (inr n) = absurd (differ (eqb (getD w s 0) 1) (winner-same s h ∙ sym o ∙ owns-false (eqb (getD w s 0) 1) (getD owners (getD sources s 0) 0) n))
+            go (inr n) = absurd (not-itself (eqb (getD w s 0) 1) (winner-same s h ∙ sym o ∙ owns-false (eqb (getD w s 0) 1) (getD owners (getD sources s 0) 0) n))
 
         letter-none : (s : ℕ) → s < states → G .owner s ≢ eqb (getD w s 0) 1 → getD l s 0 ≡ 255
         letter-none s h o = letter-is s h ∙ go (test (owns (eqb (getD w s 0) 1) (getD owners (getD sources s 0) 0)))
@@ -175,13 +175,6 @@ module _ (owners sources targets priorities : List ℕ) (letters states : ℕ) (
             go (inl e) = omega (arith, f .marks-done s h)
             go (inr e) = omega (arith, f .marks-done s h)
 
-        past-out : (s : ℕ) → states ≤ s → live states m₀ s ≡ false
-        past-out s h = go (test (live states m₀ s))
-          where
-            go : (live states m₀ s ≡ true) ⊎ (live states m₀ s ≡ false) → live states m₀ s ≡ false
-            go (inl t) = absurd (omega (arith, lt-true s states (sym (all-live s) ∙ t)))
-            go (inr n) = n
-
         pub answers : Answers owners sources targets priorities letters states w₀ c₀ w l
         answers = record {
           winners-long = f .marks-long ∙ b .marks-long ∙ x .long;
@@ -189,8 +182,8 @@ module _ (owners sources targets priorities : List ℕ) (letters states : ℕ) (
           winner-few = few;
           solved = solved-with G 10 total (λ s. eqb (getD m s 0) (wonMark 0 true)) (λ s. eqb (getD w s 0) 1) (λ s. getD c s 0) (λ s. getD l s 0) solved winner-same letter-kept;
           no-letter = letter-none;
-          winners-past = λ s h. f .marks-rest s h ∙ b .outside s (past-out s h) .0 ∙ x .rest s h;
-          letters-past = λ s h. f .choices-rest s h ∙ b .outside s (past-out s h) .1;
+          winners-past = λ s h. f .marks-rest s h ∙ b .outside s (out-of-range states m₀ s h) .0 ∙ x .rest s h;
+          letters-past = λ s h. f .choices-rest s h ∙ b .outside s (out-of-range states m₀ s h) .1;
         }
 
 -- ---- a part of the sources

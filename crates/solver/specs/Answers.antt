@@ -6,7 +6,7 @@ use mathlib.Core.Bool.{cond}
 use mathlib.Core.List.{List}
 use lib.Dec.{eqb}
 use lib.ListN.{length, getD}
-use Rattle.games.specs.Games.{Game, Solved}
+use Rattle.games.specs.Games.{Solved}
 use Rattle.attracting.specs.Attracting.{owns, tableGame}
 
 -- the places before n hold 255

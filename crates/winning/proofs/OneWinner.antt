@@ -12,7 +12,7 @@ use lib.Dec.{ltb}
 use lib.ListN.{length, getD}
 use borrow.Author.Tests.{lt-ltb}
 use Rattle.lists.specs.Lists.{below}
-use Rattle.lists.proofs.Bools.{test, bool-ext}
+use Rattle.lists.proofs.Bools.{test, bool-ext, not-itself, same-or-not}
 use Rattle.lists.proofs.Lists.{each-all, map-mem, length-map-below}
 use Rattle.masks.specs.Masks.{has}
 use Rattle.masks.proofs.Bits.{mask-ext}
@@ -23,7 +23,7 @@ use Rattle.automaton.specs.Automaton.{built, stateAt, rowTarget}
 use Rattle.judging.specs.Judging.{nonEmpty, inRange}
 use Rattle.correctness.specs.Demand3.{Recurs, coloursMet}
 use Rattle.games.specs.Games.{serves, Solved}
-use Rattle.games.proofs.Sets.{player, differ, is, is-true, true-is}
+use Rattle.games.proofs.Sets.{is, is-true, true-is}
 use Rattle.supervision.specs.Supervision.{playerOf, gameOf}
 use Rattle.supervision.proofs.Rows.{row-leads}
 use Rattle.solving.specs.Solving.{winnerOf}
@@ -89,7 +89,7 @@ module _ (p : Policy) (ok : legal p ≡ true) (few : length (built p) ≤ 65535)
     pick-right x y o = rw (other (test (is (w s) (owner x))))
       where
         other : (is (w s) (owner x) ≡ true) ⊎ (is (w s) (owner x) ≡ false) → is (w s) (owner x) ≡ false
-        other (inl e) = absurd (differ (w s) (sym (is-true (w s) (owner x) e) ∙ o ∙ apart))
+        other (inl e) = absurd (not-itself (w s) (sym (is-true (w s) (owner x) e) ∙ o ∙ apart))
         other (inr e) = e
 
     pick-legal : (x y : ℕ) → Both x y → (owner x ≡ w s) ⊎ (owner x ≡ not (w s)) → pick (x, y) < p .letters
@@ -101,7 +101,7 @@ module _ (p : Policy) (ok : legal p ≡ true) (few : length (built p) ≤ 65535)
     both-next : (x y : ℕ) → Both x y → Both (rowTarget p x (pick (x, y))) (rowTarget p y (pick (x, y)))
     both-next x y b =
         let a = pick (x, y) in
-        let l = pick-legal x y b (player (owner x) (w s)) in
+        let l = pick-legal x y b (same-or-not (owner x) (w s)) in
         let u = row-leads p ok x a (b .left-built) l in
         let v = row-leads p ok y a (b .right-built) l in
         record {
@@ -118,7 +118,7 @@ module _ (p : Policy) (ok : legal p ≡ true) (few : length (built p) ≤ 65535)
     both-at (suc n) = both-next (left n) (right n) (both-at n)
 
     letter-lt : (n : ℕ) → letter n < p .letters
-    letter-lt n = pick-legal (left n) (right n) (both-at n) (player (owner (left n)) (w s))
+    letter-lt n = pick-legal (left n) (right n) (both-at n) (same-or-not (owner (left n)) (w s))
 
     -- ---- the pair comes back: both runs read one stem and one loop
     module _ (from period : ℕ) (pairs : Periodic pair from period) where
@@ -184,7 +184,7 @@ module _ (p : Policy) (ok : legal p ≡ true) (few : length (built p) ≤ 65535)
           .least (two .least) (two .in-the-game (two .least) .1 refl)
 
       contradiction : ⊥
-      contradiction = differ (w s) (sym left-serves ∙ same-parity ∙ right-serves ∙ apart)
+      contradiction = not-itself (w s) (sym left-serves ∙ same-parity ∙ right-serves ∙ apart)
 
     abbrev S : ℕ
     S = length (built p)
@@ -208,7 +208,7 @@ module _ (p : Policy) (ok : legal p ≡ true) (few : length (built p) ≤ 65535)
         contradiction (r .0) (r .1 - r .0) (comes-back pair (λ n. next) (λ n. refl) (r .0) (r .1 - r .0) (omega (arith, r .2)) (λ n y. refl) (ap pair e ∙ r .3))
 
   pub solution-one-winner : (s t : ℕ) → s < length (built p) → t < length (built p) → stateAt p s .state ≡ stateAt p t .state → w t ≡ w s
-  solution-one-winner s t hs ht same = go (player (w t) (w s))
+  solution-one-winner s t hs ht same = go (same-or-not (w t) (w s))
     where
       go : (w t ≡ w s) ⊎ (w t ≡ not (w s)) → w t ≡ w s
       go (inl e) = e

@@ -7,10 +7,9 @@ use mathlib.Core.Path.{_≡_, refl, sym, ap, _∙_}
 use mathlib.Core.Logic.{_≢_}
 use mathlib.Core.Bool.{Bool, true, false, not, cond}
 use lib.Dec.{eqb}
-use Rattle.lists.proofs.Bools.{neqb}
+use Rattle.lists.proofs.Bools.{neqb, not-itself}
 use Rattle.forest.specs.Forest.{even}
 use Rattle.games.specs.Games.{serves, often, Recurs, Least, Won}
-use Rattle.games.proofs.Sets.{differ}
 use Rattle.games.proofs.Priorities.{won}
 use Rattle.winning.proofs.Periods.{Periodic, met-recurs, recurs-soon}
 
@@ -79,7 +78,7 @@ module _ (f : ℕ → ℕ) where
     lowest-won levels high = won f levels high (serves k) (from + period) (λ l bad n m above. few l bad n m above (decLt l k))
       where
         apart : (l : ℕ) → serves l ≡ not (serves k) → l ≢ k
-        apart l bad e = differ (serves k) (sym (ap serves e) ∙ bad)
+        apart l bad e = not-itself (serves k) (sym (ap serves e) ∙ bad)
 
         few : (l : ℕ) → serves l ≡ not (serves k) → (n m : ℕ) → ((i : ℕ) → i < m → l ≤ f (n + i)) → Dec (l < k) → often f l n m ≤ from + period
         few l bad n m above (yes g) = omega (arith, often-early l from (λ i late e. omega (arith, low i late)) n m)

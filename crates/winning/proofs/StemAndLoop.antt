@@ -6,7 +6,7 @@ use native.Mathlib.Decide.{decLt}
 use native.Mathlib.Nat.{suc-mul, add-mul, le-mul-of-pos-right, mod-lt, div-add-mod', le-div-iff-mul-le, lt-div-mul-add, le-antisymm}
 use mathlib.Core.Path.{_≡_, refl, sym, ap, _∙_, subst}
 use mathlib.Core.Logic.{_↔_}
-use mathlib.Core.Bool.{Bool, true, not, false≢true}
+use mathlib.Core.Bool.{Bool, true, not, Bool·not-not, false≢true}
 use mathlib.Core.List.{List, [], _∷_, List·Memᴰ, List·Memᴰ·head, List·Memᴰ·eq-of-singleton}
 use lib.Dec.{ltb}
 use lib.ListN.{length, getD}
@@ -31,7 +31,6 @@ use Rattle.correctness.proofs.Joint.{stands-after}
 use Rattle.correctness.proofs.Period.{Settled, settled}
 use Rattle.correctness.proofs.Sequences.{roundStart, recurs-along}
 use Rattle.games.specs.Games.{serves, Follows, Least, Won, Solved, Recurs as RecursInPlay}
-use Rattle.games.proofs.Sets.{not-not}
 use Rattle.supervision.specs.Supervision.{playerOf, gameOf}
 use Rattle.supervision.proofs.Rows.{row-leads, total}
 use Rattle.solving.specs.Solving.{winnerOf}
@@ -222,4 +221,4 @@ serves-winner p ok owners stem loop state letter play w c solved follows l = rec
     served = solved .wins state letter (play .begins) follows .least (l .least) (l .in-the-game (l .least) .1 refl) ∙ sym (winner-player p ok owners w c solved (state 0) (play .begins))
 
     parity : even (l .least) ≡ not (playerOf (winnerOf p owners (state 0)))
-    parity = sym (not-not (even (l .least))) ∙ ap not (sym (serves-odd (l .least)) ∙ served)
+    parity = sym (Bool·not-not (even (l .least))) ∙ ap not (sym (serves-odd (l .least)) ∙ served)

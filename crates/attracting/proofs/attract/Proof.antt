@@ -1,7 +1,6 @@
 use Rattle.attracting.proofs.Sweeping.{Attraction, sweepsLeft, attraction-none, attraction-more, attracts-waits, sweeps-fewer}
 use lib.ListN.{length}
 use native.Mathlib.Omega.{arith}
-use borrow.Author.Needs.{needs}
 use Rattle.attracting.proofs.attract.Statement.{statement}
 use Rattle.attracting.proofs.attract.Tie as tie
 use Rattle.attracting.proofs.attract.Reads as reads

@@ -1,4 +1,3 @@
-use native.Mathlib.Omega.{arith}
 use borrow.Author.Needs.{needs}
 use Rattle.attracting.specs.Attracting.{owns}
 use Rattle.attracting.proofs.is_own.Statement.{statement}

@@ -1,4 +1,3 @@
-use native.Mathlib.Omega.{arith}
 use borrow.Author.Needs.{needs}
 use Rattle.attracting.specs.Attracting.{passing}
 use Rattle.attracting.proofs.passes.Statement.{statement}

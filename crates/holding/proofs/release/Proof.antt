@@ -1,7 +1,6 @@
 use Rattle.orders.proofs.Orders.{inside-moved}
 use Rattle.holding.proofs.Sifting.{Releasing, siftsLeft, releasing-none, releasing-more, released, sifts-fewer}
 use native.Mathlib.Omega.{arith}
-use borrow.Author.Needs.{needs}
 use Rattle.holding.proofs.release.Statement.{statement}
 use Rattle.holding.proofs.release.Tie as tie
 use Rattle.holding.proofs.release.Reads as reads

@@ -1,5 +1,4 @@
 use Rattle.holding.proofs.Sifting.{set-yes, set-no}
-use native.Mathlib.Omega.{arith}
 use borrow.Author.Needs.{needs}
 use Rattle.holding.proofs.set_if.Statement.{statement}
 use Rattle.holding.proofs.set_if.Tie as tie

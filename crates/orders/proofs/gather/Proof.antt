@@ -1,5 +1,5 @@
 use Rattle.orders.proofs.Walks.{Gathering, gathering-none, gathering-more, gathered}
-use Prim.Native.Nat.{_-_, _≤_}
+use Prim.Native.Nat.{_-_}
 use native.Mathlib.Omega.{arith}
 use borrow.Author.Needs.{needs}
 use Rattle.orders.proofs.gather.Statement.{statement}

@@ -1,4 +1,4 @@
-use lib.ListN.{length, length-set}
+use lib.ListN.{length-set}
 use Rattle.orders.proofs.Walks.{kept-yes, kept-no}
 use native.Mathlib.Omega.{arith}
 use borrow.Author.Needs.{needs}

@@ -2,7 +2,6 @@ use Rattle.orders.proofs.Walks.{numbered-none, numbered-more, numbered-
 use Rattle.orders.specs.Orders.{Numbered}
 use Prim.Native.Nat.{_-_, _≤_}
 use native.Mathlib.Omega.{arith}
-use borrow.Author.Needs.{needs}
 use Rattle.orders.proofs.number.Statement.{statement}
 use Rattle.orders.proofs.number.Tie as tie
 use Rattle.orders.proofs.number.Reads as reads

@@ -3,7 +3,6 @@ use Rattle.recursion.proofs.Steps.{marks-few}
 use lib.ListN.{length}
 use Prim.Native.Nat.{ℕ, _-_, _<_}
 use native.Mathlib.Omega.{arith}
-use borrow.Author.Needs.{needs}
 use borrow.Fn.Kinds.{In}
 use borrow.Fn.PlainCycle.{Measures, is, falls, and}
 use Rattle.recursion.proofs.solve.Reads as solve

@@ -1,5 +1,4 @@
 use Rattle.recursion.proofs.Steps.{hold-is}
-use native.Mathlib.Omega.{arith}
 use borrow.Author.Needs.{needs}
 use Rattle.recursion.proofs.hold_of.Statement.{statement}
 use Rattle.recursion.proofs.hold_of.Tie as tie

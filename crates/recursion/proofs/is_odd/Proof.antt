@@ -1,5 +1,4 @@
 use Rattle.games.specs.Games.{serves}
-use native.Mathlib.Omega.{arith}
 use borrow.Author.Needs.{needs}
 use Rattle.recursion.proofs.is_odd.Statement.{statement}
 use Rattle.recursion.proofs.is_odd.Tie as tie

@@ -1,5 +1,4 @@
 use Rattle.recursion.proofs.Steps.{gather-asks, lose-asks, gathered-lists, hold-asks, none-live-yet, loses-long, turns-own, turns-lost}
-use lib.ListN.{length}
 use native.Mathlib.Omega.{arith}
 use borrow.Author.Needs.{needs}
 use Rattle.recursion.proofs.turn.Statement.{statement}

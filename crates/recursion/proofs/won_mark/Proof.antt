@@ -1,5 +1,4 @@
 use Rattle.recursion.proofs.Steps.{won-true, won-false}
-use native.Mathlib.Omega.{arith}
 use borrow.Author.Needs.{needs}
 use Rattle.recursion.proofs.won_mark.Statement.{statement}
 use Rattle.recursion.proofs.won_mark.Tie as tie

@@ -2,7 +2,6 @@ use Rattle.solver.proofs.Answering.{filled-none, filled-more, filled-al
 use Rattle.solver.specs.Answers.{Fills}
 use Prim.Native.Nat.{_-_, _≤_}
 use native.Mathlib.Omega.{arith}
-use borrow.Author.Needs.{needs}
 use Rattle.solver.proofs.fill.Statement.{statement}
 use Rattle.solver.proofs.fill.Tie as tie
 use Rattle.solver.proofs.fill.Reads as reads
