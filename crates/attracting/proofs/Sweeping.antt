@@ -18,7 +18,7 @@ use Rattle.games.proofs.Attract.{Complete, Addable, by-choice, by-force, letter
 use Rattle.orders.specs.Orders.{Among, Lists, Rearranged, Kept}
 use Rattle.orders.proofs.Orders.{same-order, order-of-order, wider-order, inside-moved, in-front, Parted, parted-none, parted-more, front-more, others-more}
 use Rattle.attracting.specs.declared.Task.{Task}
-use Rattle.attracting.specs.Attracting.{isIn, waiting, owns, Rows, tableGame, opensAt, nearsAt, StuckAt, AddableAt, chosen, forced, Visited, arenaOf, fromOf, hitOf, setOf, Attracting, Swept, Attracts, Waits}
+use Rattle.attracting.specs.Attracting.{isIn, Apart, waiting, owns, Rows, tableGame, opensAt, nearsAt, StuckAt, AddableAt, chosen, forced, Visited, arenaOf, fromOf, hitOf, setOf, Attracting, Swept, Attracts, Waits}
 use Rattle.attracting.proofs.Outcome.{to-waits}
 
 pub owns-true : (plant : Bool) (o : ℕ) → owns plant o ≡ true → eqb o 1 ≡ plant
@@ -81,7 +81,7 @@ module _ (owners sources targets priorities : List ℕ) (letters states : ℕ) (
       pub done : again ≡ false → Attracts owners sources targets priorities letters states k m₀ c₀ m c × ((i : ℕ) → i < n → waiting k (getD m (getD o i 0) 0) ≡ true)
 
 module _ (owners sources targets priorities : List ℕ) (letters states : ℕ) (k : Task) (rows : Rows owners sources targets priorities letters states)
-    (not-live : k .to ≢ k .live) (not-also : k .to ≢ k .also) where
+    (apart : Apart k) where
   abbrev G : Game
   G = tableGame owners sources targets priorities letters states
 
@@ -95,17 +95,21 @@ module _ (owners sources targets priorities : List ℕ) (letters states : ℕ) (
   nearing = nearsAt owners sources targets priorities letters states k
 
   waiting-in : (m : ℕ) → waiting k m ≡ true → isIn k m ≡ true
-  waiting-in m e = or-left (waiting k m) (eqb m (k .to)) e
+  waiting-in m e = go (or-cases (eqb m (k .live)) (eqb m (k .also)) e)
+    where
+      go : (eqb m (k .live) ≡ true) ⊎ (eqb m (k .also) ≡ true) → isIn k m ≡ true
+      go (inl t) = le-leb (k .floor) m (omega (arith, eqb≡ m (k .live) t, apart .live-in))
+      go (inr t) = le-leb (k .floor) m (omega (arith, eqb≡ m (k .also) t, apart .also-in))
 
   to-in : (m : ℕ) → m ≡ k .to → isIn k m ≡ true
-  to-in m e = or-right (waiting k m) (eqb m (k .to)) (≡eqb m (k .to) e)
+  to-in m e = le-leb (k .floor) m (omega (arith, apart .to-in))
 
   waiting-not : (m : ℕ) → waiting k m ≡ true → m ≢ k .to
   waiting-not m e q = go (or-cases (eqb m (k .live)) (eqb m (k .also)) e)
     where
       go : (eqb m (k .live) ≡ true) ⊎ (eqb m (k .also) ≡ true) → ⊥
-      go (inl t) = not-live (sym q ∙ eqb≡ m (k .live) t)
-      go (inr t) = not-also (sym q ∙ eqb≡ m (k .also) t)
+      go (inl t) = apart .not-live (sym q ∙ eqb≡ m (k .live) t)
+      go (inr t) = apart .not-also (sym q ∙ eqb≡ m (k .also) t)
 
   choices-kept : (m : List ℕ) (s : ℕ) (c c′ : List ℕ) → AddableAt owners sources targets priorities letters states k m s c c′ → length c′ ≡ length c
   choices-kept m s c c′ (chosen o a l op ne e) = ap length e ∙ length-set c s a
@@ -355,7 +359,7 @@ module _ (owners sources targets priorities : List ℕ) (letters states : ℕ) (
       where
         go : Goes → waiting k (getD m″ s 0) ≡ false
         go (inl y) = ap (λ (z : List ℕ). waiting k (getD z s 0)) (y .1) ∙ y .0
-        go (inr y) = ap (waiting k) (ap (λ (l : List ℕ). getD l s 0) (y .1) ∙ getD-set-same m′ s (k .to) 0 (omega (arith, x .marks-long))) ∙ to-waits k not-live not-also
+        go (inr y) = ap (waiting k) (ap (λ (l : List ℕ). getD l s 0) (y .1) ∙ getD-set-same m′ s (k .to) 0 (omega (arith, x .marks-long))) ∙ to-waits k apart
 
     flips : (z : Bool) → not left ≡ z → left ≡ not z
     flips z e = sym (Bool·not-not left) ∙ ap not e

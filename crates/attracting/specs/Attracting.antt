@@ -1,7 +1,7 @@
 -- The game of row tables, and sets of its states by their marks.
 use Prim.Native.Nat.{ℕ, _+_, _*_, _≤_, _<_}
 use mathlib.Core.Path.{_≡_}
-use mathlib.Core.Logic.{_⊎_}
+use mathlib.Core.Logic.{_⊎_, _≢_}
 use mathlib.Core.Bool.{Bool, true, false, not, _&&_, _||_}
 use mathlib.Core.List.{List}
 use lib.Dec.{eqb, ltb, leb}
@@ -12,8 +12,9 @@ use Rattle.orders.specs.Orders.{Rearranged, Lists}
 use Rattle.attracting.specs.declared.Task.{Task}
 
 -- ---- rows
+-- a mark of the arena
 abbrev pub isIn : Task → ℕ → Bool
-isIn k m = eqb m (k .live) || eqb m (k .also) || eqb m (k .to)
+isIn k m = leb (k .floor) m
 
 abbrev pub opens : Task → ℕ → ℕ → Bool
 opens k q m = leb (k .level) q && isIn k m
@@ -28,6 +29,14 @@ pub record First (k : Task) (own : Bool) (targets priorities marks : List ℕ) (
   pub few : r ≤ letters
   pub before : (a : ℕ) → a < r → passing k own (getD priorities (row + a) 0) (getD marks (getD targets (row + a) 0) 0) ≡ false
   pub found : r < letters → passing k own (getD priorities (row + r) 0) (getD marks (getD targets (row + r) 0) 0) ≡ true
+
+-- the marks of a task: all in the arena, and the goal's apart from the others
+pub record Apart (k : Task) : Type 0 where
+  pub not-live : k .to ≢ k .live
+  pub not-also : k .to ≢ k .also
+  pub live-in : k .floor ≤ k .live
+  pub also-in : k .floor ≤ k .also
+  pub to-in : k .floor ≤ k .to
 
 -- the mark of a state that may be attracted
 abbrev pub waiting : Task → ℕ → Bool

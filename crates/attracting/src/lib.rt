@@ -1,18 +1,18 @@
 // What a player attracts in the game of row tables, in place: the mark of a state says what set it is in, and the letter that attracted it is kept beside it.
 // A game is four tables, and what is attracted is written to the marks and the letters, so a function that walks a list of states has nine parameters.
 ghost use mathlib.Core.Path.{_≡_};
-ghost use mathlib.Core.Logic.{_≢_};
 ghost use Prim.Native.Nat.{ℕ, _+_, _*_, _≤_, _<_};
 ghost use lib.ListN.{length, getD};
 ghost use Rattle.orders.specs.Orders.{Lists};
-ghost use Rattle.attracting.specs.Attracting.{isIn, passing, First, owns, Rows, fromOf, Visited, Swept, Attracts, Waits};
+ghost use Rattle.attracting.specs.Attracting.{isIn, Apart, passing, First, owns, Rows, fromOf, Visited, Swept, Attracts, Waits};
 
 // What is attracted, in a game with so many letters: at a level, for a player (the plant is true), states marked live or also, to those marked to; and, if
-// rows, to rows of that level too.
+// rows, to rows of that level too. The arena are the states with a mark of at least floor.
 pub struct Task {
     pub letters: usize,
     pub level: u8,
     pub plant: bool,
+    pub floor: u8,
     pub live: u8,
     pub also: u8,
     pub to: u8,
@@ -30,7 +30,7 @@ pub fn place8(v: u8) -> usize
 fn is_in(k: Task, mark: u8) -> bool
     ensures { λ r. ⌜ r ≡ isIn k mark ⌝ }
 {
-    (mark == k.live) | (mark == k.also) | (mark == k.to)
+    k.floor <= mark
 }
 
 // Whether a row of the arena leads nearer (own), or does not (else).
@@ -129,7 +129,7 @@ fn sweep(
     choices: &mut [u8],
 ) -> usize
     requires rows { ⌜ Rows (now owners) (now sources) (now targets) (now priorities) (k .letters) (length (now sources)) ⌝ }
-    requires apart { ⌜ (k .to ≢ k .live) × (k .to ≢ k .also) ⌝ }
+    requires apart { ⌜ Apart k ⌝ }
     requires long { ⌜ (length (now sources) ≤ length (now marks)) × (length (now sources) ≤ length (now choices)) ⌝ }
     requires order { ⌜ (n ≤ length (now order)) × ((i : ℕ) → i < n → getD (now order) i 0 < length (now sources)) ⌝ }
     ensures { λ r. ⌜ Swept (now (owners .entry)) (now (sources .entry)) (now (targets .entry)) (now (priorities .entry)) (k .letters) (length (now (sources .entry))) k n (now (order .entry)) (now (marks .entry)) (now (choices .entry)) r (now (order .exit)) (now (marks .exit)) (now (choices .exit)) ⌝ }
@@ -159,7 +159,7 @@ pub fn attract(
     choices: &mut [u8],
 ) -> usize
     requires rows { ⌜ Rows (now owners) (now sources) (now targets) (now priorities) (k .letters) (length (now sources)) ⌝ }
-    requires apart { ⌜ (k .to ≢ k .live) × (k .to ≢ k .also) ⌝ }
+    requires apart { ⌜ Apart k ⌝ }
     requires long { ⌜ (length (now sources) ≤ length (now marks)) × (length (now sources) ≤ length (now choices)) ⌝ }
     requires order { ⌜ Lists (fromOf (now owners) (now sources) (now targets) (now priorities) (k .letters) (length (now sources)) k (now marks)) n (now order) ⌝ }
     ensures { λ r. ⌜ Attracts (now (owners .entry)) (now (sources .entry)) (now (targets .entry)) (now (priorities .entry)) (k .letters) (length (now (sources .entry))) k (now (marks .entry)) (now (choices .entry)) (now (marks .exit)) (now (choices .exit)) × Waits (now (owners .entry)) (now (sources .entry)) (now (targets .entry)) (now (priorities .entry)) (k .letters) (length (now (sources .entry))) k n (now (order .entry)) r (now (order .exit)) (now (marks .exit)) ⌝ }

@@ -22,7 +22,7 @@ use Rattle.attracting.proofs.Sweeping.{is-owns, not-owns}
 use Rattle.attracting.proofs.Outcome.{Role, waits, goal, past, Outcome, outcome, into}
 use Rattle.holding.specs.Holding.{Firm}
 use Rattle.levels.specs.Levels.{wonMark, takenMark, live, holdOf, heldTask, Holds}
-use Rattle.levels.proofs.Marks.{won-high, live-state, live-mark, mark-live}
+use Rattle.levels.proofs.Marks.{held-apart, won-high, live-state, live-mark, mark-live}
 use Rattle.levels.proofs.Turning.{Turn, Above, G, i, X, one, lower, ownLetter, letter-is}
 use Rattle.levels.proofs.Losing.{Lost, F, second, B, Y, Y-in, Y-kept, Y-listed, mark-Y, not-held}
 
@@ -94,7 +94,7 @@ module _ (h : Held) where
     where
       go : (Y l s ≡ true) ⊎ (Y l s ≡ false) → H s ≡ true
       go (inl q) = both (Y l s) (eqb (getD n₁ s 0) (takenMark (t .p))) q (≡eqb (getD n₁ s 0) (takenMark (t .p)) e)
-      go (inr f) = absurd (not-held l s k f .0 (sym (out s f) ∙ e))
+      go (inr f) = absurd (omega (arith, not-held l s k f, out s f, e))
 
   abbrev FirmAt : ℕ → Type 0
   FirmAt = Firm (t .owners) (t .sources) (t .targets) (t .priorities) (t .letters) (holdOf (t .letters) (t .p)) n₁ (l .c₃)
@@ -137,15 +137,14 @@ module _ (h : Held) where
 
   pub third : Outcome (t .owners) (t .sources) (t .targets) (t .priorities) (t .letters) (t .states) (heldTask (t .letters) (t .p)) n₁ (l .c₃) (h .holds .m₂) (h .c₄) (Y l) (minus (Y l) H) hits
   third = outcome (t .owners) (t .sources) (t .targets) (t .priorities) (t .letters) (t .states) (heldTask (t .letters) (t .p)) n₁ (l .c₃) (h .holds .m₂) (h .c₄)
-      (λ z. absurd (omega (arith, t .small))) (λ z. absurd (omega (arith, t .small))) (Y l) (minus (Y l) H) hits (λ s e. live-state (t .states) (t .m) s (Y-in l s e)) (minus-in (Y l) H)
+      (held-apart (t .letters) (t .p) (t .small)) (Y l) (minus (Y l) H) hits (λ s e. live-state (t .states) (t .m) s (Y-in l s e)) (minus-in (Y l) H)
       (λ s k. role s k (test (Y l s)) (test (H s))) (λ s a e. into (Y l) H (G t .target s a) e) (h .holds .attracts)
     where
       role : (s : ℕ) → s < t .states → (Y l s ≡ true) ⊎ (Y l s ≡ false) → (H s ≡ true) ⊎ (H s ≡ false) → Role (heldTask (t .letters) (t .p)) (getD n₁ s 0) (Y l s) (minus (Y l) H s)
       role s k (inl e) (inl q) = goal e (minus-taken (Y l) H s q) (H-mark s q)
       role s k (inl e) (inr q) = waits e (minus-both (Y l) H s e q) (inl (not-H s e q))
       role s k (inr f) q =
-          let z = not-held l s k f in
-          past f (minus-never (Y l) H s f) (λ u. z .1 (sym (out s f) ∙ u)) (λ u. z .1 (sym (out s f) ∙ u)) (λ u. z .0 (sym (out s f) ∙ u))
+          past f (minus-never (Y l) H s f) (omega (arith, not-held l s k f, out s f))
 
   abbrev pub three : Attraction (G t) (i t) (t .p) (Y l) (minus (Y l) H) hits
   three = third .all
@@ -189,7 +188,7 @@ module _ (h : Held) where
       to : live (t .states) (h .m₄) s ≡ true → (Y l s ≡ true) ⊎ (Y l s ≡ false) → (Z s ≡ true) ⊎ (Z s ≡ false) → Z s ≡ true
       to e y (inl q) = q
       to e (inl y) (inr f) = absurd (omega (arith, t .small, mark-own s y f, live-mark (t .states) (h .m₄) s e, won-high (t .p) (i t)))
-      to e (inr y) (inr f) = absurd (not-held l s (live-state (t .states) (h .m₄) s e) y .1 (sym (same-held s y .0) ∙ live-mark (t .states) (h .m₄) s e))
+      to e (inr y) (inr f) = absurd (omega (arith, not-held l s (live-state (t .states) (h .m₄) s e) y, same-held s y .0, live-mark (t .states) (h .m₄) s e, t .small))
 
   pub held-listed : Lists (live (t .states) (h .m₄)) (h .again) (h .o″)
   held-listed = lists-same Z (live (t .states) (h .m₄)) (h .again) (h .o″) (λ s. sym (Z-live s)) Z-listed

@@ -18,7 +18,7 @@ use Rattle.orders.proofs.Walks.{painted-set}
 use Rattle.attracting.specs.Attracting.{Rows, fromOf}
 use Rattle.attracting.proofs.Outcome.{Role, waits, goal, past, Outcome, outcome, into}
 use Rattle.levels.specs.Levels.{wonMark, takenMark, lostTask, Loses}
-use Rattle.levels.proofs.Marks.{won-low, won-high, won-other, live-state}
+use Rattle.levels.proofs.Marks.{lost-apart, won-high, live-state}
 use Rattle.levels.proofs.Turning.{Turn, Above, G, i, X, one, lower, losts, same-above, Spot, taken, gone, held, spot}
 
 -- the first n states of the order o are the arena, and the first `kept` of them are not the other player's yet; after its attraction, the first `rest` of o′ are left
@@ -53,7 +53,7 @@ module _ (l : Lost) where
 
   pub second : Outcome (t .owners) (t .sources) (t .targets) (t .priorities) (t .letters) (t .states) (lostTask (t .letters) (t .p)) (b .m₂) (b .c₂) (l .loses .m₁) (l .c₃) (X t) F hits
   second = outcome (t .owners) (t .sources) (t .targets) (t .priorities) (t .letters) (t .states) (lostTask (t .letters) (t .p)) (b .m₂) (b .c₂) (l .loses .m₁) (l .c₃)
-      (λ z. absurd (omega (arith, won-low (t .p + 1) (not (i t))))) (λ z. won-other (t .p + 1) (i t) (sym z)) (X t) F hits
+      (lost-apart (t .letters) (t .p)) (X t) F hits
       (λ s e. live-state (t .states) (t .m) s e) (minus-in (X t) (losts b)) (λ s h. role s h (test (X t s))) (λ s a e. into (X t) (losts b) (G t .target s a) e) (l .loses .attracts)
     where
       by-spot : (s : ℕ) → X t s ≡ true → Spot b s → Role (lostTask (t .letters) (t .p)) (getD (b .m₂) s 0) (X t s) (F s)
@@ -64,10 +64,7 @@ module _ (l : Lost) where
       role : (s : ℕ) → s < t .states → (X t s ≡ true) ⊎ (X t s ≡ false) → Role (lostTask (t .letters) (t .p)) (getD (b .m₂) s 0) (X t s) (F s)
       role s h (inl e) = by-spot s e (spot b s e)
       role s h (inr f) =
-          let q = same-above b s f .0 in
-          let k = t .low s h f in
-          past f (minus-never (X t) (losts b) s f) (λ z. absurd (omega arith)) (λ z. absurd (omega (arith, won-low (t .p + 1) (i t))))
-          (λ z. absurd (omega (arith, won-low (t .p + 1) (not (i t)))))
+          past f (minus-never (X t) (losts b) s f) (omega (arith, same-above b s f .0, t .low s h f))
 
   abbrev pub two : Attraction (G t) (not (i t)) (t .p) (X t) F hits
   two = second .all
@@ -123,16 +120,10 @@ module _ (l : Lost) where
       let z = same-above b s f in
       (marks s ∙ rw (X-not-Y s f, f) (q .0 ∙ z .0), q .1 ∙ z .1)
 
-  -- outside Y: neither held nor live
-  pub not-held : (s : ℕ) → s < t .states → Y s ≡ false → (getD (l .m₃) s 0 ≢ takenMark (t .p)) × (getD (l .m₃) s 0 ≢ 255)
+  -- outside Y: a low mark, neither held nor live
+  pub not-held : (s : ℕ) → s < t .states → Y s ≡ false → getD (l .m₃) s 0 < takenMark (t .p)
   not-held s h f = go (test (X t s))
     where
-      go : (X t s ≡ true) ⊎ (X t s ≡ false) → (getD (l .m₃) s 0 ≢ takenMark (t .p)) × (getD (l .m₃) s 0 ≢ 255)
-      go (inl e) =
-          let q = mark-theirs s e f in
-          let k = won-high (t .p) (not (i t)) in
-          (λ z. absurd (omega arith), λ z. absurd (omega (arith, t .small)))
-      go (inr g) =
-          let q = same-lost s g .0 in
-          let k = t .low s h g in
-          (λ z. absurd (omega arith), λ z. absurd (omega (arith, t .small)))
+      go : (X t s ≡ true) ⊎ (X t s ≡ false) → getD (l .m₃) s 0 < takenMark (t .p)
+      go (inl e) = omega (arith, mark-theirs s e f, won-high (t .p) (not (i t)))
+      go (inr g) = omega (arith, same-lost s g .0, t .low s h g)

@@ -9,7 +9,9 @@ use lib.Dec.{eqb, ltb}
 use lib.ListN.{getD}
 use borrow.Author.Tests.{lt-ltb, le-ltb}
 use Rattle.lists.proofs.Bools.{eqb≡, ≡eqb, neqb, and-l, and-r, both, and-absent, lt-true}
-use Rattle.levels.specs.Levels.{wonMark, live}
+use Rattle.games.specs.Games.{serves}
+use Rattle.attracting.specs.Attracting.{Apart}
+use Rattle.levels.specs.Levels.{wonMark, live, rowsTask, lostTask, heldTask}
 
 -- ---- what a player has won
 pub won-low : (p : ℕ) (j : Bool) → 4 * p + 1 ≤ wonMark p j
@@ -27,6 +29,22 @@ won-is p false = neqb (4 * p + 1) (4 * p + 2) (λ e. absurd (omega arith))
 pub won-other : (p : ℕ) (j : Bool) → wonMark p j ≢ wonMark p (not j)
 won-other p true = λ e. absurd (omega arith)
 won-other p false = λ e. absurd (omega arith)
+
+-- ---- the marks of each task are apart
+pub rows-apart : (letters p : ℕ) → p ≤ 32 → Apart (rowsTask letters p)
+rows-apart letters p h = record { not-live = λ z. absurd (omega arith); not-also = λ z. absurd (omega arith); live-in = omega arith; also-in = omega arith; to-in = omega arith }
+
+pub lost-apart : (letters p : ℕ) → Apart (lostTask letters p)
+lost-apart letters p = record {
+  not-live = λ z. absurd (omega (arith, z, won-low (p + 1) (not (serves p))));
+  not-also = λ z. won-other (p + 1) (serves p) (sym z);
+  live-in = omega arith;
+  also-in = omega (arith, won-low (p + 1) (serves p));
+  to-in = omega (arith, won-low (p + 1) (not (serves p)));
+}
+
+pub held-apart : (letters p : ℕ) → p ≤ 32 → Apart (heldTask letters p)
+held-apart letters p h = record { not-live = λ z. absurd (omega arith); not-also = λ z. absurd (omega arith); live-in = omega arith; also-in = omega arith; to-in = omega arith }
 
 -- ---- live states
 module _ (states : ℕ) (m : List ℕ) (s : ℕ) where

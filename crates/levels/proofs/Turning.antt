@@ -23,7 +23,7 @@ use Rattle.orders.proofs.Walks.{painted-set}
 use Rattle.attracting.specs.Attracting.{tableGame, Attracts}
 use Rattle.attracting.proofs.Outcome.{Role, waits, past, Outcome, outcome}
 use Rattle.levels.specs.Levels.{wonMark, takenMark, live, Headed, rowsTask, SolvedAt}
-use Rattle.levels.proofs.Marks.{won-low, won-high, won-is, won-other, live-state, live-mark, mark-not, not-mark, out-of-range, live-waits}
+use Rattle.levels.proofs.Marks.{rows-apart, won-low, won-high, won-is, won-other, live-state, live-mark, mark-not, not-mark, out-of-range, live-waits}
 use Rattle.levels.proofs.Levels.{won, Step}
 
 -- ---- the attraction to the rows of the level
@@ -68,14 +68,13 @@ module _ (t : Turn) where
 
   pub first : Outcome (t .owners) (t .sources) (t .targets) (t .priorities) (t .letters) (t .states) (rowsTask (t .letters) (t .p)) (t .m) (t .c) (t .m₁) (t .c₁) X X hits
   first = outcome (t .owners) (t .sources) (t .targets) (t .priorities) (t .letters) (t .states) (rowsTask (t .letters) (t .p)) (t .m) (t .c) (t .m₁) (t .c₁)
-      (λ z. absurd (omega (arith, t .small))) (λ z. absurd (omega (arith, t .small))) X X hits (λ s e. live-state (t .states) (t .m) s e) (λ s e. e)
+      (rows-apart (t .letters) (t .p) (t .small)) X X hits (λ s e. live-state (t .states) (t .m) s e) (λ s e. e)
       (λ s h. role s h (test (X s))) (λ s a e. rw e refl) (t .attracts)
     where
       role : (s : ℕ) → s < t .states → (X s ≡ true) ⊎ (X s ≡ false) → Role (rowsTask (t .letters) (t .p)) (getD (t .m) s 0) (X s) (X s)
       role s h (inl e) = waits e e (inl (live-mark (t .states) (t .m) s e))
       role s h (inr f) =
-          let l = t .low s h f in
-          past f f (λ z. absurd (omega (arith, t .small))) (λ z. absurd (omega (arith, t .small))) (λ z. absurd (omega arith))
+          past f f (omega (arith, t .low s h f))
 
   abbrev pub one : Attraction G i (t .p) X X hits
   one = first .all

@@ -33,7 +33,7 @@ pub record Headed (states p : ℕ) (m : List ℕ) : Type 0 where
 -- ---- the tasks of level p
 -- the attraction to the rows of the level, for the player whom it serves
 abbrev pub rowsTask : ℕ → ℕ → Task
-rowsTask letters p = record { letters = letters; level = p; plant = serves p; live = 255; also = 255; to = takenMark p; rows = true }
+rowsTask letters p = record { letters = letters; level = p; plant = serves p; floor = takenMark p; live = 255; also = 255; to = takenMark p; rows = true }
 
 -- the attraction to what the other player has won above the level, from all that it has not
 abbrev pub lostTask : ℕ → ℕ → Task
@@ -41,6 +41,7 @@ lostTask letters p = record {
   letters = letters;
   level = p;
   plant = not (serves p);
+  floor = takenMark p;
   live = takenMark p;
   also = wonMark (p + 1) (serves p);
   to = wonMark (p + 1) (not (serves p));
@@ -52,7 +53,7 @@ abbrev pub holdOf : ℕ → ℕ → Hold
 holdOf letters p = record { letters = letters; level = p; plant = serves p; held = takenMark p }
 
 abbrev pub heldTask : ℕ → ℕ → Task
-heldTask letters p = record { letters = letters; level = p; plant = serves p; live = 255; also = 255; to = takenMark p; rows = false }
+heldTask letters p = record { letters = letters; level = p; plant = serves p; floor = takenMark p; live = 255; also = 255; to = takenMark p; rows = false }
 
 module _ (owners sources targets priorities : List ℕ) (letters states : ℕ) where
   -- ---- a level is solved: what was live is marked by its winner, with letters for both players; nothing else is changed

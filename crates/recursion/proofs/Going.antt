@@ -11,7 +11,7 @@ use Rattle.orders.proofs.Orders.{same-order, order-of-order, wider-order, lists
 use Rattle.attracting.specs.declared.Task.{Task}
 use Rattle.attracting.specs.Attracting.{Rows, tableGame, fromOf, Attracts, Waits}
 use Rattle.levels.specs.Levels.{takenMark, live, Headed, rowsTask, SolvedAt, Turning, Turns}
-use Rattle.levels.proofs.Marks.{mark-live, live-waits}
+use Rattle.levels.proofs.Marks.{rows-apart, mark-live, live-waits}
 use Rattle.levels.proofs.Levels.{Level, level-start, level-end, turn-lt, low, next-level}
 use Rattle.levels.proofs.Turning.{Turn, turn-head, turn-arena, Above}
 use Rattle.levels.proofs.Turns.{turning, turned}
@@ -45,12 +45,9 @@ module _ (owners sources targets priorities : List ℕ) (letters states p : ℕ)
     pub going-asks : (k : Task) → k ≡ rowsTask letters p → Rows owners sources targets priorities letters states → Asks owners sources targets priorities letters states p (x .small) k m left o
     going-asks k e rows = subst (λ (z : Task). Asks owners sources targets priorities letters states p (x .small) z m left o) (sym e) (
       rows,
-      ((λ z. apart z), λ z. apart z),
+      rows-apart letters p (x .small),
       lists-same (live states m) (fromOf owners sources targets priorities letters states (rowsTask letters p) m) left o (live-waits states m) (x .listed),
     )
-      where
-        apart : takenMark p ≢ 255
-        apart z = omega (arith, x .small)
 
     module _ (k : Task) (rest : ℕ) (o₁ m₁ c₁ : List ℕ) (is : k ≡ rowsTask letters p)
         (a : Attracts owners sources targets priorities (k .letters) states k m c m₁ c₁ × Waits owners sources targets priorities (k .letters) states k left o rest o₁ m₁) where

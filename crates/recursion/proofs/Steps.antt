@@ -14,11 +14,11 @@ use Rattle.games.specs.Games.{serves}
 use Rattle.orders.specs.Orders.{Among, Lists, Rearranged, marked, Gathered, Painted}
 use Rattle.orders.proofs.Orders.{order-of-order, wider-order, inside-moved, lists-same, in-front}
 use Rattle.attracting.specs.declared.Task.{Task}
-use Rattle.attracting.specs.Attracting.{waiting, Rows, fromOf, Attracts, Waits}
+use Rattle.attracting.specs.Attracting.{waiting, Apart, Rows, fromOf, Attracts, Waits}
 use Rattle.holding.specs.declared.Hold.{Hold}
 use Rattle.holding.specs.Holding.{Released}
 use Rattle.levels.specs.Levels.{wonMark, takenMark, live, lostTask, holdOf, heldTask, Turning, Loses, Holds, Turns, all-own, some-lost}
-use Rattle.levels.proofs.Marks.{won-low, won-high, won-other, live-state, live-mark, mark-live, live-waits}
+use Rattle.levels.proofs.Marks.{lost-apart, held-apart, won-low, won-high, live-state, live-mark, mark-live, live-waits}
 
 -- ---- marks and tasks
 pub won-true : (p : ℕ) (plant : Bool) → plant ≡ true → 4 * p + 2 ≡ wonMark p plant
@@ -27,17 +27,18 @@ won-true p plant e = rw e refl
 pub won-false : (p : ℕ) (plant : Bool) → plant ≡ false → 4 * p + 1 ≡ wonMark p plant
 won-false p plant e = rw e refl
 
-pub task-plant : (letters p : ℕ) (plant j : Bool) (live also to : ℕ) (rows : Bool) → plant ≡ j
-    → _≡_ {A = Task} (record { letters = letters; level = p; plant = plant; live = live; also = also; to = to; rows = rows })
-    (record { letters = letters; level = p; plant = j; live = live; also = also; to = to; rows = rows })
-task-plant letters p plant j live also to rows e = ap (λ (z : Bool). record { letters = letters; level = p; plant = z; live = live; also = also; to = to; rows = rows }) e
+pub task-plant : (letters p : ℕ) (plant j : Bool) (floor live also to : ℕ) (rows : Bool) → plant ≡ j
+    → _≡_ {A = Task} (record { letters = letters; level = p; plant = plant; floor = floor; live = live; also = also; to = to; rows = rows })
+    (record { letters = letters; level = p; plant = j; floor = floor; live = live; also = also; to = to; rows = rows })
+task-plant letters p plant j floor live also to rows e = ap (λ (z : Bool). record { letters = letters; level = p; plant = z; floor = floor; live = live; also = also; to = to; rows = rows }) e
 
 pub lost-is : (letters p : ℕ) (plant : Bool) (also to : ℕ) → plant ≡ serves p → also ≡ wonMark (p + 1) plant → to ≡ wonMark (p + 1) (not plant)
-    → _≡_ {A = Task} (record { letters = letters; level = p; plant = not plant; live = takenMark p; also = also; to = to; rows = false }) (lostTask letters p)
+    → _≡_ {A = Task} (record { letters = letters; level = p; plant = not plant; floor = takenMark p; live = takenMark p; also = also; to = to; rows = false }) (lostTask letters p)
 lost-is letters p plant also to e f g = λ i. record {
   letters = letters;
   level = p;
   plant = not (e i);
+  floor = takenMark p;
   live = takenMark p;
   also = (f ∙ ap (wonMark (p + 1)) e) i;
   to = (g ∙ ap (λ (z : Bool). wonMark (p + 1) (not z)) e) i;
@@ -79,16 +80,13 @@ hold-rows owners sources targets priorities letters states p g e rows = subst (�
 
 module _ (owners sources targets priorities : List ℕ) (letters states p : ℕ) (small : p ≤ 32) where
   -- ---- the other player takes its own
-  lost-apart : ((lostTask letters p) .to ≢ (lostTask letters p) .live) × ((lostTask letters p) .to ≢ (lostTask letters p) .also)
-  lost-apart = (λ z. absurd (omega (arith, z, won-low (p + 1) (not (serves p)))), λ z. won-other (p + 1) (serves p) (sym z))
-
   -- what is asked of an attraction
   abbrev pub Asks : Task → List ℕ → ℕ → List ℕ → Type 0
-  Asks k m n o = Rows owners sources targets priorities (k .letters) states × ((k .to ≢ k .live) × (k .to ≢ k .also)) × Lists (fromOf owners sources targets priorities (k .letters) states k m) n o
+  Asks k m n o = Rows owners sources targets priorities (k .letters) states × Apart k × Lists (fromOf owners sources targets priorities (k .letters) states k m) n o
 
   pub lost-asks : (k : Task) (m : List ℕ) (n : ℕ) (o : List ℕ) → k ≡ lostTask letters p → Rows owners sources targets priorities letters states
       → Lists (fromOf owners sources targets priorities letters states (lostTask letters p) m) n o → Asks k m n o
-  lost-asks k m n o e rows l = subst (λ (z : Task). Asks z m n o) (sym e) (rows, lost-apart, l)
+  lost-asks k m n o e rows l = subst (λ (z : Task). Asks z m n o) (sym e) (rows, lost-apart letters p, l)
 
   pub loses : (k : Task) (theirs n kept : ℕ) (o m c : List ℕ) (rest : ℕ) (o′ m₁ m₂ m′ c′ : List ℕ) → k ≡ lostTask letters p → theirs ≡ wonMark p (k .plant)
       → Attracts owners sources targets priorities (k .letters) states k m c m₁ c′ × Waits owners sources targets priorities (k .letters) states k kept o rest o′ m₁
@@ -127,7 +125,7 @@ module _ (owners sources targets priorities : List ℕ) (letters states p : ℕ)
   held-asks k g rest o m c freed o₁ m₁ e f rows d long inside none =
       subst (λ (z : Task). Asks z m₁ freed o₁) (sym e) (
         rows,
-        ((λ z. absurd (omega arith)), (λ z. absurd (omega arith))),
+        held-apart letters p small,
         held-lists rest o m c freed o₁ m₁ (subst (λ (z : Hold). Released owners sources targets priorities (z .letters) z rest o m c freed o₁ m₁) f d) long inside none,
       )
 

@@ -41,13 +41,15 @@ fn rows_task(l: Level) -> Task
     requires { ⌜ l .at ≤ 32 ⌝ }
     ensures { λ r. ⌜ r ≡ rowsTask (l .letters) (l .at) ⌝ }
 {
+    let taken = 4 * l.at + 3;
     Task {
         letters: l.letters,
         level: l.at,
         plant: is_odd(l.at),
+        floor: taken,
         live: 255,
         also: 255,
-        to: 4 * l.at + 3,
+        to: taken,
         rows: true,
     }
 }
@@ -57,11 +59,13 @@ fn lost_task(l: Level) -> Task
     ensures { λ r. ⌜ r ≡ lostTask (l .letters) (l .at) ⌝ }
 {
     let plant = is_odd(l.at);
+    let taken = 4 * l.at + 3;
     Task {
         letters: l.letters,
         level: l.at,
         plant: !plant,
-        live: 4 * l.at + 3,
+        floor: taken,
+        live: taken,
         also: won_mark(l.at + 1, plant),
         to: won_mark(l.at + 1, !plant),
         rows: false,
@@ -72,13 +76,15 @@ fn held_task(l: Level) -> Task
     requires { ⌜ l .at ≤ 32 ⌝ }
     ensures { λ r. ⌜ r ≡ heldTask (l .letters) (l .at) ⌝ }
 {
+    let taken = 4 * l.at + 3;
     Task {
         letters: l.letters,
         level: l.at,
         plant: is_odd(l.at),
+        floor: taken,
         live: 255,
         also: 255,
-        to: 4 * l.at + 3,
+        to: taken,
         rows: false,
     }
 }

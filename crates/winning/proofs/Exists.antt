@@ -87,8 +87,7 @@ module _ (p : Policy) (owners : List ℕ) (t : Tables) (winners letters : List �
   fitting a b =
       let fits = and-r (legal p) (lengthsFit p t && eqb (length winners) (length (t .sources)) && eqb (length letters) (length (t .sources))) a in
       let long = eqb≡ (length letters) (length (t .sources)) (and-r (lengthsFit p t && eqb (length winners) (length (t .sources))) (eqb (length letters) (length (t .sources))) fits) in
-      let sized = and-l (nodesFit p t && leb (length (built p)) (min (length (t .sources)) 65535)) (ownersFit p owners) (and-l (nodesFit p t && leb (length (built p)) (min (length (t .sources)) 65535) && ownersFit p owners) (ownersLegal p owners) b) in
-      (
+      let sized = and-l (nodesFit p t && leb (length (built p)) (min (length (t .sources)) 65535)) (ownersFit p owners) (and-l (nodesFit p t && leb (length (built p)) (min (length (t .sources)) 65535) && ownersFit p owners) (ownersLegal p owners) b) in (
         and-l (legal p) (lengthsFit p t && eqb (length winners) (length (t .sources)) && eqb (length letters) (length (t .sources))) a,
         omega (arith, long, le-true (length (built p)) (min (length (t .sources)) 65535) (and-r (nodesFit p t) (leb (length (built p)) (min (length (t .sources)) 65535)) sized)),
       )
@@ -99,12 +98,15 @@ module _ (p : Policy) (owners : List ℕ) (t : Tables) (winners letters : List �
       go : (admitted p owners t winners letters ≡ true) ⊎ (admitted p owners t winners letters ≡ false) → (solvable p owners t winners letters ≡ true) ⊎ (solvable p owners t winners letters ≡ false)
           → (exit : List ℕ) × LettersAfter p owners t winners letters exit
       go (inr a) b = (letters, record { long = refl; unchanged = λ e. refl; cleared-all = λ e. absurd (true≢false (sym e ∙ a)); chosen = λ e. absurd (true≢false (sym e ∙ a)) })
-      go (inl a) (inr b) = (zeros letters, record {
-        long = length-zeros letters;
-        unchanged = λ e. absurd (true≢false (sym a ∙ e));
-        cleared-all = λ e f. refl;
-        chosen = λ e f. absurd (true≢false (sym f ∙ b));
-      })
+      go (inl a) (inr b) = (
+        zeros letters,
+        record {
+          long = length-zeros letters;
+          unchanged = λ e. absurd (true≢false (sym a ∙ e));
+          cleared-all = λ e f. refl;
+          chosen = λ e f. absurd (true≢false (sym f ∙ b));
+        },
+      )
       go (inl a) (inl b) =
           let h = fitting a b in (
             lettersTable p owners (h .0) (length letters) (h .1),

@@ -21,13 +21,13 @@ first-letter-requires : tie.Need-first-letter-requires
 first-letter-requires c κs = let e = row-end (c .before .before .before .before .before .before .before .before .before .before .before .before .before .args .s) (c .before .before .before .before .before .before .before .before .before .before .before .before .before .args .k .letters) _ (c .before .before .before .before .before .before .before .before .before .before .before .before .before .pre .1 .0) in (omega (arith, e, c .before .before .before .before .before .before .before .before .before .before .before .before .before .pre .0 .targets-long), omega (arith, e, c .before .before .before .before .before .before .before .before .before .before .before .before .before .pre .0 .priorities-long), λ a l. omega (arith, c .before .before .before .before .before .before .before .before .before .before .before .before .before .pre .0 .targets-few (c .before .before .before .before .before .before .before .before .before .before .before .before .before .args .s) a (c .before .before .before .before .before .before .before .before .before .before .before .before .before .pre .1 .0) l, c .before .before .before .before .before .before .before .before .before .before .before .before .before .pre .1 .1))
 
 cast-choices : tie.Need-cast-choices
-cast-choices c = search needs
+cast-choices c = omega (arith, c .before .if2 .taken, c .before .before .before .before .before .before .before .before .before .before .before .before .before .before .before .before .before .pre .0 .letters-few)
 
 slice-write-choices : tie.Need-slice-write-choices
-slice-write-choices c = search needs
+slice-write-choices c = omega (arith, c .before .before .before .before .before .before .before .before .before .before .before .before .before .before .before .before .before .pre .1 .0, c .before .before .before .before .before .before .before .before .before .before .before .before .before .before .before .before .before .pre .1 .2)
 
 slice-write-marks : tie.Need-slice-write-marks
-slice-write-marks c = search needs
+slice-write-marks c = omega (arith, c .before .before .before .before .before .before .before .before .before .before .before .before .before .before .before .before .before .pre .1 .0, c .before .before .before .before .before .before .before .before .before .before .before .before .before .before .before .before .before .pre .1 .1)
 
 same-length : tie.Need-same-length
 same-length c = search needs
@@ -51,7 +51,7 @@ returns-3 : tie.Need-returns-3
 returns-3 c = visit-none _ _ _ _ _ _ _ _ _ _ _ _ (c .before .before .before .before .before .before .owns-state .ensures) (c .before .before .before .first-letter .ensures) (c .before .before .before .before .before .before .before .if1 .taken) (c .before .if2 .left) (c .if4 .taken)
 
 slice-write-marks-2 : tie.Need-slice-write-marks-2
-slice-write-marks-2 c = search needs
+slice-write-marks-2 c = omega (arith, c .before .before .before .before .before .before .before .before .before .before .before .before .before .before .before .before .before .pre .1 .0, c .before .before .before .before .before .before .before .before .before .before .before .before .before .before .before .before .before .pre .1 .1)
 
 same-length-5 : tie.Need-same-length-5
 same-length-5 c = search needs

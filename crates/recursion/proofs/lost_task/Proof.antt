@@ -1,4 +1,5 @@
 use Rattle.recursion.proofs.Steps.{lost-is}
+use native.Mathlib.Omega.{arith}
 use borrow.Author.Needs.{needs}
 use Rattle.recursion.proofs.lost_task.Statement.{statement}
 use Rattle.recursion.proofs.lost_task.Tie as tie
@@ -10,11 +11,11 @@ use Rattle.recursion.proofs.won_mark.Reads as won-mark-reads
 is-odd-requires : tie.Need-is-odd-requires
 is-odd-requires c κs = search needs
 
-mul-t4 : tie.Need-mul-t4
-mul-t4 c = search needs
+mul-taken : tie.Need-mul-taken
+mul-taken c = search needs
 
-add-t5 : tie.Need-add-t5
-add-t5 c = search needs
+add-taken : tie.Need-add-taken
+add-taken c = search needs
 
 add-won-mark : tie.Need-add-won-mark
 add-won-mark c = search needs
@@ -36,8 +37,8 @@ lost-task-spec =
     tie.close
     (tie.spec
     is-odd-requires
-    mul-t4
-    add-t5
+    mul-taken
+    add-taken
     add-won-mark
     won-mark-requires
     add-won-mark-2
