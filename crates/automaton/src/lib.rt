@@ -1,1 +1,1 @@
-// Lists of numbers and tests on them: definitions in specs/, laws in proofs/. No code of its own.
+// The built automaton: definitions in specs/, laws in proofs/. No code of its own.

@@ -1,5 +1,5 @@
 -- The defined row tables are rows: what running reads in them is what the built automaton says. Assumes nothing.
-use Prim.Native.Nat.{ℕ, _*_, _/_, _%_, _≤_, _<_}
+use Prim.Native.Nat.{ℕ, _/_, _%_, _≤_, _<_}
 use native.Mathlib.Omega.{arith}
 use native.Mathlib.Nat.{mul-mod-left, mul-div-cancel}
 use mathlib.Core.Path.{_≡_, sym, ap, _∙_}

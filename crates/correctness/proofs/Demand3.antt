@@ -10,7 +10,7 @@ use Rattle.reading.specs.Reading.{readingOf as bytesReadingOf, numberOf as read
 use Rattle.builder.specs.Tables.{countsOf, translationOf, numberOf as translateNumberOf}
 use Rattle.running.specs.declared.Reading.{Reading}
 use Rattle.running.specs.Running.{runAfter, priorityOf, numberOf as runNumberOf}
-use Rattle.wulfrenda.specs.Library.{firstOf}
+use Rattle.answers.specs.Answers.{firstOf}
 use Rattle.correctness.specs.Calls.{Call, translate, translateShows, read, readShows, wulfrenda-translate, wulfrendaTranslateShows, wulfrenda-translate-bytes, wulfrendaTranslateBytesShows, wulfrenda-run, wulfrendaRunShows}
 use Rattle.correctness.specs.Demand3.{Demand3}
 use Rattle.correctness.proofs.Translated.{Success}
@@ -28,7 +28,7 @@ pub wulfrenda-translated : (t : Call wulfrenda-translate) → wulfrendaTranslate
 wulfrenda-translated t returned = record { number-is = sym (t .learnt .0) ∙ returned; counts-are = t .learnt .1 .0; tables-are = t .learnt .1 .1 }
 
 -- the first of two numbers that is not 0 is 0: both are
-second-none : (a b : ℕ) → firstOf a b ≡ 0 → b ≡ 0
+pub second-none : (a b : ℕ) → firstOf a b ≡ 0 → b ≡ 0
 unfolding firstOf
 second-none a b e = go (test (eqb a 0))
   where

@@ -23,7 +23,7 @@ use Rattle.running.specs.declared.Run.{Run}
 use Rattle.running.specs.Running.{readingOf, runAfter, priorityOf, numberOf}
 use Rattle.running.proofs.Steps.{reads-letter}
 use Rattle.records.specs.Records.{bytesAt, flagsAt, unpacked, policyOf, recordOf}
-use Rattle.wulfrenda.specs.Library.{firstOf, offsetAfter}
+use Rattle.answers.specs.Answers.{firstOf, offsetAfter}
 use Rattle.correctness.specs.Calls.{Call, Translating, Running, Slice, translate, translateShows, read, readShows, wulfrenda-translate, wulfrendaTranslateShows, wulfrenda-translate-bytes, wulfrendaTranslateBytesShows, wulfrenda-run, wulfrendaRunShows}
 use Rattle.correctness.specs.Demand3.{stateCount, letterAt, BuiltRun}
 use Rattle.correctness.specs.Known.{B}

@@ -13,7 +13,7 @@ use Rattle.reading.specs.Reading.{readingOf as bytesReadingOf, offsetOf, number
 use Rattle.builder.specs.Tables.{Tables, tables, Hold, countsOf, translationOf, tablesAfter, Translates, numberOf as translateNumberOf}
 use Rattle.running.specs.Running.{readingOf, runAfter, priorityOf, ReadsLetter, numberOf as runNumberOf}
 use Rattle.records.specs.Records.{policyOf}
-use Rattle.wulfrenda.specs.Library.{firstOf, offsetAfter}
+use Rattle.answers.specs.Answers.{firstOf, offsetAfter}
 use Rattle.builder.proofs.translate.Kinds as translate-kinds
 use Rattle.builder.proofs.translate.Reads as translate-reads
 use Rattle.running.proofs.Run.read.Kinds as read-kinds

@@ -1,1 +1,1 @@
-// Lists of numbers and tests on them: definitions in specs/, laws in proofs/. No code of its own.
+// Cycles as a forest: definitions in specs/, laws in proofs/. No code of its own.

@@ -1,1 +1,1 @@
-// Lists of numbers and tests on them: definitions in specs/, laws in proofs/. No code of its own.
+// The recursion over the priorities of a game, by marks: definitions in specs/, laws in proofs/. No code of its own.

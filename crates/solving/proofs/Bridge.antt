@@ -2,8 +2,7 @@
 use Prim.Native.Nat.{ℕ, _+_, _*_, _≤_, _<_}
 use native.Mathlib.Omega.{arith}
 use mathlib.Core.Path.{_≡_, refl, sym, ap, _∙_, subst}
-use mathlib.Core.Logic.{_≢_}
-use mathlib.Core.Bool.{Bool, true}
+use mathlib.Core.Bool.{true}
 use mathlib.Core.List.{List}
 use lib.Arith.{digits-lt}
 use lib.Dec.{eqb}
@@ -18,7 +17,7 @@ use Rattle.policy.specs.declared.Policy.{Policy}
 use Rattle.policy.specs.Policies.{legal}
 use Rattle.policy.proofs.Laws.{legal-counts}
 use Rattle.forest.proofs.Forest.{forest-laws}
-use Rattle.automaton.specs.Automaton.{built, stateAt, rowTarget, rowPriority, rowTargets, rowPriorities}
+use Rattle.automaton.specs.Automaton.{built, rowTarget, rowPriority}
 use Rattle.automaton.proofs.Tables.{built-good}
 use Rattle.automaton.proofs.Columns.{sources-long, source-at}
 use Rattle.automaton.proofs.RowTables as row-tables
@@ -29,8 +28,9 @@ use Rattle.attracting.specs.Attracting.{Rows, tableGame}
 use Rattle.solver.specs.Answers.{Answers}
 use Rattle.supervision.specs.Supervision.{playerOf, gameOf}
 use Rattle.supervision.proofs.Rows.{total}
-use Rattle.solving.specs.Solving.{byteOf, Holds, winnerOf, stateWinners, Chosen, Decided, ownersFit}
-use Rattle.solving.proofs.Winners.{winner-is, winner-player, winner-few, same-byte}
+use Rattle.solving.specs.Solving.{winnerOf, stateWinners, Chosen, ownersFit}
+use Rattle.solving.specs.Stages.{Holds, Decided}
+use Rattle.solving.proofs.Winners.{winner-player, winner-few, same-byte}
 
 module _ (p : Policy) (lawful : legal p ≡ true) (owners sources targets priorities : List ℕ) (holds : Holds p sources targets priorities) where
   -- ---- the rows in the tables

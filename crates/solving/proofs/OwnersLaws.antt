@@ -1,10 +1,10 @@
 -- The owners: whether each byte is a player, found byte by byte, and what 16 and 17 answer. Assumes nothing.
-use Prim.Native.Nat.{ℕ, _+_, _≤_, _<_}
+use Prim.Native.Nat.{ℕ, _≤_, _<_}
 use native.Mathlib.Omega.{arith}
 use mathlib.Core.Path.{_≡_, refl, sym, ap, _∙_}
 use mathlib.Core.Logic.{_⊎_, inl, inr}
-use mathlib.Core.Bool.{Bool, true, false, true≢false}
-use mathlib.Core.List.{List, List·Memᴰ}
+use mathlib.Core.Bool.{true, false, true≢false}
+use mathlib.Core.List.{List}
 use lib.Dec.{eqb, ltb}
 use lib.ListN.{length, getD}
 use borrow.Author.Tests.{lt-ltb, le-ltb}
@@ -16,7 +16,8 @@ use Rattle.policy.specs.declared.Policy.{Policy}
 use Rattle.automaton.specs.Automaton.{built}
 use Rattle.builder.specs.declared.Translation.{Translation}
 use Rattle.builder.specs.declared.Translation.the-variants.{Translated, Refused}
-use Rattle.solving.specs.Solving.{arePlayers, ownersRefusal, statesIn, refusalAfter, Ready, Holds, ownersFit, ownersLegal}
+use Rattle.solving.specs.Solving.{ownersFit, ownersLegal}
+use Rattle.solving.specs.Stages.{arePlayers, ownersRefusal, statesIn, refusalAfter, Ready, Holds}
 
 -- ---- byte by byte
 module _ (owners : List ℕ) where

@@ -24,7 +24,8 @@ use Rattle.builder.specs.declared.Translation.{Translation}
 use Rattle.builder.specs.declared.Translation.the-variants.{Translated, Refused}
 use Rattle.builder.specs.Tables.{Tables, Hold, lengthsFit, nodesFit, statesFit, filled, cleared, translationOf, tablesAfter, numberOf, countsOf, Translates}
 use Rattle.builder.proofs.TranslateLaws.{fit-lengths}
-use Rattle.solving.specs.Solving.{refusalAfter, Ready, Holds, Decided, Decides, ownersFit, ownersLegal, solvingFits, admitted, solvable, solvingOf, refusalOf, countsAfter, sevenAfter, winnersAfter, LettersAfter, Solves}
+use Rattle.solving.specs.Solving.{ownersFit, ownersLegal, solvingFits, admitted, solvable, solvingOf, refusalOf, countsAfter, sevenAfter, winnersAfter, LettersAfter, Solves}
+use Rattle.solving.specs.Stages.{refusalAfter, Ready, Holds, Decided, Decides}
 use Rattle.solving.proofs.OwnersLaws.{owners-refusal-is}
 
 -- what solving promises of a policy it promises of an equal one

@@ -9,11 +9,11 @@ use lib.ListN.{length, getD}
 use Rattle.lists.specs.Lists.{all, below}
 use Rattle.lists.specs.Questions.{ask}
 use Rattle.lists.proofs.Bools.{test}
-use Rattle.tables.specs.Tables.{padded, zeros, Column}
+use Rattle.tables.specs.Tables.{padded, zeros}
 use Rattle.policy.specs.declared.Policy.{Policy}
 use Rattle.policy.specs.Policies.{legal}
 use Rattle.forest.specs.Forest.{forest}
-use Rattle.automaton.specs.Automaton.{built, start, stateSources, rowTargets, rowPriorities}
+use Rattle.automaton.specs.Automaton.{built, start}
 use Rattle.builder.specs.Tables.{Tables, Hold, lengthsFit, nodesFit, statesFit, filled, cleared, numberOf, countsOf}
 use Rattle.builder.specs.declared.Translation.{Translation}
 use Rattle.builder.specs.declared.Translation.the-variants.{Translated, Refused}
@@ -22,42 +22,10 @@ use Rattle.games.proofs.Plays.{determined}
 use Rattle.supervision.specs.Supervision.{playerOf, gameOf}
 use Rattle.supervision.proofs.Rows.{total}
 
--- ---- bytes as players
 -- a player as a byte
 abbrev pub byteOf : Bool → ℕ
 byteOf true = 1
 byteOf false = 0
-
--- each is 0 or 1
-unfoldable pub arePlayers : List ℕ → Bool
-arePlayers owners = all (λ (x : ℕ). ltb x 2) owners
-
--- 16 and 17 of the owners of so many policy states: the number of the first that is answered no; 0 where there is none
-unfoldable pub ownersRefusal : ℕ → List ℕ → ℕ
-ownersRefusal states owners = ask (eqb (length owners) states) 16 (ask (arePlayers owners) 17 0)
-
--- the tables of the built states and of their rows, as translating leaves them
-pub record Holds (p : Policy) (sources targets priorities : List ℕ) : Type 0 where
-  pub few : length (built p) ≤ 65535
-  pub sources-are : Column (stateSources p) sources
-  pub targets-are : Column (rowTargets p) targets
-  pub priorities-are : Column (rowPriorities p) priorities
-
--- ---- after a translation, by its answer
--- how many built states it counts
-abbrev pub statesIn : Translation → ℕ
-statesIn (Translated nodes states start) = states
-statesIn (Refused number) = 0
-
--- the first question that is answered no: its own, or 16 or 17 of the owners of so many policy states; 0 where there is none
-unfoldable pub refusalAfter : Translation → ℕ → List ℕ → ℕ
-refusalAfter (Translated nodes states start) policyStates owners = ownersRefusal policyStates owners
-refusalAfter (Refused number) policyStates owners = number
-
--- what it leaves to go on with: the number of a refusal, or the tables
-abbrev pub Ready : Policy → List ℕ → List ℕ → List ℕ → Translation → Type 0
-Ready p sources targets priorities (Translated nodes states start) = (states ≡ length (built p)) × Holds p sources targets priorities
-Ready p sources targets priorities (Refused number) = number ≢ 0
 
 module _ (p : Policy) (owners : List ℕ) where
   -- ---- the winners
@@ -81,19 +49,6 @@ module _ (p : Policy) (owners : List ℕ) where
     pub none : (s : ℕ) → s < length (built p) → gameOf p owners .owner s ≢ playerOf (winnerOf s) → getD letters s 0 ≡ 255
     -- 0 past the built states
     pub past : (s : ℕ) → length (built p) ≤ s → getD letters s 0 ≡ 0
-
-  -- ---- the two tables that solving adds, from what they were
-  pub record Decided (winners letters winnersExit lettersExit : List ℕ) : Type 0 where
-    pub winners-are : winnersExit ≡ padded (length winners) stateWinners
-    pub letters-long : length lettersExit ≡ length letters
-    pub chosen : Chosen lettersExit
-
-  -- after a translation that answered so: the number, and the two tables
-  pub record Decides (answer : Translation) (winners letters : List ℕ) (number : ℕ) (winnersExit lettersExit : List ℕ) : Type 0 where
-    pub number-is : number ≡ refusalAfter answer (p .states) owners
-    pub left-both : number ≡ 8 → (winnersExit ≡ winners) × (lettersExit ≡ letters)
-    pub cleared-both : number ≢ 0 → number ≢ 8 → (winnersExit ≡ zeros winners) × (lettersExit ≡ zeros letters)
-    pub decided : number ≡ 0 → Decided winners letters winnersExit lettersExit
 
   -- ---- the questions
   -- 16: one byte per policy state

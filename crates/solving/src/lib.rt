@@ -10,7 +10,8 @@ ghost use Rattle.policy.specs.declared.Policy.{Policy};
 ghost use Rattle.policy.specs.Making.{fromParts};
 ghost use Rattle.policy.specs.Policies.{legal};
 ghost use Rattle.builder.specs.Tables.{tables};
-ghost use Rattle.solving.specs.Solving.{arePlayers, ownersRefusal, refusalAfter, statesIn, Ready, Decides, Solves};
+ghost use Rattle.solving.specs.Solving.{Solves};
+ghost use Rattle.solving.specs.Stages.{arePlayers, ownersRefusal, refusalAfter, statesIn, Ready, Decides};
 
 // ---- the owners
 
@@ -164,8 +165,8 @@ pub fn solve_legal<'a>(
     requires lawful { λ p. ⌜ legal p ≡ true ⌝ }
     ensures { λ p r. ⌜ Solves p (now (owners .entry)) (tables (now (masks .entry)) (now (parents .entry)) (now («node_priorities» .entry)) (now (sources .entry)) (now (leaves .entry)) (now (targets .entry)) (now (priorities .entry))) (now (winners .entry)) (now (letters .entry)) r (tables (now (masks .exit)) (now (parents .exit)) (now («node_priorities» .exit)) (now (sources .exit)) (now (leaves .exit)) (now (targets .exit)) (now (priorities .exit))) (now (winners .exit)) (now (letters .exit)) ⌝ }
 {
-    let fit = (winners.len() == sources.len()) & (letters.len() == sources.len());
-    if !fit {
+    let lengths_fit = (winners.len() == sources.len()) & (letters.len() == sources.len());
+    if !lengths_fit {
         return Translation::Refused(8);
     }
     let answer = builder::translate_legal(

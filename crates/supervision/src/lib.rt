@@ -1,1 +1,1 @@
-// Lists of numbers and tests on them: definitions in specs/, laws in proofs/. No code of its own.
+// The supervisor's game of a policy: definitions in specs/, laws in proofs/. No code of its own.

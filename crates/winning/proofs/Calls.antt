@@ -4,4 +4,8 @@ use mathlib.Core.Path.{refl}
 use Rattle.winning.specs.Calls.{Contracts}
 
 pub contracts : Contracts
-contracts = record { solve-says = record { asks-nothing = λ x. refl; promises = λ x. refl } }
+contracts = record {
+  solve-says = record { asks-nothing = λ x. refl; promises = λ x. refl };
+  wulfrenda-solve-says = record { asks-nothing = λ x. refl; promises = λ x. refl };
+  wulfrenda-solve-bytes-says = record { asks-nothing = λ x. refl; promises = λ x. refl };
+}

@@ -33,7 +33,7 @@ use Rattle.correctness.proofs.Agreement.{Answered, readBy}
 use Rattle.games.specs.Games.{Follows, met, Won}
 use Rattle.supervision.specs.Supervision.{playerOf, gameOf}
 use Rattle.supervision.proofs.Rows.{row-leads, total}
-use Rattle.solving.specs.Solving.{winnerOf, stateWinners, Chosen, arePlayers, ownersFit, ownersLegal, solvingFits, admitted, solvable, solvingOf, sevenAfter, winnersAfter}
+use Rattle.solving.specs.Solving.{winnerOf, stateWinners, Chosen, ownersFit, ownersLegal, solvingFits, admitted, solvable, solvingOf, sevenAfter, winnersAfter}
 use Rattle.solving.proofs.Winners.{same-byte, winner-few}
 use Rattle.winning.specs.Calls.{Solving, TablesHold, WinnersHold, LettersHold}
 use Rattle.winning.specs.Solved.{states, winnerAt, ownerAt, Winners, Play, Wins}

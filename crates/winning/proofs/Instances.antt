@@ -22,22 +22,26 @@ use Rattle.builder.specs.declared.Translation.the-variants.{Translated}
 use Rattle.running.specs.declared.Run.{Run}
 use Rattle.running.specs.declared.Reading.{Reading}
 use Rattle.running.specs.Running.{readingOf, runAfter}
-use Rattle.correctness.specs.Calls.{Call, Translating, read, readShows}
+use Rattle.records.specs.Records.{policyOf, recordOf}
+use Rattle.reading.specs.Reading.{readingOf as bytesReadingOf, offsetOf, numberOf as readNumberOf}
+use Rattle.reading.specs.declared.Answer.{Answer}
+use Rattle.answers.specs.Answers.{firstOf, offsetAfter}
+use Rattle.correctness.specs.Calls.{Call, Translating, read, readShows, wulfrenda-run, wulfrendaRunShows}
 use Rattle.correctness.specs.Known.{B}
-use Rattle.correctness.specs.Instances.{filledWith}
+use Rattle.correctness.specs.Instances.{bytesOfB, filledWith}
 use Rattle.correctness.proofs.Translated.{exact-beginning}
-use Rattle.correctness.proofs.Instances.{placeOf, slices, held, read-call}
+use Rattle.correctness.proofs.Instances.{placeOf, slices, held, policy-back, bytes-give, read-call, wulfrenda-run-call}
 use Rattle.supervision.specs.Supervision.{playerOf, gameOf}
 use Rattle.supervision.proofs.Rows.{row-leads}
-use Rattle.solving.specs.Solving.{winnerOf, arePlayers, ownersFit, ownersLegal, solvingFits, solvingOf, sevenAfter, winnersAfter}
+use Rattle.solving.specs.Solving.{winnerOf, ownersFit, ownersLegal, solvingFits, solvingOf, sevenAfter, winnersAfter}
 use Rattle.solving.proofs.Winners.{same-byte}
 use Rattle.solving.proofs.SolveLaws.{number-of, counts-of}
-use Rattle.winning.specs.Calls.{Solving, solve, solveShows}
+use Rattle.winning.specs.Calls.{Solving, solve, solveShows, wulfrenda-solve, wulfrendaSolveShows, wulfrenda-solve-bytes, wulfrendaSolveBytesShows}
 use Rattle.winning.specs.Solved.{states, winnerAt, ownerAt, Play}
-use Rattle.winning.specs.Instances.{ownersOfB, PremisesMet}
+use Rattle.winning.specs.Instances.{ownersOfB, PremisesMet, Instances}
 use Rattle.winning.proofs.Exists.{letters-exist}
 use Rattle.winning.proofs.Done.{Done, done-legal, done-success, done-winners, states-are, is-state, winner-at, owner-is, owner-few, chosen, reads-row}
-use Rattle.winning.proofs.Solved.{solved}
+use Rattle.winning.proofs.Solved.{solved, wulfrenda-solved, wulfrenda-solved-bytes}
 
 -- ---- by computation
 abbrev room : Tables
@@ -47,7 +51,7 @@ abbrev wide : List ℕ
 wide = replicate 3 7
 
 b-solved : solvingOf B ownersOfB room wide wide ≡ Translated 3 2 0
-unfolding has insert inside properly setOf members submasks padded zeros edges edgeOf source targetOf colourOf edgeColours coloursOf inFamily accepting countsFit legalCounts legalEdge legalEdges legalSet legalFamily legalGraph legal spread closure reach isCycle contains before place inOrder largest full cyclesIn roots opposed children trees tree forest priority transientPriority node upFrom chain childOf inRoot places next holds kids isLeaf leaves firstLeaf statesOver builtStates deepest lead entered firstLeafBelow leafAfter priorityAfter built stateAt number start rowTarget rowPriority builtFit forestFits sizesFit lengthsFit nodesFit statesFit arePlayers ownersFit ownersLegal solvingFits solvingOf
+unfolding has insert inside properly setOf members submasks padded zeros edges edgeOf source targetOf colourOf edgeColours coloursOf inFamily accepting countsFit legalCounts legalEdge legalEdges legalSet legalFamily legalGraph legal spread closure reach isCycle contains before place inOrder largest full cyclesIn roots opposed children trees tree forest priority transientPriority node upFrom chain childOf inRoot places next holds kids isLeaf leaves firstLeaf statesOver builtStates deepest lead entered firstLeafBelow leafAfter priorityAfter built stateAt number start rowTarget rowPriority builtFit forestFits sizesFit lengthsFit nodesFit statesFit ownersFit ownersLegal solvingFits solvingOf
 b-solved = refl
 
 -- ---- a call of solving for every policy, all owners and all tables
@@ -71,6 +75,39 @@ solve-call p owners t winners letters =
         winners-are = refl;
         letters-are = l .1;
       };
+    }
+
+wulfrenda-solve-call : List ℕ → List ℕ → Tables → List ℕ → List ℕ → Call wulfrenda-solve
+unfolding placeOf slices
+wulfrenda-solve-call packed owners t winners letters =
+    let p = policyOf packed in
+    let l = letters-exist p owners t winners letters in
+    let q = solvingOf p owners t winners letters in
+    record {
+      at = record {
+        lifetimes = ([], ([], ([], ([], ([], ([], ([], ([], ([], ([], ([], ([], tt))))))))))));
+        given = (placeOf packed, (placeOf owners, slices t (placeOf winners, (placeOf letters, (placeOf (0 ∷ 0 ∷ 0 ∷ []), tt)))));
+        answer = translateNumberOf q;
+        left = (placeOf packed, (placeOf owners, slices (sevenAfter p owners t winners letters) (placeOf (winnersAfter p owners t winners letters), (placeOf (l .0), (placeOf (countsOf q), tt)))));
+      };
+      learnt = (refl, (refl, (held (sevenAfter p owners t winners letters), (refl, l .1))));
+    }
+
+wulfrenda-solve-bytes-call : List ℕ → List ℕ → Tables → List ℕ → List ℕ → Call wulfrenda-solve-bytes
+unfolding placeOf slices
+wulfrenda-solve-bytes-call bytes owners t winners letters =
+    let a = bytesReadingOf bytes in
+    let p = a .policy in
+    let l = letters-exist p owners t winners letters in
+    let q = solvingOf p owners t winners letters in
+    record {
+      at = record {
+        lifetimes = ([], ([], ([], ([], ([], ([], ([], ([], ([], ([], ([], ([], ([], tt)))))))))))));
+        given = (placeOf bytes, (placeOf owners, slices t (placeOf winners, (placeOf letters, (placeOf (0 ∷ 0 ∷ 0 ∷ []), (placeOf 0, tt))))));
+        answer = firstOf (readNumberOf (a .outcome)) (translateNumberOf q);
+        left = (placeOf bytes, (placeOf owners, slices (sevenAfter p owners t winners letters) (placeOf (winnersAfter p owners t winners letters), (placeOf (l .0), (placeOf (countsOf q), (placeOf (offsetAfter (readNumberOf (a .outcome)) (translateNumberOf q) (offsetOf (a .outcome))), tt))))));
+      };
+      learnt = (refl, (refl, (held (sevenAfter p owners t winners letters), (refl, (l .1, refl)))));
     }
 
 -- ---- after one that succeeded: a play from each built state, in which the other player always picks letter 0
@@ -167,6 +204,27 @@ module _ (s : Solving) (done : Done s) (n : ℕ) (h : n < states s) where
   unfolding placeOf read-call reads state
   reads-begin = refl
 
+  runs : ℕ → Call wulfrenda-run
+  runs i = wulfrenda-run-call (p .letters) targets priorities (state i) (pick (state i))
+
+  runs-play : Play s (λ i. wulfrendaRunShows (runs i .at))
+  unfolding placeOf read-call wulfrenda-run-call reads runs state
+  runs-play = record {
+    size = size;
+    beginning = exact-beginning t (done-success s done);
+    letters-are = λ i. refl;
+    targets-are = λ i. refl;
+    priorities-are = λ i. refl;
+    begins = h;
+    goes-on = λ i. refl;
+    reads = λ i. pick-legal (state i) (stands i);
+    follows = λ i e. own-pick (state i) e;
+  }
+
+  runs-begin : wulfrendaRunShows (runs 0 .at) .state ≡ n
+  unfolding placeOf wulfrenda-run-call runs state
+  runs-begin = refl
+
 -- ---- B
 core : PremisesMet solve solveShows read readShows
 unfolding placeOf slices solve-call
@@ -184,3 +242,41 @@ core =
       begins = λ n h. reads-begin s done n h;
       play = λ n h. reads-play s done n h;
     }
+
+library : PremisesMet wulfrenda-solve wulfrendaSolveShows wulfrenda-run wulfrendaRunShows
+unfolding placeOf slices wulfrenda-solve-call
+library =
+    let c = wulfrenda-solve-call (recordOf B) ownersOfB room wide wide in
+    let s = wulfrendaSolveShows (c .at) in
+    let returned : s .translating .number ≡ 0 = ap (λ (p : Policy). translateNumberOf (solvingOf p ownersOfB room wide wide)) policy-back ∙ ap translateNumberOf b-solved in
+    let done = wulfrenda-solved c returned in
+    record {
+      call = c;
+      policy-is = policy-back;
+      owners-are = refl;
+      succeeded = returned;
+      calls = λ n h. runs s done n h;
+      begins = λ n h. runs-begin s done n h;
+      play = λ n h. runs-play s done n h;
+    }
+
+library-from-bytes : PremisesMet wulfrenda-solve-bytes wulfrendaSolveBytesShows wulfrenda-run wulfrendaRunShows
+unfolding placeOf slices wulfrenda-solve-bytes-call firstOf
+library-from-bytes =
+    let c = wulfrenda-solve-bytes-call bytesOfB ownersOfB room wide wide in
+    let s = wulfrendaSolveBytesShows (c .at) in
+    let number : Answer → ℕ = λ (a : Answer). firstOf (readNumberOf (a .outcome)) (translateNumberOf (solvingOf (a .policy) ownersOfB room wide wide)) in
+    let returned : s .translating .number ≡ 0 = ap number bytes-give ∙ ap translateNumberOf b-solved in
+    let done = wulfrenda-solved-bytes c returned in
+    record {
+      call = c;
+      policy-is = ap (λ (a : Answer). a .policy) bytes-give;
+      owners-are = refl;
+      succeeded = returned;
+      calls = λ n h. runs s done n h;
+      begins = λ n h. runs-begin s done n h;
+      play = λ n h. runs-play s done n h;
+    }
+
+pub instances : Instances
+instances = record { of-the-core = core; of-the-library = library; of-the-library-from-bytes = library-from-bytes }

@@ -2,10 +2,12 @@
 use Prim.Native.Nat.{ℕ}
 use mathlib.Core.Path.{_≡_, sym, ap, _∙_}
 use Rattle.builder.specs.Tables.{countsOf, numberOf as translateNumberOf}
-use Rattle.correctness.specs.Calls.{Function, Places, Call, Running, read, readShows}
+use Rattle.reading.specs.Reading.{readingOf as bytesReadingOf, numberOf as readNumberOf}
+use Rattle.correctness.specs.Calls.{Function, Places, Call, Running, read, readShows, wulfrenda-run, wulfrendaRunShows}
 use Rattle.correctness.proofs.Agreement.{Answered, agreement}
-use Rattle.correctness.proofs.Demand3.{read-answered}
-use Rattle.winning.specs.Calls.{Solving, solve, solveShows}
+use Rattle.correctness.proofs.Demand3.{second-none, read-answered, wulfrenda-run-answered}
+use Rattle.solving.specs.Solving.{solvingOf}
+use Rattle.winning.specs.Calls.{Solving, solve, solveShows, wulfrenda-solve, wulfrendaSolveShows, wulfrenda-solve-bytes, wulfrendaSolveBytesShows}
 use Rattle.winning.specs.Solved.{AfterSolving, OneAnswer, Solved}
 use Rattle.winning.proofs.Done.{Done, done-success, done-winners, done-wins, one-answer}
 
@@ -18,6 +20,27 @@ solved c returned = record {
   winners-are = c .learnt .winners-are;
   letters-are = c .learnt .letters-are;
 }
+
+pub wulfrenda-solved : (c : Call wulfrenda-solve) → wulfrendaSolveShows (c .at) .translating .number ≡ 0 → Done (wulfrendaSolveShows (c .at))
+wulfrenda-solved c returned = record {
+  number-is = sym (c .learnt .0) ∙ returned;
+  counts-are = c .learnt .1 .0;
+  tables-are = c .learnt .1 .1 .0;
+  winners-are = c .learnt .1 .1 .1 .0;
+  letters-are = c .learnt .1 .1 .1 .1;
+}
+
+pub wulfrenda-solved-bytes : (c : Call wulfrenda-solve-bytes) → wulfrendaSolveBytesShows (c .at) .translating .number ≡ 0 → Done (wulfrendaSolveBytesShows (c .at))
+wulfrenda-solved-bytes c returned =
+    let s = wulfrendaSolveBytesShows (c .at) in
+    record {
+      number-is = second-none (readNumberOf (bytesReadingOf (c .at .given .0 .now) .outcome))
+          (translateNumberOf (solvingOf (s .translating .policy) (s .owners) (s .translating .entry) (s .winners-entry) (s .letters-entry))) (sym (c .learnt .0) ∙ returned);
+      counts-are = c .learnt .1 .0;
+      tables-are = c .learnt .1 .1 .0;
+      winners-are = c .learnt .1 .1 .1 .0;
+      letters-are = c .learnt .1 .1 .1 .1 .0;
+    }
 
 -- ---- of a function that solves and a function that runs
 module _ (f : Function) (shows : Places f → Solving) (done : (c : Call f) → shows (c .at) .translating .number ≡ 0 → Done (shows (c .at))) where
@@ -33,4 +56,10 @@ module _ (f : Function) (shows : Places f → Solving) (done : (c : Call f) → 
   answers-alike g shows′ done′ c d returned returned′ same owned n h = one-answer (shows (c .at)) (shows′ (d .at)) (done c returned) (done′ d returned′) same owned n h
 
 pub after : Solved
-after = record { of-the-core = after-solving solve solveShows solved read readShows read-answered; one-answer = answers-alike solve solveShows solved solve solveShows solved }
+after = record {
+  of-the-core = after-solving solve solveShows solved read readShows read-answered;
+  of-the-library = after-solving wulfrenda-solve wulfrendaSolveShows wulfrenda-solved wulfrenda-run wulfrendaRunShows wulfrenda-run-answered;
+  of-the-library-from-bytes = after-solving wulfrenda-solve-bytes wulfrendaSolveBytesShows wulfrenda-solved-bytes wulfrenda-run wulfrendaRunShows wulfrenda-run-answered;
+  core-and-library = answers-alike solve solveShows solved wulfrenda-solve wulfrendaSolveShows wulfrenda-solved;
+  record-and-bytes = answers-alike wulfrenda-solve wulfrendaSolveShows wulfrenda-solved wulfrenda-solve-bytes wulfrendaSolveBytesShows wulfrenda-solved-bytes;
+}

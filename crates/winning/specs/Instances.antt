@@ -2,9 +2,9 @@
 use Prim.Native.Nat.{ℕ, _<_}
 use mathlib.Core.Path.{_≡_}
 use mathlib.Core.List.{List, [], _∷_}
-use Rattle.correctness.specs.Calls.{Function, Places, Call, Running}
 use Rattle.correctness.specs.Known.{B}
-use Rattle.winning.specs.Calls.{Solving}
+use Rattle.correctness.specs.Calls.{Function, Places, Call, Running, read, readShows, wulfrenda-run, wulfrendaRunShows}
+use Rattle.winning.specs.Calls.{Solving, solve, solveShows, wulfrenda-solve, wulfrendaSolveShows, wulfrenda-solve-bytes, wulfrendaSolveBytesShows}
 use Rattle.winning.specs.Solved.{states, Play}
 
 -- state 0 the supervisor's, state 1 the plant's
@@ -20,3 +20,8 @@ pub record PremisesMet (f : Function) (shows : Places f → Solving) (g : Functi
   pub calls : (n : ℕ) → n < states (shows (call .at)) → ℕ → Call g
   pub begins : (n : ℕ) (h : n < states (shows (call .at))) → shows′ (calls n h 0 .at) .state ≡ n
   pub play : (n : ℕ) (h : n < states (shows (call .at))) → Play (shows (call .at)) (λ i. shows′ (calls n h i .at))
+
+pub record Instances : Type 0 where
+  pub of-the-core : PremisesMet solve solveShows read readShows
+  pub of-the-library : PremisesMet wulfrenda-solve wulfrendaSolveShows wulfrenda-run wulfrendaRunShows
+  pub of-the-library-from-bytes : PremisesMet wulfrenda-solve-bytes wulfrendaSolveBytesShows wulfrenda-run wulfrendaRunShows

@@ -4,11 +4,11 @@ use Prim.Native.Nat.{ℕ, suc, _≤_, _<_}
 use mathlib.Core.Path.{_≡_}
 use mathlib.Core.List.{List}
 use lib.ListN.{getD, take}
-use Rattle.correctness.specs.Calls.{Function, Places, Call, Translating, Running, read, readShows}
+use Rattle.correctness.specs.Calls.{Function, Places, Call, Translating, Running, read, readShows, wulfrenda-run, wulfrendaRunShows}
 use Rattle.correctness.specs.Demand3.{stateCount, under, Beginning, Holds}
 use Rattle.games.specs.Games.{Won}
 use Rattle.supervision.specs.Supervision.{playerOf}
-use Rattle.winning.specs.Calls.{Solving, solve, solveShows}
+use Rattle.winning.specs.Calls.{Solving, solve, solveShows, wulfrenda-solve, wulfrendaSolveShows, wulfrenda-solve-bytes, wulfrendaSolveBytesShows}
 
 module _ (s : Solving) where
   -- how many built states there are, the winner of one, and the owner of the policy state under it
@@ -76,5 +76,8 @@ pub record AfterSolving (f : Function) (shows : Places f → Solving) (g : Funct
 
 pub record Solved : Type 0 where
   pub of-the-core : AfterSolving solve solveShows read readShows
+  pub of-the-library : AfterSolving wulfrenda-solve wulfrendaSolveShows wulfrenda-run wulfrendaRunShows
+  pub of-the-library-from-bytes : AfterSolving wulfrenda-solve-bytes wulfrendaSolveBytesShows wulfrenda-run wulfrendaRunShows
   -- the winners are decided by the policy and the owners: by whichever of the three they were found
-  pub one-answer : OneAnswer solve solveShows solve solveShows
+  pub core-and-library : OneAnswer solve solveShows wulfrenda-solve wulfrendaSolveShows
+  pub record-and-bytes : OneAnswer wulfrenda-solve wulfrendaSolveShows wulfrenda-solve-bytes wulfrendaSolveBytesShows

@@ -1,1 +1,1 @@
-// Who wins the supervisor's game: definitions in specs/, laws in proofs/. No code of its own.
+// What holds after a call of solving: definitions in specs/, laws in proofs/. No code of its own.

@@ -1,8 +1,6 @@
 // The functions of the static library, for C and for Rust (include/wulfrenda.h). A policy crosses the boundary as a record of 388 bytes (crate records), lent with its length;
 // bytes of another length are no policy's, and refused with 7. Each function that can refuse returns document 01's number, 0 where nothing was refused, and writes what else it answers
 // into places that the caller lends. The seven tables are seven parameters: each crosses as a pointer and a length.
-mod answers;
-
 use comparing::Comparison;
 use judging::PolicyVerdict;
 use judging::RowsVerdict;
@@ -14,18 +12,20 @@ ghost use Rattle.lists.specs.Questions.{ask};
 ghost use Rattle.colour_sets.specs.Order.{setAt};
 ghost use Rattle.reading.specs.Reading.{offsetOf, readingOf, numberOf as readNumberOf};
 ghost use Rattle.builder.specs.Tables.{countsOf, translationOf, tablesAfter, Hold, tables, numberOf as translateNumberOf};
+ghost use Rattle.solving.specs.Solving.{solvingOf, sevenAfter, winnersAfter, LettersAfter};
 ghost use Rattle.running.specs.Running.{runAfter, priorityOf, numberOf as runNumberOf, readingOf as runReadingOf};
 ghost use Rattle.judging.specs.Judging.{policyNumberOf, policyColoursOf, policyAcceptedOf, policyVerdict, rowsNumberOf, rowsLeastOf, rowsVerdict};
 ghost use Rattle.comparing.specs.Comparing.{sameOf, comparison, numberOf as compareNumberOf};
 ghost use Rattle.records.specs.Records.{flag, isRecord, policyOf, recordOf};
-ghost use Rattle.wulfrenda.specs.Library.{version, firstOf, offsetAfter};
+ghost use Rattle.answers.specs.Answers.{firstOf, offsetAfter};
+ghost use Rattle.wulfrenda.specs.Library.{version};
 
 // The archive's version: major times 1,000,000 plus minor times 1,000 plus patch. The header's WULFRENDA_VERSION says which one a caller was built for.
 #[no_mangle]
 pub extern "C" fn wulfrenda_version() -> u32
     ensures { λ r. ⌜ r ≡ version ⌝ }
 {
-    2000000
+    2001000
 }
 
 // The colour set at a position of the fixed order.
@@ -137,6 +137,85 @@ pub extern "C" fn wulfrenda_translate_bytes(
     *counts = found;
     *offset = answers::unless_refused(values.number, read.offset);
     values.number
+}
+
+// The supervisor's game of a policy, for the owners of its states: the translation as above; the winner of each built state, and a letter at each that its owner wins.
+#[no_mangle]
+pub extern "C" fn wulfrenda_solve(
+    packed: &[u8],
+    owners: &[u8],
+    masks: &mut [u64],
+    parents: &mut [u16],
+    node_priorities: &mut [u8],
+    sources: &mut [u8],
+    leaves: &mut [u16],
+    targets: &mut [u16],
+    priorities: &mut [u8],
+    winners: &mut [u8],
+    letters: &mut [u8],
+    counts: &mut [u16; 3],
+) -> u8
+    ensures number { λ r. ⌜ r ≡ translateNumberOf (solvingOf (policyOf (now (packed .entry))) (now (owners .entry)) (tables (now (masks .entry)) (now (parents .entry)) (now («node_priorities» .entry)) (now (sources .entry)) (now (leaves .entry)) (now (targets .entry)) (now (priorities .entry))) (now (winners .entry)) (now (letters .entry))) ⌝ }
+    ensures counts { λ _. ⌜ now (counts .exit) ≡ countsOf (solvingOf (policyOf (now (packed .entry))) (now (owners .entry)) (tables (now (masks .entry)) (now (parents .entry)) (now («node_priorities» .entry)) (now (sources .entry)) (now (leaves .entry)) (now (targets .entry)) (now (priorities .entry))) (now (winners .entry)) (now (letters .entry))) ⌝ }
+    ensures tables { λ _. ⌜ Hold (sevenAfter (policyOf (now (packed .entry))) (now (owners .entry)) (tables (now (masks .entry)) (now (parents .entry)) (now («node_priorities» .entry)) (now (sources .entry)) (now (leaves .entry)) (now (targets .entry)) (now (priorities .entry))) (now (winners .entry)) (now (letters .entry))) (now (masks .exit)) (now (parents .exit)) (now («node_priorities» .exit)) (now (sources .exit)) (now (leaves .exit)) (now (targets .exit)) (now (priorities .exit)) ⌝ }
+    ensures winners { λ _. ⌜ now (winners .exit) ≡ winnersAfter (policyOf (now (packed .entry))) (now (owners .entry)) (tables (now (masks .entry)) (now (parents .entry)) (now («node_priorities» .entry)) (now (sources .entry)) (now (leaves .entry)) (now (targets .entry)) (now (priorities .entry))) (now (winners .entry)) (now (letters .entry)) ⌝ }
+    ensures letters { λ _. ⌜ LettersAfter (policyOf (now (packed .entry))) (now (owners .entry)) (tables (now (masks .entry)) (now (parents .entry)) (now («node_priorities» .entry)) (now (sources .entry)) (now (leaves .entry)) (now (targets .entry)) (now (priorities .entry))) (now (winners .entry)) (now (letters .entry)) (now (letters .exit)) ⌝ }
+{
+    solving_calls::solve_record(
+        packed,
+        owners,
+        masks,
+        parents,
+        node_priorities,
+        sources,
+        leaves,
+        targets,
+        priorities,
+        winners,
+        letters,
+        counts,
+    )
+}
+
+// The same from command bytes, read as by wulfrenda_translate_bytes.
+#[no_mangle]
+pub extern "C" fn wulfrenda_solve_bytes(
+    bytes: &[u8],
+    owners: &[u8],
+    masks: &mut [u64],
+    parents: &mut [u16],
+    node_priorities: &mut [u8],
+    sources: &mut [u8],
+    leaves: &mut [u16],
+    targets: &mut [u16],
+    priorities: &mut [u8],
+    winners: &mut [u8],
+    letters: &mut [u8],
+    counts: &mut [u16; 3],
+    offset: &mut usize,
+) -> u8
+    ensures number { λ r. ⌜ r ≡ firstOf (readNumberOf (readingOf (now (bytes .entry)) .outcome)) (translateNumberOf (solvingOf (readingOf (now (bytes .entry)) .policy) (now (owners .entry)) (tables (now (masks .entry)) (now (parents .entry)) (now («node_priorities» .entry)) (now (sources .entry)) (now (leaves .entry)) (now (targets .entry)) (now (priorities .entry))) (now (winners .entry)) (now (letters .entry)))) ⌝ }
+    ensures counts { λ _. ⌜ now (counts .exit) ≡ countsOf (solvingOf (readingOf (now (bytes .entry)) .policy) (now (owners .entry)) (tables (now (masks .entry)) (now (parents .entry)) (now («node_priorities» .entry)) (now (sources .entry)) (now (leaves .entry)) (now (targets .entry)) (now (priorities .entry))) (now (winners .entry)) (now (letters .entry))) ⌝ }
+    ensures tables { λ _. ⌜ Hold (sevenAfter (readingOf (now (bytes .entry)) .policy) (now (owners .entry)) (tables (now (masks .entry)) (now (parents .entry)) (now («node_priorities» .entry)) (now (sources .entry)) (now (leaves .entry)) (now (targets .entry)) (now (priorities .entry))) (now (winners .entry)) (now (letters .entry))) (now (masks .exit)) (now (parents .exit)) (now («node_priorities» .exit)) (now (sources .exit)) (now (leaves .exit)) (now (targets .exit)) (now (priorities .exit)) ⌝ }
+    ensures winners { λ _. ⌜ now (winners .exit) ≡ winnersAfter (readingOf (now (bytes .entry)) .policy) (now (owners .entry)) (tables (now (masks .entry)) (now (parents .entry)) (now («node_priorities» .entry)) (now (sources .entry)) (now (leaves .entry)) (now (targets .entry)) (now (priorities .entry))) (now (winners .entry)) (now (letters .entry)) ⌝ }
+    ensures letters { λ _. ⌜ LettersAfter (readingOf (now (bytes .entry)) .policy) (now (owners .entry)) (tables (now (masks .entry)) (now (parents .entry)) (now («node_priorities» .entry)) (now (sources .entry)) (now (leaves .entry)) (now (targets .entry)) (now (priorities .entry))) (now (winners .entry)) (now (letters .entry)) (now (letters .exit)) ⌝ }
+    ensures offset { λ _. ⌜ now (offset .exit) ≡ offsetAfter (readNumberOf (readingOf (now (bytes .entry)) .outcome)) (translateNumberOf (solvingOf (readingOf (now (bytes .entry)) .policy) (now (owners .entry)) (tables (now (masks .entry)) (now (parents .entry)) (now («node_priorities» .entry)) (now (sources .entry)) (now (leaves .entry)) (now (targets .entry)) (now (priorities .entry))) (now (winners .entry)) (now (letters .entry)))) (offsetOf (readingOf (now (bytes .entry)) .outcome)) ⌝ }
+{
+    solving_calls::solve_bytes(
+        bytes,
+        owners,
+        masks,
+        parents,
+        node_priorities,
+        sources,
+        leaves,
+        targets,
+        priorities,
+        winners,
+        letters,
+        counts,
+        offset,
+    )
 }
 
 // A letter more: the state moves, or stays after a refusal; the priority is that met, or 0 after a refusal.

@@ -8,8 +8,6 @@ use borrow.Author.Needs.{needs}
 use Rattle.solving.proofs.OwnersLaws.{players-not, players-all}
 use Rattle.solving.proofs.are_players.Statement.{statement}
 use Rattle.solving.proofs.are_players.Tie as tie
-use Rattle.solving.proofs.are_players.Reads as reads
-use Rattle.solving.proofs.are_players.Lts as lts
 
 abbrev Inv-loop : tie.InvT-loop
 Inv-loop owners i₀ i-end i = (i-end ≡ length owners) × (i ≤ length owners) × ((k : ℕ) → k < i → getD owners k 0 < 2)

@@ -2,7 +2,7 @@
 use mathlib.Core.Path.{sym, ap, _∙_}
 use borrow.Author.Needs.{needs}
 use Rattle.builder.specs.declared.Translation.{Translation}
-use Rattle.solving.specs.Solving.{refusalAfter}
+use Rattle.solving.specs.Stages.{refusalAfter}
 use Rattle.solving.proofs.refusal_after.Statement.{statement}
 use Rattle.solving.proofs.refusal_after.Tie as tie
 

@@ -5,7 +5,7 @@ use Rattle.lists.proofs.Bools.{not-true, unnot}
 use Rattle.policy.specs.Policies.{legal}
 use Rattle.policy.specs.Making.{fromParts}
 use Rattle.policy.proofs.Making.{parts-are}
-use Rattle.builder.specs.Tables.{Tables, tables}
+use Rattle.builder.specs.Tables.{tables}
 use Rattle.solving.proofs.SolveLaws.{same-solves, refused-seven}
 use Rattle.solving.proofs.solve.Statement.{statement}
 use Rattle.solving.proofs.solve.Tie as tie

@@ -11,7 +11,8 @@ use Rattle.reading.specs.Reading.{readingOf, offsetOf, numberOf as readNumberOf
 use Rattle.reading.proofs.Legal.{number-legal, number-illegal}
 use Rattle.builder.specs.Tables.{countsOf, numberOf}
 use Rattle.builder.proofs.TranslateLaws.{same-policy}
-use Rattle.wulfrenda.proofs.Bytes.{illegal-counts, illegal-tables, first-refused, offset-refused, first-passed, offset-passed}
+use Rattle.answers.proofs.TwoCalls.{first-refused, offset-refused, first-passed, offset-passed}
+use Rattle.wulfrenda.proofs.Bytes.{illegal-counts, illegal-tables}
 use borrow.Author.Needs.{needs}
 use Rattle.wulfrenda.proofs.wulfrenda_translate_bytes.Statement.{statement}
 use Rattle.wulfrenda.proofs.wulfrenda_translate_bytes.Tie as tie

@@ -1,7 +1,7 @@
--- `wulfrenda::answers::unless_refused` meets its contract, case by case. Assumes nothing.
+-- `answers::unless_refused` meets its contract, case by case. Assumes nothing.
 use borrow.Author.Tests.{eq-eqb, ne-eqb}
-use Rattle.wulfrenda.proofs.answers.unless_refused.Statement.{statement}
-use Rattle.wulfrenda.proofs.answers.unless_refused.Tie as tie
+use Rattle.answers.proofs.unless_refused.Statement.{statement}
+use Rattle.answers.proofs.unless_refused.Tie as tie
 
 returns : tie.Need-returns
 returns c = rw (eq-eqb _ 0 (c .if1 .taken))

@@ -1,9 +1,9 @@
--- `wulfrenda::answers::of_translation` meets its contract, case by case. Assumes nothing.
+-- `answers::of_translation` meets its contract, case by case. Assumes nothing.
 use mathlib.Core.Path.{sym, ap}
 use Rattle.builder.specs.Tables.{countsOf, numberOf}
 use borrow.Author.Needs.{needs}
-use Rattle.wulfrenda.proofs.answers.of_translation.Statement.{statement}
-use Rattle.wulfrenda.proofs.answers.of_translation.Tie as tie
+use Rattle.answers.proofs.of_translation.Statement.{statement}
+use Rattle.answers.proofs.of_translation.Tie as tie
 
 enum-known-t : tie.Need-enum-known-t
 enum-known-t c = search needs
