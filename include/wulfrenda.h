@@ -25,10 +25,10 @@ extern "C" {
 
 /* ---- version
  *
- * This file's: major times 1,000,000 plus minor times 1,000 plus patch, here 2.0.0. wulfrenda_version gives the archive's. A record of another length or a
+ * This file's: major times 1,000,000 plus minor times 1,000 plus patch, here 2.1.0. wulfrenda_version gives the archive's. A record of another length or a
  * call with other arguments is another major version; other macros and calls are another minor one.
  */
-#define WULFRENDA_VERSION 2000000
+#define WULFRENDA_VERSION 2001000
 
 /* ---- limits */
 
@@ -40,7 +40,17 @@ extern "C" {
 /* In the tables, no node: the parent of a root, the leaf of a built state whose policy state is in no cycle. */
 #define WULFRENDA_NONE 65535
 
-/* Stack enough for any call. Measured on x86-64: the two translating calls 176,000 bytes for the largest policies, 26,000 for a site; the others less than 5,000. */
+/* Whom a policy state belongs to, and who wins from a built state. */
+#define WULFRENDA_SUPERVISOR 0
+#define WULFRENDA_PLANT 1
+
+/* In the table of letters, no letter: at a built state that its owner does not win. */
+#define WULFRENDA_NO_LETTER 255
+
+/*
+ * Stack enough for any call. Measured on x86-64: the two translating calls 176,000 bytes for the largest policies, 26,000 for a site; the calls that neither
+ * translate nor solve less than 5,000. The two solving calls need no more than the translating ones.
+ */
 #define WULFRENDA_STACK_BYTES 262144
 
 /* ---- a policy's record
@@ -83,6 +93,8 @@ extern "C" {
 #define WULFRENDA_NO_SUCH_TARGET 13   /* Is the row's target a state that has rows? */
 #define WULFRENDA_EMPTY_LOOP 14       /* Is the loop non-empty? */
 #define WULFRENDA_DIFFERENT_GRAPHS 15 /* Have both policies the same states, letters and targets? */
+#define WULFRENDA_OWNERS_LENGTH 16    /* Is there one owner for each policy state? */
+#define WULFRENDA_NO_SUCH_OWNER 17    /* Is each owner 0 or 1? */
 
 /* ---- the calls */
 
@@ -159,6 +171,66 @@ uint8_t wulfrenda_translate_bytes(const uint8_t *bytes, size_t bytes_length,
                                   uint16_t *row_targets, size_t row_targets_length,
                                   uint8_t *row_priorities, size_t row_priorities_length,
                                   uint16_t counts[3], size_t *offset);
+
+/*
+ * Translates a policy, and solves the supervisor's game on the rows. Each policy state belongs to the supervisor or to the plant. A play is an endless run of the
+ * built automaton in which the owner of the policy state under the present built state picks the letter. The supervisor wins it if the least priority that recurs
+ * is even; else the plant wins it.
+ *
+ *   record            the policy's record, with its length
+ *   owners            of each policy state: WULFRENDA_SUPERVISOR or WULFRENDA_PLANT
+ *   the seven tables  as for wulfrenda_translate
+ *   state_winners     of each built state: who wins from it, WULFRENDA_SUPERVISOR or WULFRENDA_PLANT
+ *   state_letters     a letter if its owner wins from it; WULFRENDA_NO_LETTER if not
+ *   counts            as for wulfrenda_translate
+ *
+ * Whoever follows these letters wins every play that begins in a state that it wins, and the play never leaves the states that it wins. Built states over one
+ * policy state have one winner. Which of the winning letters stands at a state is left open.
+ *
+ * 7. 8: as in wulfrenda_translate, and state_winners and state_letters are as long as the state tables. 9. 10. 16. 17.
+ *
+ * After a success places past the result hold 0. After 7 and 8 all nine tables are unchanged; after 9, 10, 16 and 17 every place of all nine is 0.
+ * After any refusal the three counts are 0.
+ */
+uint8_t wulfrenda_solve(const uint8_t *record, size_t record_length,
+                        const uint8_t *owners, size_t owners_length,
+                        uint64_t *node_masks, size_t node_masks_length,
+                        uint16_t *node_parents, size_t node_parents_length,
+                        uint8_t *node_priorities, size_t node_priorities_length,
+                        uint8_t *state_sources, size_t state_sources_length,
+                        uint16_t *state_leaves, size_t state_leaves_length,
+                        uint16_t *row_targets, size_t row_targets_length,
+                        uint8_t *row_priorities, size_t row_priorities_length,
+                        uint8_t *state_winners, size_t state_winners_length,
+                        uint8_t *state_letters, size_t state_letters_length,
+                        uint16_t counts[3]);
+
+/*
+ * The two in one: reads a policy from command bytes, translates it and solves, with no record between.
+ *
+ *   bytes, bytes_length   as for wulfrenda_read
+ *   owners                as for wulfrenda_solve
+ *   the nine tables       as for wulfrenda_solve
+ *   counts                as for wulfrenda_translate
+ *   offset                as for wulfrenda_read; 0 after 8, 9, 10, 16 and 17
+ *
+ * The numbers of policy states and of letters are the shape command's: bytes[1] and bytes[2].
+ *
+ * The questions of wulfrenda_read, then 8, 9, 10, 16, 17: a policy that was read is legal. After 1 to 6 and 8 all nine tables are unchanged; after 9, 10, 16 and 17
+ * every place of all nine is 0. After any refusal the three counts are 0.
+ */
+uint8_t wulfrenda_solve_bytes(const uint8_t *bytes, size_t bytes_length,
+                              const uint8_t *owners, size_t owners_length,
+                              uint64_t *node_masks, size_t node_masks_length,
+                              uint16_t *node_parents, size_t node_parents_length,
+                              uint8_t *node_priorities, size_t node_priorities_length,
+                              uint8_t *state_sources, size_t state_sources_length,
+                              uint16_t *state_leaves, size_t state_leaves_length,
+                              uint16_t *row_targets, size_t row_targets_length,
+                              uint8_t *row_priorities, size_t row_priorities_length,
+                              uint8_t *state_winners, size_t state_winners_length,
+                              uint8_t *state_letters, size_t state_letters_length,
+                              uint16_t counts[3], size_t *offset);
 
 /*
  * Reads one letter on a built automaton.

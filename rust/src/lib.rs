@@ -1,6 +1,7 @@
 //! Muller policies into parity automata by the alternating cycle decomposition: a safe layer over the proved static library.
 //!
-//! A [`Policy`] is read from command bytes, [`translate`]d into tables that the caller lends, and the built automaton is run letter by letter with [`Run`].
+//! A [`Policy`] is read from command bytes, [`translate`]d into tables that the caller lends, and the built automaton is run letter by letter with [`Run`]. With
+//! [`solve`] the tables hold, beside the automaton, who wins the supervisor's game on it and by which letters.
 //! Nothing is allocated.
 //!
 //! ```
@@ -26,8 +27,17 @@ pub use refusal::{ReadError, Refusal};
 /// What stands in the tables for no node: the parent of a root, the leaf of a state in no cycle.
 pub const NONE: u16 = 65_535;
 
+/// The supervisor, as an owner and as a winner. It wins a play whose least recurring priority is even.
+pub const SUPERVISOR: u8 = 0;
+
+/// The plant, as an owner and as a winner. It wins the other plays.
+pub const PLANT: u8 = 1;
+
+/// What stands for a letter at a built state that its owner does not win.
+pub const NO_LETTER: u8 = 255;
+
 /// The version that this layer is built for: major times 1,000,000 plus minor times 1,000 plus patch. [`version`] gives the archive's.
-pub const VERSION: u32 = 2_000_000;
+pub const VERSION: u32 = 2_001_000;
 
 /// Stack enough for any call.
 pub const STACK_BYTES: usize = 262_144;
@@ -124,6 +134,152 @@ pub fn translate_bytes<'a>(
             tables.row_targets.len(),
             tables.row_priorities.as_mut_ptr(),
             tables.row_priorities.len(),
+            counts.as_mut_ptr(),
+            &mut offset,
+        )
+    };
+    let [nodes, states, start] = counts;
+    match Refusal::check(number) {
+        Ok(()) => Ok((
+            Counts {
+                nodes,
+                states,
+                start,
+            },
+            &bytes[offset..],
+        )),
+        Err(refusal) => Err(ReadError { refusal, offset }),
+    }
+}
+
+/// The two tables that [`solve`] fills in beside the seven, as long as the state tables.
+#[derive(Debug)]
+pub struct Solution<'a> {
+    /// Who wins from each built state: [`SUPERVISOR`] or [`PLANT`].
+    pub state_winners: &'a mut [u8],
+    /// A letter at each built state that its owner wins; [`NO_LETTER`] at the others.
+    pub state_letters: &'a mut [u8],
+}
+
+/// Translates a policy as [`translate`] does, and solves the supervisor's game on the rows. Each policy state belongs to [`SUPERVISOR`] or [`PLANT`], and the owner
+/// of the one under the present built state picks the letter. The supervisor wins a play whose least recurring priority is even, the plant the others.
+///
+/// Whoever follows the letters wins every play that begins in a state that it wins, and the play never leaves the states that it wins. Built states over one policy
+/// state have one winner. Which of the winning letters stands at a state is left open.
+///
+/// Places past the result hold 0. Refused with 7, 8, 9, 10, 16 or 17: all nine tables are unchanged after 7 and 8, and all 0 after the others.
+///
+/// ```
+/// use wulfrenda::{solve, Policy, Solution, Tables, NO_LETTER, PLANT, SUPERVISOR};
+///
+/// // two states, letters and colours; letter a leads to state a and has colour a; good if in the end only one colour is met
+/// let bytes = [
+///     1, 2, 2, 2, 0, 2, 0, 0, 0, 0, 2, 0, 1, 1, 1, 2, 1, 0, 0, 0, 2, 1, 1, 1, 1, 3, 1, 3, 2, 0,
+/// ];
+/// let (policy, _) = Policy::read(&bytes)?;
+/// let (mut winners, mut letters) = ([0; 2], [0; 2]);
+/// let counts = solve(
+///     &policy,
+///     &[SUPERVISOR, PLANT],
+///     Tables {
+///         node_masks: &mut [0; 3],
+///         node_parents: &mut [0; 3],
+///         node_priorities: &mut [0; 3],
+///         state_sources: &mut [0; 2],
+///         state_leaves: &mut [0; 2],
+///         row_targets: &mut [0; 4],
+///         row_priorities: &mut [0; 4],
+///     },
+///     Solution {
+///         state_winners: &mut winners,
+///         state_letters: &mut letters,
+///     },
+/// )?;
+/// assert_eq!(counts.states, 2);
+/// // the supervisor stays in state 0 once it is there; in state 1 the plant picks, and loses
+/// assert_eq!(winners, [SUPERVISOR, SUPERVISOR]);
+/// assert_eq!(letters, [0, NO_LETTER]);
+/// # Ok::<(), Box<dyn std::error::Error>>(())
+/// ```
+pub fn solve(
+    policy: &Policy,
+    owners: &[u8],
+    tables: Tables<'_>,
+    solution: Solution<'_>,
+) -> Result<Counts, Refusal> {
+    let mut counts = [0; 3];
+    // SAFETY: each pointer is that of a slice or an array, with its length; the mutable ones are exclusive.
+    let number = unsafe {
+        ffi::wulfrenda_solve(
+            policy.record().as_ptr(),
+            policy.record().len(),
+            owners.as_ptr(),
+            owners.len(),
+            tables.node_masks.as_mut_ptr(),
+            tables.node_masks.len(),
+            tables.node_parents.as_mut_ptr(),
+            tables.node_parents.len(),
+            tables.node_priorities.as_mut_ptr(),
+            tables.node_priorities.len(),
+            tables.state_sources.as_mut_ptr(),
+            tables.state_sources.len(),
+            tables.state_leaves.as_mut_ptr(),
+            tables.state_leaves.len(),
+            tables.row_targets.as_mut_ptr(),
+            tables.row_targets.len(),
+            tables.row_priorities.as_mut_ptr(),
+            tables.row_priorities.len(),
+            solution.state_winners.as_mut_ptr(),
+            solution.state_winners.len(),
+            solution.state_letters.as_mut_ptr(),
+            solution.state_letters.len(),
+            counts.as_mut_ptr(),
+        )
+    };
+    let [nodes, states, start] = counts;
+    Refusal::check(number).map(|()| Counts {
+        nodes,
+        states,
+        start,
+    })
+}
+
+/// [`Policy::read`] and [`solve`] in one call: the tables of the policy that command bytes give, and the bytes that follow its end command. Refused with 1 to 6 as
+/// in reading, the tables unchanged, and with 8, 9, 10, 16 or 17 as in solving; the offset is then 0. The numbers of policy states and of
+/// letters are the shape command's, `bytes[1]` and `bytes[2]`.
+pub fn solve_bytes<'a>(
+    bytes: &'a [u8],
+    owners: &[u8],
+    tables: Tables<'_>,
+    solution: Solution<'_>,
+) -> Result<(Counts, &'a [u8]), ReadError> {
+    let mut counts = [0; 3];
+    let mut offset = 0;
+    // SAFETY: each pointer is that of a slice or an array, with its length, or of a local; the mutable ones are exclusive.
+    let number = unsafe {
+        ffi::wulfrenda_solve_bytes(
+            bytes.as_ptr(),
+            bytes.len(),
+            owners.as_ptr(),
+            owners.len(),
+            tables.node_masks.as_mut_ptr(),
+            tables.node_masks.len(),
+            tables.node_parents.as_mut_ptr(),
+            tables.node_parents.len(),
+            tables.node_priorities.as_mut_ptr(),
+            tables.node_priorities.len(),
+            tables.state_sources.as_mut_ptr(),
+            tables.state_sources.len(),
+            tables.state_leaves.as_mut_ptr(),
+            tables.state_leaves.len(),
+            tables.row_targets.as_mut_ptr(),
+            tables.row_targets.len(),
+            tables.row_priorities.as_mut_ptr(),
+            tables.row_priorities.len(),
+            solution.state_winners.as_mut_ptr(),
+            solution.state_winners.len(),
+            solution.state_letters.as_mut_ptr(),
+            solution.state_letters.len(),
             counts.as_mut_ptr(),
             &mut offset,
         )

@@ -37,6 +37,10 @@ pub enum Refusal {
     EmptyLoop = 14,
     /// 15: the two policies have different states, letters or targets.
     DifferentGraphs = 15,
+    /// 16: there is not one owner for each policy state.
+    OwnersLength = 16,
+    /// 17: an owner is neither 0, the supervisor, nor 1, the plant.
+    NoSuchOwner = 17,
 }
 
 impl Refusal {
@@ -66,7 +70,9 @@ impl Refusal {
             13 => NoSuchTarget,
             14 => EmptyLoop,
             15 => DifferentGraphs,
-            _ => unreachable!("the library answers 0 to 15"),
+            16 => OwnersLength,
+            17 => NoSuchOwner,
+            _ => unreachable!("the library answers 0 to 17"),
         })
     }
 
@@ -87,6 +93,8 @@ impl Refusal {
             Refusal::NoSuchTarget => "a row leads to no state",
             Refusal::EmptyLoop => "the loop is empty",
             Refusal::DifferentGraphs => "the policies have different graphs",
+            Refusal::OwnersLength => "there is not one owner for each policy state",
+            Refusal::NoSuchOwner => "no such owner",
         }
     }
 }
@@ -99,12 +107,12 @@ impl fmt::Display for Refusal {
 
 impl Error for Refusal {}
 
-/// Why command bytes were not read or not translated, and where.
+/// Why command bytes were not read, not translated or not solved, and where.
 #[derive(Clone, Copy, Debug, PartialEq, Eq, Hash)]
 pub struct ReadError {
     /// The question that was answered "no".
     pub refusal: Refusal,
-    /// Where the refused command begins; the number of bytes, if there is none; 0 where the policy was read and not translated.
+    /// Where the refused command begins; the number of bytes, if there is none; 0 where the policy was read and then refused.
     pub offset: usize,
 }
 

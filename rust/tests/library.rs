@@ -1,8 +1,9 @@
-//! The known policies, the edges of the limits, what the tables hold after each refusal, runs, judgings and comparings, through the safe layer.
+//! The known policies, the edges of the limits, what the tables hold after each refusal, solutions, runs, judgings and comparings, through the safe layer.
 
 use wulfrenda::{
-    colour_set_at, compare, judge_policy, judge_rows, translate, translate_bytes, version, Counts,
-    Policy, ReadError, Refusal, Rows, Run, Tables, Verdict, NONE, RECORD_LEN, STACK_BYTES, VERSION,
+    colour_set_at, compare, judge_policy, judge_rows, solve, solve_bytes, translate,
+    translate_bytes, version, Counts, Policy, ReadError, Refusal, Rows, Run, Solution, Tables,
+    Verdict, NONE, NO_LETTER, PLANT, RECORD_LEN, STACK_BYTES, SUPERVISOR, VERSION,
 };
 
 const B: [u8; 30] = [
@@ -76,6 +77,50 @@ impl Lent {
     }
 }
 
+/// The seven tables and the two of a solution, each place full of nines at first.
+#[derive(Clone, Debug, PartialEq, Eq)]
+struct Game {
+    tables: Lent,
+    winners: Vec<u8>,
+    letters: Vec<u8>,
+}
+
+impl Game {
+    fn filled(nodes: usize, states: usize, rows: usize, value: u8) -> Game {
+        Game {
+            tables: Lent::filled(nodes, states, rows, value),
+            winners: vec![value; states],
+            letters: vec![value; states],
+        }
+    }
+
+    fn new(nodes: usize, states: usize, rows: usize) -> Game {
+        Game::filled(nodes, states, rows, 9)
+    }
+
+    fn lend(&mut self) -> (Tables<'_>, Solution<'_>) {
+        let solution = Solution {
+            state_winners: &mut self.winners,
+            state_letters: &mut self.letters,
+        };
+        (self.tables.lend(), solution)
+    }
+
+    fn solve(&mut self, policy: &Policy, owners: &[u8]) -> Result<Counts, Refusal> {
+        let (tables, solution) = self.lend();
+        solve(policy, owners, tables, solution)
+    }
+
+    fn solve_bytes<'a>(
+        &mut self,
+        bytes: &'a [u8],
+        owners: &[u8],
+    ) -> Result<(Counts, &'a [u8]), ReadError> {
+        let (tables, solution) = self.lend();
+        solve_bytes(bytes, owners, tables, solution)
+    }
+}
+
 fn counts(nodes: u16, states: u16, start: u16) -> Result<Counts, Refusal> {
     Ok(Counts {
         nodes,
@@ -105,6 +150,15 @@ fn header_layer_and_archive_are_of_one_version() {
     assert_eq!(in_header("WULFRENDA_RECORD_BYTES"), RECORD_LEN);
     assert_eq!(in_header("WULFRENDA_NONE"), usize::from(NONE));
     assert_eq!(in_header("WULFRENDA_STACK_BYTES"), STACK_BYTES);
+    for (name, value) in [
+        ("WULFRENDA_SUPERVISOR", SUPERVISOR),
+        ("WULFRENDA_PLANT", PLANT),
+        ("WULFRENDA_NO_LETTER", NO_LETTER),
+        ("WULFRENDA_OWNERS_LENGTH", Refusal::OwnersLength.number()),
+        ("WULFRENDA_NO_SUCH_OWNER", Refusal::NoSuchOwner.number()),
+    ] {
+        assert_eq!(in_header(name), usize::from(value), "{name}");
+    }
 }
 
 // ---- reading
@@ -360,6 +414,242 @@ fn the_stack_that_is_named_is_enough() {
     let deep = || Lent::new(65_535, 65_535, 8 * 65_535).translate(&largest(3));
     let built = thread.spawn(deep).unwrap().join().unwrap().unwrap();
     assert_eq!(built.nodes, 1 + 8 * (1 + 7 * (1 + 6 * (1 + 5 * (1 + 4)))));
+    let thread = std::thread::Builder::new().stack_size(STACK_BYTES + 16 * 1024);
+    let owners = [0, 1, 0, 1, 0, 1, 0, 1];
+    let deep = move || Game::new(65_535, 65_535, 8 * 65_535).solve(&largest(3), &owners);
+    assert_eq!(thread.spawn(deep).unwrap().join().unwrap(), Ok(built));
+}
+
+// ---- solving
+
+/// B's owners, and the winner from both states. The supervisor wants to stay in a state in the end, the plant to change states for ever.
+const GAMES_OF_B: [([u8; 2], u8); 4] = [
+    ([SUPERVISOR, SUPERVISOR], SUPERVISOR),
+    ([SUPERVISOR, PLANT], SUPERVISOR),
+    ([PLANT, SUPERVISOR], SUPERVISOR),
+    ([PLANT, PLANT], PLANT),
+];
+
+/// Whether these letters are right for B: the one of an owner that wins, and none for one that does not. A supervisor that owns both states has to stay in one at least.
+fn letters_fit_b(owners: [u8; 2], letters: &[u8]) -> bool {
+    match owners {
+        [SUPERVISOR, SUPERVISOR] => [[0, 0], [0, 1], [1, 1]].iter().any(|l| l == letters),
+        [SUPERVISOR, PLANT] => letters == [0, NO_LETTER],
+        [PLANT, SUPERVISOR] => letters == [NO_LETTER, 1],
+        _ => letters == [1, 0],
+    }
+}
+
+#[test]
+fn b_solved_and_zeros_past_it() {
+    let b = policy(&B);
+    for (owners, winner) in GAMES_OF_B {
+        let mut translated = Lent::new(5, 4, 8);
+        let found = translated.translate(&b);
+        let mut g = Game::new(5, 4, 8);
+        assert_eq!(g.solve(&b, &owners), found);
+        assert_eq!(g.tables, translated);
+        assert_eq!(g.winners, [winner, winner, 0, 0]);
+        assert!(letters_fit_b(owners, &g.letters[..2]), "{:?}", g.letters);
+        assert_eq!(g.letters[2..], [0, 0]);
+
+        let mut g = Game::new(3, 2, 4);
+        assert_eq!(g.solve(&b, &owners), counts(3, 2, 0));
+        assert_eq!(g.winners, [winner, winner]);
+        assert!(letters_fit_b(owners, &g.letters), "{:?}", g.letters);
+    }
+}
+
+/// Whether whoever wins a built state wins every play from it by the letters, and never leaves the states that it wins: no step leads out of them, and no step whose
+/// priority is the other player's is in a cycle of steps with priorities as large or larger.
+fn letters_win(g: &Game, rows: &Rows<'_>, states: usize, owners: &[u8]) -> bool {
+    let letters = usize::from(rows.letters);
+    let steps: Vec<(usize, usize, u8)> = (0..states * letters)
+        .filter(|row| {
+            let (state, letter) = (row / letters, row % letters);
+            let owner = owners[usize::from(g.tables.state_sources[state])];
+            owner != g.winners[state] || letter == usize::from(g.letters[state])
+        })
+        .map(|row| {
+            let target = usize::from(rows.targets[row]);
+            (row / letters, target, rows.priorities[row])
+        })
+        .collect();
+    let reaches = |from: usize, to: usize, least: u8| {
+        let mut seen = vec![false; states];
+        let mut open = vec![from];
+        while let Some(state) = open.pop() {
+            if !std::mem::replace(&mut seen[state], true) {
+                let on = |&&(s, _, p): &&(usize, usize, u8)| s == state && p >= least;
+                open.extend(steps.iter().filter(on).map(|&(_, t, _)| t));
+            }
+        }
+        seen[to]
+    };
+    steps.iter().all(|&(state, target, priority)| {
+        let winner = g.winners[state];
+        winner == g.winners[target] && (priority % 2 == winner || !reaches(target, state, priority))
+    })
+}
+
+/// One of many small policies: up to 5 states, 3 letters and 4 colours, and the rest by chance.
+fn small(chance: &mut u64) -> Policy {
+    let mut below = |limit: u8| {
+        *chance ^= *chance << 13;
+        *chance ^= *chance >> 7;
+        *chance ^= *chance << 17;
+        (*chance >> 32) as u8 % limit
+    };
+    let (states, letters, colours) = (1 + below(5), 1 + below(3), 1 + below(4));
+    let mut bytes = vec![1, states, letters, colours, below(states)];
+    for e in 0..states * letters {
+        bytes.extend([2, e / letters, e % letters, below(states), below(colours)]);
+    }
+    for set in 1..1 << colours {
+        if below(2) == 0 {
+            bytes.extend([3, set]);
+        }
+    }
+    bytes.push(0);
+    policy(&bytes)
+}
+
+#[test]
+fn whoever_follows_the_letters_wins() {
+    let mut chance = 1;
+    let mut policies: Vec<Policy> = [&A[..], &B, &C].map(policy).to_vec();
+    policies.extend((0..300).map(|_| small(&mut chance)));
+    let mut shared = 0;
+    for p in policies {
+        let policy_states = usize::from(p.states());
+        for choice in 0..1u8 << policy_states {
+            let owners: Vec<u8> = (0..policy_states).map(|q| choice >> q & 1).collect();
+            let mut g = Game::new(200, 200, 200 * usize::from(p.letters()));
+            let built = g.solve(&p, &owners).unwrap();
+            let states = usize::from(built.states);
+            let rows = g.tables.rows(p.letters(), built.states);
+            let mut winner_over = vec![None; policy_states];
+            for state in 0..states {
+                let source = usize::from(g.tables.state_sources[state]);
+                let (winner, letter) = (g.winners[state], g.letters[state]);
+                assert!(winner == SUPERVISOR || winner == PLANT);
+                assert_eq!(*winner_over[source].get_or_insert(winner), winner);
+                if owners[source] == winner {
+                    assert!(letter < p.letters());
+                } else {
+                    assert_eq!(letter, NO_LETTER);
+                }
+            }
+            assert!(letters_win(&g, &rows, states, &owners), "{p:?} {owners:?}");
+            assert!(g.winners[states..].iter().all(|&winner| winner == 0));
+            assert!(g.letters[states..].iter().all(|&letter| letter == 0));
+            shared += usize::from(
+                winner_over.contains(&Some(SUPERVISOR)) && winner_over.contains(&Some(PLANT)),
+            );
+        }
+    }
+    assert!(shared > 100, "both players win somewhere in {shared} games");
+}
+
+/// Tables for a solution of B, its owners, and what is then refused, read or not: the first question of those answered "no".
+fn unsolved() -> Vec<(Game, Vec<u8>, Refusal)> {
+    let full = |nodes, states| Game::new(nodes, states, 2 * states);
+    let mut cases = Vec::new();
+    let changes: [fn(&mut Game); 12] = [
+        |g| g.tables.node_masks.truncate(1),
+        |g| g.tables.node_parents.truncate(1),
+        |g| g.tables.node_priorities.truncate(1),
+        |g| g.tables.state_sources.truncate(1),
+        |g| g.tables.state_leaves.truncate(1),
+        |g| g.tables.row_targets.truncate(1),
+        |g| g.tables.row_priorities.truncate(1),
+        |g| g.winners.truncate(1),
+        |g| g.letters.truncate(1),
+        |g| g.winners.push(9),
+        |g| g.letters.push(9),
+        |g| (g.winners.push(9), g.letters.push(9)).0,
+    ];
+    for change in changes {
+        for (nodes, states, owners) in [(3, 2, &[0, 1][..]), (2, 2, &[2]), (5, 4, &[])] {
+            let mut g = full(nodes, states);
+            change(&mut g);
+            cases.push((g, owners.to_vec(), Refusal::Lengths));
+        }
+    }
+    for (nodes, states, owners, refusal) in [
+        (2, 2, &[0, 1][..], Refusal::TooManyNodes),
+        (2, 1, &[2], Refusal::TooManyNodes),
+        (0, 0, &[0, 1], Refusal::TooManyNodes),
+        (3, 1, &[0, 1], Refusal::TooManyStates),
+        (3, 0, &[0, 1], Refusal::TooManyStates),
+        (5, 1, &[2, 2, 2], Refusal::TooManyStates),
+        (3, 2, &[], Refusal::OwnersLength),
+        (3, 2, &[0], Refusal::OwnersLength),
+        (5, 4, &[0, 1, 0], Refusal::OwnersLength),
+        (5, 4, &[2, 2, 2], Refusal::OwnersLength),
+        (5, 4, &[0; 16], Refusal::OwnersLength),
+        (3, 2, &[2, 0], Refusal::NoSuchOwner),
+        (5, 4, &[1, 2], Refusal::NoSuchOwner),
+        (5, 4, &[0, 255], Refusal::NoSuchOwner),
+    ] {
+        cases.push((full(nodes, states), owners.to_vec(), refusal));
+    }
+    cases
+}
+
+/// What the tables hold after a refusal of [`unsolved`]: themselves after 8, and else 0.
+fn after(before: &Game, refusal: Refusal) -> Game {
+    if refusal == Refusal::Lengths {
+        return before.clone();
+    }
+    let (nodes, states) = (before.tables.node_masks.len(), before.winners.len());
+    Game::filled(nodes, states, before.tables.row_targets.len(), 0)
+}
+
+#[test]
+fn solving_refuses_in_order() {
+    let b = policy(&B);
+    let mut record = *b.record();
+    record[0] = 17;
+    let illegal = Policy::from_record(record);
+    for (before, owners, refusal) in unsolved() {
+        let mut g = before.clone();
+        assert_eq!(g.solve(&b, &owners), Err(refusal));
+        assert_eq!(g, after(&before, refusal));
+        let mut g = before.clone();
+        assert_eq!(g.solve(&illegal, &owners), Err(Refusal::IllegalPolicy));
+        assert_eq!(g, before);
+    }
+}
+
+#[test]
+fn from_command_bytes_to_a_solution() {
+    let mut bytes = B.to_vec();
+    bytes.extend([7, 8]);
+    for (owners, _) in GAMES_OF_B {
+        let (mut one, mut two) = (Game::new(5, 5, 10), Game::new(5, 5, 10));
+        let (found, rest) = one.solve_bytes(&bytes, &owners).unwrap();
+        assert_eq!(rest, [7, 8]);
+        assert_eq!(Ok(found), two.solve(&policy(&B), &owners));
+        assert_eq!(one, two);
+    }
+    for (before, owners, refusal) in unsolved() {
+        let mut g = before.clone();
+        let answer = g.solve_bytes(&bytes, &owners);
+        assert_eq!(answer, Err(ReadError { refusal, offset: 0 }));
+        assert_eq!(g, after(&before, refusal));
+        // command bytes that are refused come first
+        for (bytes, refusal, offset) in [
+            (&B[..29], Refusal::Truncated, 29),
+            (&[4], Refusal::UnknownCommand, 0),
+            (&[1, 1, 1, 1, 0, 0], Refusal::Incomplete, 5),
+        ] {
+            let mut g = before.clone();
+            let answer = g.solve_bytes(bytes, &owners);
+            assert_eq!(answer, Err(ReadError { refusal, offset }));
+            assert_eq!(g, before);
+        }
+    }
 }
 
 // ---- running
@@ -485,6 +775,14 @@ fn every_refusal_says_its_number() {
     assert_eq!(
         Refusal::DifferentGraphs.to_string(),
         "refused 15: the policies have different graphs"
+    );
+    assert_eq!(
+        Refusal::OwnersLength.to_string(),
+        "refused 16: there is not one owner for each policy state"
+    );
+    assert_eq!(
+        Refusal::NoSuchOwner.to_string(),
+        "refused 17: no such owner"
     );
     assert_eq!(Refusal::Lengths.number(), 8);
     let error = ReadError {

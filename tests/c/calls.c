@@ -50,7 +50,7 @@ static int all(const void *bytes, size_t length, uint8_t byte) {
     return 1;
 }
 
-/* ---- the seven tables */
+/* ---- the seven tables, and the two of a solution */
 
 #define NODES 5
 #define STATES 4
@@ -64,6 +64,8 @@ struct tables {
     uint16_t state_leaves[STATES];
     uint16_t row_targets[ROWS];
     uint8_t row_priorities[ROWS];
+    uint8_t state_winners[STATES];
+    uint8_t state_letters[STATES];
     uint16_t counts[3];
     size_t offset;
 };
@@ -84,11 +86,37 @@ static uint8_t translate_bytes(const uint8_t *bytes, size_t length, size_t nodes
                                      t.state_leaves, states, t.row_targets, rows, t.row_priorities, rows, t.counts, &t.offset);
 }
 
+/* How many places are lent, of each sort of tables. */
+struct places {
+    size_t nodes, states, rows, winners, letters;
+};
+
+static const struct places whole = {NODES, STATES, ROWS, STATES, STATES};
+
+static uint8_t solve(size_t record_length, const uint8_t *owners, size_t owners_length, struct places n) {
+    fill();
+    return wulfrenda_solve(record, record_length, owners, owners_length, t.node_masks, n.nodes, t.node_parents, n.nodes, t.node_priorities, n.nodes,
+                           t.state_sources, n.states, t.state_leaves, n.states, t.row_targets, n.rows, t.row_priorities, n.rows, t.state_winners, n.winners,
+                           t.state_letters, n.letters, t.counts);
+}
+
+static uint8_t solve_bytes(const uint8_t *bytes, size_t length, const uint8_t *owners, size_t owners_length, struct places n) {
+    fill();
+    return wulfrenda_solve_bytes(bytes, length, owners, owners_length, t.node_masks, n.nodes, t.node_parents, n.nodes, t.node_priorities, n.nodes,
+                                 t.state_sources, n.states, t.state_leaves, n.states, t.row_targets, n.rows, t.row_priorities, n.rows, t.state_winners, n.winners,
+                                 t.state_letters, n.letters, t.counts, &t.offset);
+}
+
 /* Whether all seven tables hold this byte alone in their first places. */
 static int tables_hold(uint8_t byte, size_t nodes, size_t states, size_t rows) {
     return all(t.node_masks, nodes * sizeof t.node_masks[0], byte) && all(t.node_parents, nodes * sizeof t.node_parents[0], byte) &&
            all(t.node_priorities, nodes, byte) && all(t.state_sources, states, byte) && all(t.state_leaves, states * sizeof t.state_leaves[0], byte) &&
            all(t.row_targets, rows * sizeof t.row_targets[0], byte) && all(t.row_priorities, rows, byte);
+}
+
+/* Whether all nine do. */
+static int nine_hold(uint8_t byte, struct places n) {
+    return tables_hold(byte, n.nodes, n.states, n.rows) && all(t.state_winners, n.winners, byte) && all(t.state_letters, n.letters, byte);
 }
 
 static int counts_are(uint16_t nodes, uint16_t states, uint16_t start) { return t.counts[0] == nodes && t.counts[1] == states && t.counts[2] == start; }
@@ -106,6 +134,39 @@ static int tables_hold_b(void) {
            !memcmp(t.node_priorities, node_priorities, sizeof node_priorities) && !memcmp(t.state_sources, sources, sizeof sources) &&
            !memcmp(t.state_leaves, leaves, sizeof leaves) && !memcmp(t.row_targets, targets, sizeof targets) &&
            !memcmp(t.row_priorities, priorities, sizeof priorities) && counts_are(3, 2, 0);
+}
+
+/* Whether the places past the lent ones hold what they held before. */
+static int unlent(struct places n) {
+    return all(t.node_masks + n.nodes, (NODES - n.nodes) * sizeof t.node_masks[0], 9) &&
+           all(t.node_parents + n.nodes, (NODES - n.nodes) * sizeof t.node_parents[0], 9) && all(t.node_priorities + n.nodes, NODES - n.nodes, 9) &&
+           all(t.state_sources + n.states, STATES - n.states, 9) && all(t.state_leaves + n.states, (STATES - n.states) * sizeof t.state_leaves[0], 9) &&
+           all(t.row_targets + n.rows, (ROWS - n.rows) * sizeof t.row_targets[0], 9) && all(t.row_priorities + n.rows, ROWS - n.rows, 9) &&
+           all(t.state_winners + n.winners, STATES - n.winners, 9) && all(t.state_letters + n.letters, STATES - n.letters, 9);
+}
+
+/* Whether the two tables of a solution begin with these places. */
+static int solution_is(uint8_t winner_0, uint8_t winner_1, uint8_t letter_0, uint8_t letter_1) {
+    return t.state_winners[0] == winner_0 && t.state_winners[1] == winner_1 && t.state_letters[0] == letter_0 && t.state_letters[1] == letter_1;
+}
+
+/*
+ * Whether they begin with B's solution for these two owners. The supervisor wants to stay in a state in the end, and can if it owns one. The plant wants to change
+ * states for ever, and has to own both. Where the supervisor owns both it may stay in either of them, or in each.
+ */
+static int solution_of_b(const uint8_t owners[2]) {
+    if (owners[0] == WULFRENDA_PLANT) {
+        return owners[1] == WULFRENDA_PLANT ? solution_is(1, 1, 1, 0) : solution_is(0, 0, WULFRENDA_NO_LETTER, 1);
+    }
+    if (owners[1] == WULFRENDA_PLANT) {
+        return solution_is(0, 0, 0, WULFRENDA_NO_LETTER);
+    }
+    return solution_is(0, 0, 0, 0) || solution_is(0, 0, 0, 1) || solution_is(0, 0, 1, 1);
+}
+
+/* Whether all nine tables hold B and its solution, and 0 past them. */
+static int nine_hold_b(const uint8_t owners[2]) {
+    return tables_hold_b() && solution_of_b(owners) && all(t.state_winners + 2, STATES - 2, 0) && all(t.state_letters + 2, STATES - 2, 0);
 }
 
 /* ---- the calls */
@@ -198,6 +259,91 @@ static void from_bytes(void) {
     CHECK(tables_hold(0, 2, 2, 4) && counts_are(0, 0, 0) && t.offset == 0);
     CHECK(translate_bytes(B, sizeof B, 3, 1, 2) == WULFRENDA_TOO_MANY_STATES);
     CHECK(tables_hold(0, 3, 1, 2) && counts_are(0, 0, 0) && t.offset == 0);
+}
+
+/* Each choice of B's owners. */
+static const uint8_t owners[][2] = {
+    {WULFRENDA_SUPERVISOR, WULFRENDA_SUPERVISOR},
+    {WULFRENDA_SUPERVISOR, WULFRENDA_PLANT},
+    {WULFRENDA_PLANT, WULFRENDA_SUPERVISOR},
+    {WULFRENDA_PLANT, WULFRENDA_PLANT},
+};
+
+/* What solving B refuses: the number, what every place holds then, the owners, and the places lent. The number is that of the first "no" where there are more. */
+static const struct {
+    uint8_t number, holds, owners[3];
+    size_t owners_length;
+    struct places places;
+} unsolved[] = {
+    {WULFRENDA_LENGTHS, 9, {0, 1}, 2, {NODES, STATES, ROWS - 1, STATES, STATES}},
+    {WULFRENDA_LENGTHS, 9, {0, 1}, 2, {NODES, STATES, ROWS, STATES - 1, STATES}},
+    {WULFRENDA_LENGTHS, 9, {0, 1}, 2, {NODES, STATES, ROWS, STATES, STATES - 1}},
+    {WULFRENDA_LENGTHS, 9, {0, 1}, 2, {NODES, STATES, ROWS, STATES - 1, STATES - 1}},
+    {WULFRENDA_LENGTHS, 9, {0, 1}, 2, {NODES, STATES, ROWS, 0, 0}},
+    {WULFRENDA_LENGTHS, 9, {0, 1}, 2, {3, 2, 4, 3, 2}},
+    {WULFRENDA_LENGTHS, 9, {0, 1}, 2, {3, 2, 4, 2, 3}},
+    {WULFRENDA_LENGTHS, 9, {2, 2, 2}, 3, {2, 1, 2, 1, 2}},
+    {WULFRENDA_TOO_MANY_NODES, 0, {0, 1}, 2, {2, 2, 4, 2, 2}},
+    {WULFRENDA_TOO_MANY_NODES, 0, {2, 2, 2}, 3, {2, 1, 2, 1, 1}},
+    {WULFRENDA_TOO_MANY_NODES, 0, {0, 1}, 2, {0, 0, 0, 0, 0}},
+    {WULFRENDA_TOO_MANY_STATES, 0, {0, 1}, 2, {3, 1, 2, 1, 1}},
+    {WULFRENDA_TOO_MANY_STATES, 0, {2, 2, 2}, 3, {3, 1, 2, 1, 1}},
+    {WULFRENDA_TOO_MANY_STATES, 0, {0, 1}, 2, {3, 0, 0, 0, 0}},
+    {WULFRENDA_OWNERS_LENGTH, 0, {0, 1}, 1, {3, 2, 4, 2, 2}},
+    {WULFRENDA_OWNERS_LENGTH, 0, {0, 1}, 0, {NODES, STATES, ROWS, STATES, STATES}},
+    {WULFRENDA_OWNERS_LENGTH, 0, {0, 1, 0}, 3, {NODES, STATES, ROWS, STATES, STATES}},
+    {WULFRENDA_OWNERS_LENGTH, 0, {2, 2, 2}, 3, {NODES, STATES, ROWS, STATES, STATES}},
+    {WULFRENDA_NO_SUCH_OWNER, 0, {2, 1}, 2, {3, 2, 4, 2, 2}},
+    {WULFRENDA_NO_SUCH_OWNER, 0, {0, 2}, 2, {NODES, STATES, ROWS, STATES, STATES}},
+    {WULFRENDA_NO_SUCH_OWNER, 0, {255, 0}, 2, {NODES, STATES, ROWS, STATES, STATES}},
+};
+
+static void solving(void) {
+    static const struct places fitting = {3, 2, 4, 2, 2};
+    read_b();
+    for (size_t i = 0; i < LENGTH(owners); i++) {
+        CHECK(solve(RECORD, owners[i], 2, whole) == WULFRENDA_OK);
+        CHECK(nine_hold_b(owners[i]));
+        CHECK(solve(RECORD, owners[i], 2, fitting) == WULFRENDA_OK);
+        CHECK(solution_of_b(owners[i]) && counts_are(3, 2, 0) && unlent(fitting));
+    }
+    /* owners that stand in the record: its first two targets, 0 and 1 */
+    CHECK(solve(RECORD, record + WULFRENDA_RECORD_TARGETS, 2, whole) == WULFRENDA_OK);
+    CHECK(nine_hold_b(record + WULFRENDA_RECORD_TARGETS));
+
+    for (size_t i = 0; i < LENGTH(unsolved); i++) {
+        CHECK(solve(RECORD, unsolved[i].owners, unsolved[i].owners_length, unsolved[i].places) == unsolved[i].number);
+        CHECK(nine_hold(unsolved[i].holds, unsolved[i].places) && unlent(unsolved[i].places) && counts_are(0, 0, 0));
+        CHECK(solve(RECORD - 1, unsolved[i].owners, unsolved[i].owners_length, unsolved[i].places) == WULFRENDA_ILLEGAL_POLICY);
+        CHECK(nine_hold(9, whole) && counts_are(0, 0, 0));
+    }
+    CHECK(solve(0, owners[0], 2, whole) == WULFRENDA_ILLEGAL_POLICY);
+    CHECK(nine_hold(9, whole) && counts_are(0, 0, 0));
+    record[0] = 17;
+    CHECK(solve(RECORD, owners[0], 2, whole) == WULFRENDA_ILLEGAL_POLICY);
+    CHECK(nine_hold(9, whole) && counts_are(0, 0, 0));
+}
+
+static void solving_bytes(void) {
+    for (size_t i = 0; i < LENGTH(owners); i++) {
+        CHECK(solve_bytes(B, sizeof B, owners[i], 2, whole) == WULFRENDA_OK);
+        CHECK(nine_hold_b(owners[i]) && t.offset == B_END);
+    }
+    /* owners that stand in the command bytes: state and letter of the second edge, 0 and 1 */
+    CHECK(solve_bytes(B, sizeof B, B + 11, 2, whole) == WULFRENDA_OK);
+    CHECK(nine_hold_b(B + 11) && t.offset == B_END);
+
+    for (size_t i = 0; i < LENGTH(unsolved); i++) {
+        CHECK(solve_bytes(B, sizeof B, unsolved[i].owners, unsolved[i].owners_length, unsolved[i].places) == unsolved[i].number);
+        CHECK(nine_hold(unsolved[i].holds, unsolved[i].places) && unlent(unsolved[i].places) && counts_are(0, 0, 0) && t.offset == 0);
+        /* command bytes that are refused come first */
+        CHECK(solve_bytes(B, B_END - 1, unsolved[i].owners, unsolved[i].owners_length, unsolved[i].places) == WULFRENDA_TRUNCATED);
+        CHECK(nine_hold(9, whole) && counts_are(0, 0, 0) && t.offset == B_END - 1);
+    }
+    for (size_t i = 0; i < LENGTH(refused); i++) {
+        CHECK(solve_bytes(refused[i].bytes, refused[i].length, owners[0], 2, whole) == refused[i].number);
+        CHECK(nine_hold(9, whole) && counts_are(0, 0, 0) && t.offset == refused[i].offset);
+    }
 }
 
 static void running(void) {
@@ -310,6 +456,8 @@ int main(void) {
     reading();
     translating();
     from_bytes();
+    solving();
+    solving_bytes();
     running();
     judging_policies();
     judging_rows();

@@ -18,6 +18,18 @@ int main() {
         std::fprintf(stderr, "tests/c/header.cpp: reading answers %u at %zu\n", number, offset);
         return 1;
     }
+    // its one play meets priority 0 for ever: the supervisor wins it, with no letter where the plant picks
+    const std::array<uint8_t, 1> owners{WULFRENDA_PLANT};
+    std::array<uint64_t, 1> masks;
+    std::array<uint16_t, 1> parents, leaves, targets;
+    std::array<uint8_t, 1> node_priorities, sources, priorities, winners, letters;
+    std::array<uint16_t, 3> counts;
+    number = wulfrenda_solve(record.data(), record.size(), owners.data(), 1, masks.data(), 1, parents.data(), 1, node_priorities.data(), 1, sources.data(), 1,
+                             leaves.data(), 1, targets.data(), 1, priorities.data(), 1, winners.data(), 1, letters.data(), 1, counts.data());
+    if (number != WULFRENDA_OK || winners[0] != WULFRENDA_SUPERVISOR || letters[0] != WULFRENDA_NO_LETTER) {
+        std::fprintf(stderr, "tests/c/header.cpp: solving answers %u, winner %u, letter %u\n", number, winners[0], letters[0]);
+        return 1;
+    }
     std::printf("tests/c/header.cpp: version %u\n", unsigned{wulfrenda_version()});
     return 0;
 }

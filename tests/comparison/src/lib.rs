@@ -1,8 +1,9 @@
-//! What the comparisons and the benchmark share: tables to lend, policies as hexadecimal text, seeds, damage, and the program.
+//! What the comparisons and the benchmark share: tables to lend and the check of a solution, policies as hexadecimal text, seeds, damage, and the program.
 
 use independent::fast::Translator;
 use independent::random::Random;
-use independent::Automaton;
+use independent::solve::Solver;
+use independent::{check, Automaton};
 use std::path::PathBuf;
 use wulfrenda::{Counts, Policy, ReadError, Refusal, Rows};
 
@@ -29,6 +30,19 @@ impl OwnedTables {
             state_leaves: vec![x.into(); states],
             row_targets: vec![x.into(); rows],
             row_priorities: vec![x; rows],
+        }
+    }
+
+    /// Tables as long as these, with `x` in every place.
+    pub fn filled(&self, x: u8) -> Self {
+        OwnedTables {
+            node_masks: vec![x.into(); self.node_masks.len()],
+            node_parents: vec![x.into(); self.node_parents.len()],
+            node_priorities: vec![x; self.node_priorities.len()],
+            state_sources: vec![x; self.state_sources.len()],
+            state_leaves: vec![x.into(); self.state_leaves.len()],
+            row_targets: vec![x.into(); self.row_targets.len()],
+            row_priorities: vec![x; self.row_priorities.len()],
         }
     }
 
@@ -63,18 +77,19 @@ impl OwnedTables {
         translator: &'a mut Translator,
         p: &independent::policy::Policy,
     ) -> Result<&'a Automaton, u8> {
-        translator.fill(
-            p,
-            independent::Tables {
-                node_masks: &mut self.node_masks,
-                node_parents: &mut self.node_parents,
-                node_priorities: &mut self.node_priorities,
-                state_sources: &mut self.state_sources,
-                state_leaves: &mut self.state_leaves,
-                row_targets: &mut self.row_targets,
-                row_priorities: &mut self.row_priorities,
-            },
-        )
+        translator.fill(p, self.lend_independent())
+    }
+
+    fn lend_independent(&mut self) -> independent::Tables<'_> {
+        independent::Tables {
+            node_masks: &mut self.node_masks,
+            node_parents: &mut self.node_parents,
+            node_priorities: &mut self.node_priorities,
+            state_sources: &mut self.state_sources,
+            state_leaves: &mut self.state_leaves,
+            row_targets: &mut self.row_targets,
+            row_priorities: &mut self.row_priorities,
+        }
     }
 
     pub fn rows(&self, letters: u8) -> Rows<'_> {
@@ -87,10 +102,6 @@ impl OwnedTables {
 
     /// Where the tables first differ: the table, the place, and what both have there.
     pub fn difference(&self, other: &OwnedTables) -> Option<String> {
-        fn first<T: PartialEq + std::fmt::Debug>(name: &str, a: &[T], b: &[T]) -> Option<String> {
-            let at = (0..a.len().max(b.len())).find(|&i| a.get(i) != b.get(i))?;
-            Some(format!("{name}[{at}]: {:?} {:?}", a.get(at), b.get(at)))
-        }
         first("node_masks", &self.node_masks, &other.node_masks)
             .or_else(|| first("node_parents", &self.node_parents, &other.node_parents))
             .or_else(|| {
@@ -107,6 +118,110 @@ impl OwnedTables {
                     &other.row_priorities,
                 )
             })
+    }
+}
+
+/// Where two tables first differ.
+fn first<T: PartialEq + std::fmt::Debug>(name: &str, a: &[T], b: &[T]) -> Option<String> {
+    let at = (0..a.len().max(b.len())).find(|&i| a.get(i) != b.get(i))?;
+    Some(format!("{name}[{at}]: {:?} {:?}", a.get(at), b.get(at)))
+}
+
+/// The nine tables: the seven of a translation, and the two of a solution.
+#[derive(Clone, Debug, PartialEq, Eq)]
+pub struct SolvedTables {
+    pub seven: OwnedTables,
+    pub state_winners: Vec<u8>,
+    pub state_letters: Vec<u8>,
+}
+
+impl SolvedTables {
+    /// Tables for so many nodes, states and rows, with `x` in every place.
+    pub fn new(nodes: usize, states: usize, rows: usize, x: u8) -> Self {
+        SolvedTables {
+            seven: OwnedTables::new(nodes, states, rows, x),
+            state_winners: vec![x; states],
+            state_letters: vec![x; states],
+        }
+    }
+
+    /// Tables as long as these, with `x` in every place.
+    pub fn filled(&self, x: u8) -> Self {
+        SolvedTables {
+            seven: self.seven.filled(x),
+            state_winners: vec![x; self.state_winners.len()],
+            state_letters: vec![x; self.state_letters.len()],
+        }
+    }
+
+    /// Lends the tables to the proved solver.
+    pub fn solve(&mut self, p: &Policy, owners: &[u8]) -> Result<Counts, Refusal> {
+        let solution = wulfrenda::Solution {
+            state_winners: &mut self.state_winners,
+            state_letters: &mut self.state_letters,
+        };
+        wulfrenda::solve(p, owners, self.seven.lend(), solution)
+    }
+
+    /// Lends them to it with the command bytes of a policy.
+    pub fn solve_bytes<'a>(
+        &mut self,
+        bytes: &'a [u8],
+        owners: &[u8],
+    ) -> Result<(Counts, &'a [u8]), ReadError> {
+        let solution = wulfrenda::Solution {
+            state_winners: &mut self.state_winners,
+            state_letters: &mut self.state_letters,
+        };
+        wulfrenda::solve_bytes(bytes, owners, self.seven.lend(), solution)
+    }
+
+    /// Lends them to the independent solver.
+    pub fn fill<'a>(
+        &mut self,
+        solver: &'a mut Solver,
+        p: &independent::policy::Policy,
+        owners: &[u8],
+    ) -> Result<&'a Automaton, u8> {
+        let solution = independent::solve::Solution {
+            state_winners: &mut self.state_winners,
+            state_letters: &mut self.state_letters,
+        };
+        solver.fill(p, owners, self.seven.lend_independent(), solution)
+    }
+
+    /// Where the tables first differ, the letters included.
+    pub fn difference(&self, other: &SolvedTables) -> Option<String> {
+        self.decided_difference(other)
+            .or_else(|| first("state_letters", &self.state_letters, &other.state_letters))
+    }
+
+    /// Where they first differ in what is decided: not in the letters.
+    pub fn decided_difference(&self, other: &SolvedTables) -> Option<String> {
+        self.seven
+            .difference(&other.seven)
+            .or_else(|| first("state_winners", &self.state_winners, &other.state_winners))
+    }
+
+    /// What is wrong with the winners and letters of so many built states, or with what stands past them.
+    pub fn check(&self, states: usize, letters: u8, owners: &[u8]) -> Result<(), String> {
+        let rows = states * usize::from(letters);
+        let sources = &self.seven.state_sources[..states];
+        let owners: Vec<u8> = sources.iter().map(|&v| owners[usize::from(v)]).collect();
+        let game = check::Game {
+            letters: letters.into(),
+            targets: &self.seven.row_targets[..rows],
+            priorities: &self.seven.row_priorities[..rows],
+            owners: &owners,
+        };
+        let (winners, past_winners) = self.state_winners.split_at(states);
+        let (letters, past_letters) = self.state_letters.split_at(states);
+        check::solution(&game, winners, letters)?;
+        check::one_winner(sources, winners)?;
+        if past_winners.iter().chain(past_letters).any(|&x| x != 0) {
+            return Err("not 0 past the states".to_string());
+        }
+        Ok(())
     }
 }
 

@@ -20,15 +20,20 @@
 //! judge_policy POLICY state N stem N.. loop N..
 //! judge_rows ROWS state N stem N.. loop N..
 //! compare POLICY POLICY
+//! solve POLICY owners N.. [nodes N states N rows N [winners N letters N]]
+//!                                             the counts and the start; the winner of each built state; the letters by which its owner can win there, of which the
+//!                                             call may give any, and a dash where there is none; or the number and what became of the tables
+//! winners POLICY owners N..                   the winner over each policy state
 //! ```
 
-use comparison::{counts, program, root, unhex, OwnedTables};
+use comparison::{counts, program, root, unhex, OwnedTables, SolvedTables};
 use independent::fast::{self, Translator};
+use independent::solve::Solver;
 use independent::{brute, judge, policy};
 use std::collections::HashMap;
 use std::fs;
 use std::path::Path;
-use wulfrenda::{Counts, Policy, Refusal, Rows, Run, NONE};
+use wulfrenda::{Counts, Policy, Refusal, Rows, Run, NONE, NO_LETTER};
 
 type Record = [u8; 388];
 
@@ -82,7 +87,7 @@ fn entries(text: &str) -> Vec<Entry> {
 }
 
 /// Each is followed by a list, and is no name.
-const KEYS: [&str; 13] = [
+const KEYS: [&str; 15] = [
     "bytes",
     "first",
     "nodes",
@@ -96,6 +101,8 @@ const KEYS: [&str; 13] = [
     "letters",
     "targets",
     "priorities",
+    "owners",
+    "winners",
 ];
 
 /// The names that stand before the first key, and the words after each key.
@@ -268,6 +275,8 @@ impl Definitions {
             }
             "judge_rows" => judge_rows(&self.rows(input.names[0]), input),
             "compare" => self.compare(input.names[0], input.names[1]),
+            "solve" => self.solve(input, solution),
+            "winners" => self.solve(input, winners),
             _ => panic!("{call}: no such call"),
         }
     }
@@ -367,6 +376,126 @@ impl Definitions {
     }
 }
 
+/// What a side answered, as the stored cases have it: of the letters and owners, the answer and the tables.
+type Text = fn(usize, &[u8], Result<Counts, (u8, usize)>, &SolvedTables) -> String;
+
+impl Definitions {
+    fn solve(&self, input: &Input, text: Text) -> Answers {
+        let owners: Vec<u8> = input.list("owners");
+        let tables = |letters: usize| {
+            if !input.has("nodes") {
+                return SolvedTables::new(1024, 1024, 1024 * letters, FILL);
+            }
+            let (nodes, states) = (input.number("nodes"), input.number("states"));
+            let mut t = SolvedTables::new(nodes, states, input.number("rows"), FILL);
+            if input.has("winners") {
+                t.state_winners.resize(input.number("winners"), FILL);
+                t.state_letters.resize(input.number("letters"), FILL);
+            }
+            t
+        };
+        let mut answers = Answers::new();
+        let (record, read) = match self.source(input) {
+            Given::Bytes(bytes) => {
+                let read = policy::read(&bytes).map(|r| r.0);
+                // where nothing was read there is no number of letters
+                let letters = read.as_ref().map_or(1, |p| p.letters);
+                let mut t = tables(letters);
+                let answer = t.solve_bytes(&bytes, &owners);
+                let answer = answer.map(|x| x.0).map_err(|e| (e.number(), e.offset));
+                answers.push(("ours, from bytes", text(letters, &owners, answer, &t)));
+                (read.as_ref().ok().map(|p| p.record()), read)
+            }
+            Given::Record(record) => (Some(record), policy::from_record(&record).ok_or((7, 0))),
+            Given::Rows { .. } => panic!("a policy"),
+        };
+        if let Some(record) = record {
+            let letters = usize::from(record[1]);
+            let mut t = tables(letters);
+            let answer = t.solve(&Policy::from_record(record), &owners);
+            let answer = answer.map_err(|e| (e.number(), 0));
+            answers.push(("ours, from a record", text(letters, &owners, answer, &t)));
+        }
+        let letters = read.as_ref().map_or(1, |p| p.letters);
+        let mut t = tables(letters);
+        let answer = read.and_then(|p| {
+            let answer = t.fill(&mut Solver::default(), &p, &owners).map(counts);
+            answer.map_err(|number| (number, 0))
+        });
+        answers.push(("independent", text(letters, &owners, answer, &t)));
+        answers
+    }
+}
+
+/// A solution, and a line more if something is wrong with it; after a refusal, what became of the tables.
+fn solution(
+    letters: usize,
+    owners: &[u8],
+    answer: Result<Counts, (u8, usize)>,
+    t: &SolvedTables,
+) -> String {
+    let counts = match answer {
+        Ok(counts) => counts,
+        Err((number, at)) => return refused(number, at, |x| *t == t.filled(x)),
+    };
+    let states = usize::from(counts.states);
+    let rows: Vec<(u16, u8)> = (0..states * letters)
+        .map(|row| (t.seven.row_targets[row], t.seven.row_priorities[row]))
+        .collect();
+    let owners_of: Vec<u8> = (0..states)
+        .map(|s| owners[usize::from(t.seven.state_sources[s])])
+        .collect();
+    // the owner can win by a letter if it does when the state has no other
+    let can = |s: usize, letter: usize| {
+        let mut rows = rows.clone();
+        let one = rows[s * letters + letter];
+        rows[s * letters..][..letters].fill(one);
+        brute::wins(letters, &rows, &owners_of, owners_of[s])[s]
+    };
+    let letter = |s: usize| match t.state_letters[s] {
+        NO_LETTER => "-".to_string(),
+        given => {
+            let all = (0..letters).filter(|&a| can(s, a)).map(|a| a.to_string());
+            let all: Vec<String> = all.collect();
+            if all.contains(&given.to_string()) {
+                all.join("|")
+            } else {
+                format!("{given}, not of {all:?}")
+            }
+        }
+    };
+    let mut lines = vec![
+        format!(
+            "nodes {} states {states} start {}",
+            counts.nodes, counts.start
+        ),
+        join("winners", &t.state_winners[..states]),
+        join("letters", (0..states).map(letter)),
+    ];
+    lines.extend(t.check(states, letters as u8, owners).err());
+    lines.join("\n")
+}
+
+/// The winner over each policy state, or what is wrong with the solution.
+fn winners(
+    letters: usize,
+    owners: &[u8],
+    answer: Result<Counts, (u8, usize)>,
+    t: &SolvedTables,
+) -> String {
+    let states = usize::from(answer.expect("a solution").states);
+    if let Err(wrong) = t.check(states, letters as u8, owners) {
+        return wrong;
+    }
+    // those over one policy state stand together, and have one winner
+    let mut over: Vec<(u8, u8)> = (0..states)
+        .map(|s| (t.seven.state_sources[s], t.state_winners[s]))
+        .collect();
+    over.dedup();
+    let each: Vec<String> = over.iter().map(|x| x.1.to_string()).collect();
+    each.join(" ")
+}
+
 /// What every place of the tables holds before a call.
 const FILL: u8 = 7;
 
@@ -416,6 +545,21 @@ fn after(number: u8) -> &'static str {
     }
 }
 
+/// The number, its offset where there is one, and what became of the tables: whether all their places hold a number is asked.
+fn refused(number: u8, at: usize, hold: impl Fn(u8) -> bool) -> String {
+    let mut out = format!("refused {number}");
+    if number <= 6 {
+        out += &format!(" {at}");
+    }
+    out + if hold(0) {
+        "\ntables 0"
+    } else if hold(FILL) {
+        "\ntables unchanged"
+    } else {
+        "\ntables changed"
+    }
+}
+
 fn dash(n: u16) -> String {
     if n == NONE {
         "-".to_string()
@@ -442,29 +586,8 @@ fn nodes(t: &OwnedTables, count: usize) -> String {
 
 /// The tables as the program lists them, and lines more if a place past the result is not 0; after a refusal, what became of them.
 fn listing(answer: Result<Counts, (u8, usize)>, t: &OwnedTables, letters: usize) -> String {
-    let places = (
-        t.node_masks.len(),
-        t.state_sources.len(),
-        t.row_targets.len(),
-    );
-    let left = |x| {
-        t.difference(&OwnedTables::new(places.0, places.1, places.2, x))
-            .is_none()
-    };
     match answer {
-        Err((number, at)) => {
-            let mut out = format!("refused {number}");
-            if number <= 6 {
-                out += &format!(" {at}");
-            }
-            out + if left(0) {
-                "\ntables 0"
-            } else if left(FILL) {
-                "\ntables unchanged"
-            } else {
-                "\ntables changed"
-            }
-        }
+        Err((number, at)) => refused(number, at, |x| *t == t.filled(x)),
         Ok(counts) => {
             let (states, rows) = (
                 usize::from(counts.states),

@@ -1,12 +1,14 @@
 //! The proved library answers what the independent translator does, on policies of every shape, valid and damaged, and in tables too short, just right and longer.
 //! SEED and POLICIES change the fixed seed and the number of policies, for a longer run by hand.
 
-use comparison::{counts, damaged, hex, policies, random, OwnedTables};
+use comparison::{counts, damaged, hex, policies, random, root, unhex, OwnedTables, SolvedTables};
 use independent::fast::{self, Translator};
 use independent::policy::{from_record, Policy};
 use independent::random::{Random, Shape};
+use independent::solve::Solver;
 use independent::{alike, judge, policy};
-use wulfrenda::{ReadError, Refusal, Rows, Run};
+use std::fs;
+use wulfrenda::{Counts, ReadError, Refusal, Rows, Run, PLANT, SUPERVISOR};
 
 /// Policies of every shape: those at place i of a test have at most so many edges.
 fn shape(i: u64) -> Shape {
@@ -186,6 +188,11 @@ fn records_that_are_not_legal() {
         let before = tables.clone();
         alike(refusal(tables.translate(&ours)), Err(7), &text);
         alike(tables.difference(&before), None, &text);
+        let mut nine = SolvedTables::new(30, 30, 30 * p.letters, 0xa5);
+        let before = nine.clone();
+        let owners = owners(&mut random, p.states);
+        alike(refusal(nine.solve(&ours, &owners)), Err(7), &text);
+        alike(nine.difference(&before), None, &text);
         let judged = wulfrenda::judge_policy(&ours, 0, &[], &[0]);
         alike(refusal(judged), Err(7), &text);
         let other = proved(&p);
@@ -322,6 +329,331 @@ fn comparing() {
         answers.iter().all(|&n| n > policies(3_000) / 50),
         "{answers:?}"
     );
+}
+
+/// Owners: the supervisor alone, the plant alone, or either at each state.
+fn owners(random: &mut Random, states: usize) -> Vec<u8> {
+    match random.below(6) {
+        0 => vec![SUPERVISOR; states],
+        1 => vec![PLANT; states],
+        _ => (0..states)
+            .map(|_| [SUPERVISOR, PLANT][random.below(2)])
+            .collect(),
+    }
+}
+
+/// What solving left in our tables and in the independent ones: the same but for the letters, and those win; after a refusal what there was, or 0.
+fn left_alike(
+    ours: &SolvedTables,
+    theirs: &SolvedTables,
+    before: &SolvedTables,
+    (answer, letters, owners): (Result<Counts, u8>, usize, &[u8]),
+    text: &str,
+) {
+    let same = match answer {
+        Ok(counts) => {
+            let checked = ours.check(counts.states.into(), letters as u8, owners);
+            alike(checked, Ok(()), text);
+            ours.decided_difference(theirs)
+        }
+        Err(number) => {
+            let left = match number {
+                9 | 10 | 16 | 17 => before.filled(0),
+                _ => before.clone(),
+            };
+            alike(theirs.difference(&left), None, text);
+            ours.difference(&left)
+        }
+    };
+    alike(same, None, text);
+}
+
+/// Solves a policy, legal or not, on both sides in tables like these: the solved ones.
+fn solved_alike(
+    solver: &mut Solver,
+    p: &Policy,
+    owners: &[u8],
+    before: &SolvedTables,
+) -> Result<SolvedTables, u8> {
+    let text = format!("policy {} owners {owners:?}", p.hex());
+    let (mut ours, mut theirs) = (before.clone(), before.clone());
+    let answer = theirs.fill(solver, p, owners).map(counts);
+    alike(refusal(ours.solve(&proved(p), owners)), answer, &text);
+    left_alike(&ours, &theirs, before, (answer, p.letters, owners), &text);
+    answer.map(|_| ours)
+}
+
+/// Solves what command bytes give, on both sides in tables like these: the number, or 0.
+fn bytes_solved_alike(
+    solver: &mut Solver,
+    bytes: &[u8],
+    owners: &[u8],
+    before: &SolvedTables,
+) -> u8 {
+    let text = format!("bytes {} owners {owners:?}", hex(bytes));
+    let (mut ours, mut theirs) = (before.clone(), before.clone());
+    let mut letters = 0;
+    let expected = policy::read(bytes).and_then(|(p, end)| {
+        letters = p.letters;
+        let answer = theirs.fill(solver, &p, owners).map(counts);
+        answer.map(|counts| (counts, end)).map_err(|n| (n, 0))
+    });
+    let answer = ours.solve_bytes(bytes, owners);
+    let answer = answer
+        .map(|(counts, rest)| (counts, bytes.len() - rest.len()))
+        .map_err(|e| (e.number(), e.offset));
+    alike(answer, expected, &text);
+    let answer = answer.map(|x| x.0).map_err(|e| e.0);
+    left_alike(&ours, &theirs, before, (answer, letters, owners), &text);
+    answer.map_or_else(|number| number, |_| 0)
+}
+
+#[test]
+fn solving() {
+    let mut random = random(21);
+    let (mut translator, mut solver) = (Translator::default(), Solver::default());
+    let (mut games, mut won) = (0, [0; 2]);
+    for i in 0..policies(6_000) {
+        let p = random.policy(&shape(i));
+        // larger forests have a test of their own
+        let Ok(a) = translator.translate(&p, 5_000, 5_000) else {
+            continue;
+        };
+        let (nodes, states) = (a.nodes.len(), a.states.len());
+        let built = states;
+        let longer = (nodes + random.below(9), states + random.below(9));
+        let mut alike = |(nodes, states), number| {
+            let owners = owners(&mut random, p.states);
+            let tables = SolvedTables::new(nodes, states, states * p.letters, 0xa5);
+            let by_bytes = bytes_solved_alike(&mut solver, &p.bytes(), &owners, &tables);
+            assert_eq!(by_bytes, number);
+            match solved_alike(&mut solver, &p, &owners, &tables) {
+                Err(other) => assert_eq!(other, number),
+                Ok(solved) => {
+                    games += 1;
+                    for player in [SUPERVISOR, PLANT] {
+                        let wins = solved.state_winners[..built].contains(&player);
+                        won[usize::from(player)] += u64::from(wins);
+                    }
+                }
+            }
+        };
+        alike((nodes, states), 0);
+        alike(longer, 0);
+        alike((nodes, states - 1), 10);
+        if nodes > 0 {
+            alike((nodes - 1, states), 9);
+            alike((nodes - 1, states - 1), 9);
+        }
+    }
+    // most fitted, and each player won somewhere
+    assert!(games > policies(6_000), "{games}");
+    assert!(won.iter().all(|&n| n > games / 4), "{won:?} of {games}");
+}
+
+#[test]
+fn solving_from_command_bytes() {
+    let mut random = random(22);
+    let mut solver = Solver::default();
+    let mut answers = [0; 18];
+    for i in 0..policies(6_000) {
+        let p = random.policy(&shape(i));
+        let mut bytes = p.bytes();
+        bytes.extend((0..random.below(6)).map(|b| b as u8));
+        let (nodes, states) = (random.below(60), random.below(120));
+        // now and then row tables that do not belong to the others, and owners that are too many or none
+        let rows = states * p.letters + usize::from(random.chance(5));
+        let tables = SolvedTables::new(nodes, states, rows, 0xa5);
+        let many = p.states + usize::from(random.chance(10));
+        let mut owners = owners(&mut random, many);
+        if random.chance(10) {
+            let v = random.below(owners.len());
+            owners[v] = 2 + random.below(254) as u8;
+        }
+        for bytes in [damaged(&mut random, bytes.clone()), bytes] {
+            let answer = bytes_solved_alike(&mut solver, &bytes, &owners, &tables);
+            answers[usize::from(answer)] += 1;
+        }
+    }
+    // every answer of the call came up but 7: what was read is legal
+    let others = [0, 1, 2, 3, 4, 5, 6, 8, 9, 10, 16, 17];
+    assert!(others.iter().all(|&n| answers[n] > 0), "{answers:?}");
+    let all: u64 = others.iter().map(|&n| answers[n]).sum();
+    assert_eq!(all, 2 * policies(6_000), "{answers:?}");
+}
+
+/// The policy, no longer legal.
+fn illegal(random: &mut Random, p: &Policy) -> Policy {
+    let mut q = p.clone();
+    let e = random.below(q.edges.len());
+    match random.below(4) {
+        0 => q.initial = q.states,
+        1 => q.family[0] = true,
+        2 => q.edges[e].0 = q.states,
+        _ => q.edges[e].1 = q.colours,
+    }
+    q
+}
+
+/// One of the nine tables a place longer or shorter.
+fn spoil(random: &mut Random, tables: &mut SolvedTables) {
+    fn resize<T: Clone + Default>(table: &mut Vec<T>, longer: bool) {
+        let places = if longer || table.is_empty() {
+            table.len() + 1
+        } else {
+            table.len() - 1
+        };
+        table.resize(places, T::default());
+    }
+    let longer = random.chance(50);
+    match random.below(11) {
+        0 => resize(&mut tables.seven.node_masks, longer),
+        1 => resize(&mut tables.seven.node_parents, longer),
+        2 => resize(&mut tables.seven.node_priorities, longer),
+        3 => resize(&mut tables.seven.state_sources, longer),
+        4 => resize(&mut tables.seven.state_leaves, longer),
+        5 => resize(&mut tables.seven.row_targets, longer),
+        6 => resize(&mut tables.seven.row_priorities, longer),
+        7 | 8 => resize(&mut tables.state_winners, longer),
+        _ => resize(&mut tables.state_letters, longer),
+    }
+}
+
+#[test]
+fn solving_asks_its_questions_in_order() {
+    let mut random = random(23);
+    let (mut translator, mut solver) = (Translator::default(), Solver::default());
+    const NUMBERS: [u8; 6] = [7, 8, 9, 10, 16, 17];
+    let mut answers = [0; 18];
+    for i in 0..policies(6_400) {
+        // every choice of questions with the answer "no", one after the other
+        let no = |number| i >> NUMBERS.iter().position(|&n| n == number).unwrap() & 1 == 1;
+        let p = random.policy(&shape(i / 64 % 4));
+        let Ok(a) = translator.translate(&p, 500, 500) else {
+            continue;
+        };
+        let (mut nodes, mut states) = (a.nodes.len(), a.states.len());
+        if no(9) && nodes == 0 {
+            continue;
+        }
+        if no(9) {
+            nodes -= 1;
+        } else {
+            nodes += random.below(2);
+        }
+        if no(10) {
+            states -= 1;
+        } else {
+            states += random.below(2);
+        }
+        let mut tables = SolvedTables::new(nodes, states, states * p.letters, 0xa5);
+        if no(8) {
+            spoil(&mut random, &mut tables);
+        }
+        let many = if no(16) {
+            [0, p.states - 1, p.states + 1, p.states + 300][random.below(4)]
+        } else {
+            p.states
+        };
+        let mut owners = owners(&mut random, many);
+        if no(17) && many > 0 {
+            owners[random.below(many)] = 2 + random.below(254) as u8;
+        }
+        let first = NUMBERS.into_iter().find(|&n| no(n)).unwrap_or(0);
+        let q = if no(7) {
+            illegal(&mut random, &p)
+        } else {
+            p.clone()
+        };
+        let text = format!("policy {} owners {owners:?}", q.hex());
+        let answer = solved_alike(&mut solver, &q, &owners, &tables);
+        alike(answer.map_or_else(|n| n, |_| 0), first, &text);
+        if !no(7) {
+            let answer = bytes_solved_alike(&mut solver, &q.bytes(), &owners, &tables);
+            alike(answer, first, &text);
+        }
+        answers[usize::from(first)] += 1;
+    }
+    // each came up, the last ones after a yes to all before them
+    let mut all = NUMBERS.into_iter().chain([0]);
+    assert!(all.all(|n| answers[usize::from(n)] > 0), "{answers:?}");
+}
+
+#[test]
+fn solving_with_owners_that_are_none() {
+    let p = policy::read(&unhex(&text_of("examples/plant.hex")))
+        .unwrap()
+        .0;
+    let mut solver = Solver::default();
+    let tables = SolvedTables::new(113, 179, 179 * p.letters, 0xa5);
+    let mut answer = |owners: &[u8]| {
+        let answer = solved_alike(&mut solver, &p, owners, &tables);
+        let answer = answer.map_or_else(|number| number, |_| 0);
+        let by_bytes = bytes_solved_alike(&mut solver, &p.bytes(), owners, &tables);
+        assert_eq!(answer, by_bytes);
+        answer
+    };
+    for many in 0..=2 * p.states {
+        for owner in [SUPERVISOR, PLANT, 2, 255] {
+            let right = match owner {
+                _ if many != p.states => 16,
+                SUPERVISOR | PLANT => 0,
+                _ => 17,
+            };
+            assert_eq!(answer(&vec![owner; many]), right);
+        }
+    }
+    for v in 0..p.states {
+        for owner in 0..=255 {
+            let mut owners = vec![PLANT; p.states];
+            owners[v] = owner;
+            assert_eq!(answer(&owners), if owner <= PLANT { 0 } else { 17 });
+        }
+    }
+}
+
+/// A file of the repository.
+fn text_of(path: &str) -> String {
+    fs::read_to_string(root().join(path)).unwrap_or_else(|e| panic!("{path}: {e}"))
+}
+
+#[test]
+fn solving_on_large_forests() {
+    let mut random = random(24);
+    let mut solver = Solver::default();
+    let stored = |name: &str| {
+        let text = text_of(&format!("tests/comparison/policies/{name}.hex"));
+        policy::read(&unhex(&text)).unwrap().0
+    };
+    // as many places as can count, or one more
+    let tables = |p: &Policy, places| SolvedTables::new(places, places, places * p.letters, 0xa5);
+    for name in [
+        "nodes_1000",
+        "nodes_10000",
+        "nodes_65535",
+        "states_1000",
+        "states_65535",
+    ] {
+        let p = stored(name);
+        for places in [65_535, 65_536] {
+            let owners = owners(&mut random, p.states);
+            let tables = tables(&p, places);
+            solved_alike(&mut solver, &p, &owners, &tables).unwrap();
+            let answer = bytes_solved_alike(&mut solver, &p.bytes(), &owners, &tables);
+            assert_eq!(answer, 0, "{name} {owners:?}");
+        }
+    }
+    let p = stored("game_hard");
+    let owners = unhex(&text_of("tests/comparison/policies/game_hard.owners"));
+    let tables_of_p = tables(&p, 65_535);
+    let answer = bytes_solved_alike(&mut solver, &p.bytes(), &owners, &tables_of_p);
+    assert_eq!(answer, 0);
+    let p = stored("too_many");
+    for places in [65_535, 65_536] {
+        let owners = vec![SUPERVISOR; p.states];
+        let answer = solved_alike(&mut solver, &p, &owners, &tables(&p, places));
+        assert_eq!(answer, Err(9));
+    }
 }
 
 #[test]

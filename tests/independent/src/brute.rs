@@ -1,4 +1,4 @@
-//! The definitions, word for word, by listing edge sets. For policies of few edges.
+//! The definitions, word for word, by listing edge sets, and for games by listing the choices of letters. For policies of few edges, and games of few states.
 
 use crate::policy::Policy;
 use crate::{Automaton, Node, NONE};
@@ -161,4 +161,86 @@ pub fn translate(p: &Policy) -> Automaton {
 /// Every cycle has the same verdict in both policies, which have one graph.
 pub fn same(p: &Policy, q: &Policy) -> bool {
     cycles(p).into_iter().all(|m| p.accepts(m) == q.accepts(m))
+}
+
+/// The least priority that recurs from a state, with one letter for each state.
+fn least(letters: usize, rows: &[(u16, u8)], choice: &[usize], mut s: usize) -> u8 {
+    let mut follow = || {
+        (0..choice.len()).fold(u8::MAX, |least, _| {
+            let row = rows[s * letters + choice[s]];
+            s = row.0 as usize;
+            least.min(row.1)
+        })
+    };
+    // after as many letters as there are states the run is in its loop, and as many more go round it
+    follow();
+    follow()
+}
+
+/// Calls with each choice of letters at the open states from `s` on; the others keep theirs.
+fn each_choice(
+    letters: usize,
+    open: &[bool],
+    s: usize,
+    choice: &mut [usize],
+    call: &mut dyn FnMut(&[usize]),
+) {
+    if s == choice.len() {
+        return call(choice);
+    }
+    if !open[s] {
+        return each_choice(letters, open, s + 1, choice, call);
+    }
+    for a in 0..letters {
+        choice[s] = a;
+        each_choice(letters, open, s + 1, choice, call);
+    }
+}
+
+/// The states from which a player wins, whatever is picked at the open states.
+fn won(
+    letters: usize,
+    rows: &[(u16, u8)],
+    open: &[bool],
+    choice: &[usize],
+    player: u8,
+) -> Vec<bool> {
+    let mut won = vec![true; open.len()];
+    each_choice(letters, open, 0, &mut choice.to_vec(), &mut |choice| {
+        for (s, won) in won.iter_mut().enumerate() {
+            *won &= least(letters, rows, choice, s) % 2 == player;
+        }
+    });
+    won
+}
+
+/// The states from which some letters win for a player, whatever the other one picks.
+pub fn wins(letters: usize, rows: &[(u16, u8)], owners: &[u8], player: u8) -> Vec<bool> {
+    let mine: Vec<bool> = owners.iter().map(|&x| x == player).collect();
+    let others: Vec<bool> = mine.iter().map(|x| !x).collect();
+    let mut wins = vec![false; owners.len()];
+    let mut choice = vec![0; owners.len()];
+    each_choice(letters, &mine, 0, &mut choice, &mut |choice| {
+        let won = won(letters, rows, &others, choice, player);
+        wins.iter_mut().zip(won).for_each(|(w, won)| *w |= won);
+    });
+    wins
+}
+
+/// Whether each player wins from each of its states by its letters, whatever is picked at all other states.
+pub fn solved(
+    letters: usize,
+    rows: &[(u16, u8)],
+    owners: &[u8],
+    winners: &[u8],
+    choice: &[u8],
+) -> bool {
+    let choice: Vec<usize> = choice.iter().map(|&a| a as usize).collect();
+    (0..2).all(|player| {
+        let open: Vec<bool> = (0..owners.len())
+            .map(|s| owners[s] != player || choice[s] >= letters)
+            .collect();
+        let won = won(letters, rows, &open, &choice, player);
+        (0..owners.len()).all(|s| winners[s] != player || won[s])
+    })
 }

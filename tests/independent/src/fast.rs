@@ -236,6 +236,15 @@ impl Translator {
 
     /// The questions 7 to 10, and then the automaton in the tables; all 0 after 9 and 10.
     pub fn fill(&mut self, p: &Policy, mut tables: Tables<'_>) -> Result<&Automaton, Refusal> {
+        self.put(p, &mut tables)
+    }
+
+    /// The same, in tables that are lent on.
+    pub(crate) fn put(
+        &mut self,
+        p: &Policy,
+        tables: &mut Tables<'_>,
+    ) -> Result<&Automaton, Refusal> {
         if !p.is_legal() {
             return Err(7);
         }

@@ -1,8 +1,9 @@
-//! Once its buffers have grown, the quick translator goes from command bytes to tables and allocates nothing.
+//! Once their buffers have grown, the quick translator and the solver go from command bytes to tables and allocate nothing.
 
 use independent::fast::Translator;
 use independent::policy::Policy;
 use independent::random::{Random, Shape};
+use independent::solve::{Solution, Solver};
 use independent::Tables;
 use std::alloc::{GlobalAlloc, Layout, System};
 use std::cell::Cell;
@@ -34,13 +35,16 @@ fn nothing_is_allocated_again() {
     let policies: Vec<Vec<u8>> = (0..200)
         .map(|_| random.policy(&Shape::any(64)).bytes())
         .collect();
-    let mut translator = Translator::default();
+    let (mut translator, mut solver) = (Translator::default(), Solver::default());
     let mut kept = Policy::default();
     let (mut node_masks, mut node_parents) = ([0; PLACES], [0; PLACES]);
     let (mut node_priorities, mut state_sources) = ([0; PLACES], [0; PLACES]);
     let mut state_leaves = [0; PLACES];
     let (mut row_targets, mut row_priorities) = ([0; 8 * PLACES], [0; 8 * PLACES]);
-    let mut each = || {
+    let (mut state_winners, mut state_letters) = ([0; PLACES], [0; PLACES]);
+    let owners: Vec<u8> = (0..16).map(|_| random.below(2) as u8).collect();
+    let mut each = |solving: bool| {
+        let mut fitting = 0;
         for bytes in &policies {
             kept.read(bytes).unwrap();
             let rows = PLACES * kept.letters;
@@ -53,11 +57,23 @@ fn nothing_is_allocated_again() {
                 row_targets: &mut row_targets[..rows],
                 row_priorities: &mut row_priorities[..rows],
             };
-            translator.fill(&kept, tables).ok();
+            let solution = Solution {
+                state_winners: &mut state_winners,
+                state_letters: &mut state_letters,
+            };
+            let answer = if solving {
+                solver.fill(&kept, &owners[..kept.states], tables, solution)
+            } else {
+                translator.fill(&kept, tables)
+            };
+            fitting += usize::from(answer.is_ok());
         }
+        fitting
     };
-    each();
-    let before = CALLS.get();
-    each();
-    assert_eq!(CALLS.get(), before);
+    for solving in [false, true] {
+        assert!(each(solving) > 100);
+        let before = CALLS.get();
+        each(solving);
+        assert_eq!(CALLS.get(), before, "solving: {solving}");
+    }
 }

@@ -1,8 +1,9 @@
-//! The proved library and the fast independent translator side by side: the same policies, the same work, the best of several rounds. Prints a table.
+//! The proved library and the fast independent translator and solver side by side: the same policies, the same work, the best of several rounds. Prints tables.
 
-use comparison::{unhex, OwnedTables};
+use comparison::{unhex, OwnedTables, SolvedTables};
 use independent::policy::{self, Policy};
 use independent::random::{Family, Random, Shape, Targets};
+use independent::solve::Solver;
 use independent::{fast, judge};
 use std::hint::black_box;
 use std::time::{Duration, Instant};
@@ -13,7 +14,9 @@ fn best(mut ours: impl FnMut(), mut theirs: impl FnMut()) -> (f64, f64) {
     let mut least = [f64::MAX; 2];
     let begin = Instant::now();
     let mut rounds = 0;
-    while rounds < 7 || begin.elapsed() < Duration::from_millis(600) {
+    // at least seven rounds, or three where they are long
+    let spent = |ms| begin.elapsed() >= Duration::from_millis(ms);
+    while rounds < 3 || !spent(600) || rounds < 7 && !spent(3_000) {
         let t = Instant::now();
         ours();
         least[0] = least[0].min(t.elapsed().as_nanos() as f64);
@@ -80,6 +83,77 @@ fn translating(name: &str, policies: &[Policy]) {
         ours / all / nodes as f64,
         ours / all / rows as f64,
         ours / theirs
+    );
+}
+
+/// From command bytes and owners to the nine tables, for a list of games, with the same questions on both sides; and what of that is not translating.
+fn solving(name: &str, games: &[(Policy, Vec<u8>)]) {
+    let mut solver = Solver::default();
+    let mut kept = Policy::default();
+    let games: Vec<(Vec<u8>, &Vec<u8>)> = games.iter().map(|(p, o)| (p.bytes(), o)).collect();
+    let (mut states, mut rows) = (0, 0);
+    let mut ours: Vec<SolvedTables> = Vec::new();
+    for (bytes, _) in &games {
+        kept.read(bytes).unwrap();
+        let a = fast::translate(&kept, 65_535, 65_535).unwrap();
+        states += a.states.len();
+        rows += a.rows.len();
+        ours.push(SolvedTables::new(
+            a.nodes.len(),
+            a.states.len(),
+            a.rows.len(),
+            0,
+        ));
+    }
+    let mut theirs = ours.clone();
+    let rounds = (20_000 / rows).max(1);
+    let solved = best(
+        || {
+            for _ in 0..rounds {
+                for ((bytes, owners), t) in games.iter().zip(&mut ours) {
+                    black_box(t.solve_bytes(black_box(bytes), owners)).unwrap();
+                }
+            }
+        },
+        || {
+            for _ in 0..rounds {
+                for ((bytes, owners), t) in games.iter().zip(&mut theirs) {
+                    kept.read(black_box(bytes)).unwrap();
+                    black_box(t.fill(&mut solver, &kept, owners)).unwrap();
+                }
+            }
+        },
+    );
+    let mut translator = fast::Translator::default();
+    let translated = best(
+        || {
+            for _ in 0..rounds {
+                for ((bytes, _), t) in games.iter().zip(&mut ours) {
+                    black_box(t.seven.translate_bytes(black_box(bytes))).unwrap();
+                }
+            }
+        },
+        || {
+            for _ in 0..rounds {
+                for ((bytes, _), t) in games.iter().zip(&mut theirs) {
+                    kept.read(black_box(bytes)).unwrap();
+                    black_box(t.seven.fill(&mut translator, &kept)).unwrap();
+                }
+            }
+        },
+    );
+    let all = (rounds * games.len()) as f64;
+    let alone = [solved.0 - translated.0, solved.1 - translated.1].map(|x| x.max(0.0));
+    println!(
+        "| {name} | {} | {} | {} | {} | {:.2} | {} | {} | {:.1} |",
+        states / games.len(),
+        rows / games.len(),
+        time(solved.0 / all),
+        time(solved.1 / all),
+        solved.0 / solved.1,
+        time(alone[0] / all),
+        time(alone[1] / all),
+        alone[0] / (rounds * rows) as f64,
     );
 }
 
@@ -168,6 +242,43 @@ fn main() {
         "109,601 nodes: does not fit",
         &[file(include_str!("../../policies/too_many.hex"))],
     );
+
+    println!("\n| games | states | rows | ours | independent | ratio | ours, solving alone | independent | ns a row |");
+    println!("|---|---:|---:|---:|---:|---:|---:|---:|---:|");
+    // owners of their own, so that what follows is not moved by them
+    let mut picks = Random::new(2);
+    let mut owned = |p: &Policy| -> (Policy, Vec<u8>) {
+        let owners = (0..p.states).map(|_| picks.below(2) as u8).collect();
+        (p.clone(), owners)
+    };
+    let mut with_owners =
+        |policies: &[Policy]| -> Vec<_> { policies.iter().map(&mut owned).collect() };
+    solving("100 sites, random owners", &with_owners(&sites));
+    solving(
+        "1,000 states, 10 times random owners",
+        &with_owners(&vec![
+            file(include_str!("../../policies/states_1000.hex"));
+            10
+        ]),
+    );
+    solving(
+        "10 of 16 states, 4 letters, 8 colours",
+        &with_owners(&large),
+    );
+    solving(
+        "3 of the same size, even sets accepted",
+        &with_owners(&alternating),
+    );
+    let most_states = file(include_str!("../../policies/states_65535.hex"));
+    solving(
+        "65,535 states, 10 times random owners",
+        &with_owners(&vec![most_states.clone(); 10]),
+    );
+    let hard = (
+        file(include_str!("../../policies/game_hard.hex")),
+        unhex(include_str!("../../policies/game_hard.owners")),
+    );
+    solving("the hardest found", std::slice::from_ref(&hard));
 
     println!("\n| call | ours | independent | ns a letter or edge | ratio |");
     println!("|---|---:|---:|---:|---:|");
@@ -289,6 +400,18 @@ fn main() {
         let of_record = stack(|| black_box(ignore(tables.translate(&policy))));
         let of_bytes = stack(|| black_box(ignore(tables.translate_bytes(&bytes))));
         println!("| translating {name} | {} |", of_record.max(of_bytes));
+    }
+    for (name, (p, owners)) in [
+        ("a site", &with_owners(&sites[..1])[0]),
+        ("65,535 states", &with_owners(&[most_states])[0]),
+        ("the hardest found", &hard),
+    ] {
+        let policy = wulfrenda::Policy::from_record(p.record());
+        let bytes = p.bytes();
+        let mut tables = SolvedTables::new(65_535, 65_535, 65_535 * p.letters, 0);
+        let of_record = stack(|| black_box(ignore(tables.solve(&policy, owners))));
+        let of_bytes = stack(|| black_box(ignore(tables.solve_bytes(&bytes, owners))));
+        println!("| solving {name} | {} |", of_record.max(of_bytes));
     }
     let bytes = most.bytes();
     println!(
