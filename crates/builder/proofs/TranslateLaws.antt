@@ -21,6 +21,10 @@ use Rattle.filling.specs.declared.Building.{Building}
 use Rattle.filling.specs.Filling.{Sized, Builds}
 use Rattle.builder.proofs.StageLaws.{nodes-filled, nodes-cleared}
 
+-- tables that are left hold what they held
+pub hold-same : (t : Tables) → Hold t (t .masks) (t .parents) (t .node-priorities) (t .sources) (t .leaves) (t .targets) (t .priorities)
+hold-same t = record { masks-are = refl; parents-are = refl; node-priorities-are = refl; sources-are = refl; leaves-are = refl; targets-are = refl; priorities-are = refl }
+
 -- what translating promises of a policy it promises of an equal one
 pub same-policy : {p q : Policy} {entry exit : Tables} {answer : Translation} → p ≡ q → Translates p entry answer exit → Translates q entry answer exit
 same-policy {p} {q} {entry} {exit} {answer} e t = subst (λ (x : Policy). Translates x entry answer exit) e t
@@ -121,7 +125,7 @@ module _ (p : Policy) (m₀ q₀ r₀ s₀ l₀ t₀ k₀ : List ℕ) where
   done = Translated (length (forest p)) (length (built p)) (start p)
 
   same : Hold entry m₀ q₀ r₀ s₀ l₀ t₀ k₀
-  same = record { masks-are = refl; parents-are = refl; node-priorities-are = refl; sources-are = refl; leaves-are = refl; targets-are = refl; priorities-are = refl }
+  same = hold-same entry
 
   -- 7 and 8 leave the tables as they were
   pub refused-seven : legal p ≡ false → Translates p entry (Refused 7) entry

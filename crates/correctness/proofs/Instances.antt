@@ -17,8 +17,8 @@ use Rattle.reading.specs.declared.Answer.{Answer}
 use Rattle.graph.specs.Cycles.{spread, closure, reach, isCycle, contains, cyclesIn}
 use Rattle.forest.specs.Forest.{before, place, inOrder, largest, roots, opposed, children, trees, tree, forest, priority, transientPriority, node, upFrom, chain, childOf, inRoot, nodeMasks, nodeParents, nodePriorities, forestFits}
 use Rattle.automaton.specs.Automaton.{next, holds, kids, isLeaf, leaves, firstLeaf, statesOver, builtStates, deepest, lead, entered, firstLeafBelow, leafAfter, priorityAfter, built, stateAt, number, start, rowTarget, rowPriority, rowTargets, rowPriorities, stateSources, stateLeaves, builtFit}
-use Rattle.builder.specs.Tables.{Tables, Hold, countsOf, numberOf as translateNumberOf, sizesFit, lengthsFit, nodesFit, statesFit, filled, cleared, translationOf, tablesAfter}
-use Rattle.builder.proofs.TranslateLaws.{number-of, counts-of}
+use Rattle.builder.specs.Tables.{Tables, countsOf, numberOf as translateNumberOf, sizesFit, lengthsFit, nodesFit, statesFit, filled, cleared, translationOf, tablesAfter}
+use Rattle.builder.proofs.TranslateLaws.{number-of, counts-of, hold-same}
 use Rattle.running.specs.declared.Run.{Run}
 use Rattle.running.specs.Running.{readingOf, runAfter, priorityOf, numberOf}
 use Rattle.running.proofs.Steps.{reads-letter}
@@ -53,17 +53,6 @@ unfoldable pub slices : {Rest : Type 0} → Tables → Rest → Slice × (Slice 
 slices t rest =
     (placeOf (t .masks), (placeOf (t .parents), (placeOf (t .node-priorities), (placeOf (t .sources), (placeOf (t .leaves), (placeOf (t .targets), (placeOf (t .priorities), rest)))))))
 
-pub held : (t : Tables) → Hold t (t .masks) (t .parents) (t .node-priorities) (t .sources) (t .leaves) (t .targets) (t .priorities)
-held t = record {
-  masks-are = refl;
-  parents-are = refl;
-  node-priorities-are = refl;
-  sources-are = refl;
-  leaves-are = refl;
-  targets-are = refl;
-  priorities-are = refl;
-}
-
 -- ---- a call of translating for every policy and all tables
 translate-call : Policy → Tables → Call translate
 unfolding placeOf slices
@@ -74,7 +63,7 @@ translate-call p t = record {
     answer = translationOf p t;
     left = (p, slices (tablesAfter p t) tt);
   };
-  learnt = record { answer-is = refl; number-is = number-of p t; counts-are = counts-of p t; tables-are = held (tablesAfter p t) };
+  learnt = record { answer-is = refl; number-is = number-of p t; counts-are = counts-of p t; tables-are = hold-same (tablesAfter p t) };
 }
 
 wulfrenda-translate-call : List ℕ → Tables → Call wulfrenda-translate
@@ -88,7 +77,7 @@ wulfrenda-translate-call packed t =
         answer = translateNumberOf q;
         left = (placeOf packed, slices (tablesAfter (policyOf packed) t) (placeOf (countsOf q), tt));
       };
-      learnt = (refl, (refl, held (tablesAfter (policyOf packed) t)));
+      learnt = (refl, (refl, hold-same (tablesAfter (policyOf packed) t)));
     }
 
 wulfrenda-translate-bytes-call : List ℕ → Tables → Call wulfrenda-translate-bytes
@@ -103,7 +92,7 @@ wulfrenda-translate-bytes-call bytes t =
         answer = firstOf (readNumberOf (a .outcome)) (translateNumberOf q);
         left = (placeOf bytes, slices (tablesAfter (a .policy) t) (placeOf (countsOf q), (placeOf (offsetAfter (readNumberOf (a .outcome)) (translateNumberOf q) (offsetOf (a .outcome))), tt)));
       };
-      learnt = (refl, (refl, (held (tablesAfter (a .policy) t), refl)));
+      learnt = (refl, (refl, (hold-same (tablesAfter (a .policy) t), refl)));
     }
 
 -- ---- calls of running

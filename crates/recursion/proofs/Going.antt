@@ -2,7 +2,6 @@
 use Prim.Native.Nat.{ℕ, _+_, _*_, _≤_, _<_}
 use native.Mathlib.Omega.{arith}
 use mathlib.Core.Path.{_≡_, sym, _∙_, subst}
-use mathlib.Core.Logic.{_≢_}
 use mathlib.Core.List.{List}
 use lib.ListN.{length, getD}
 use Rattle.games.proofs.Regions.{Arena}
@@ -10,7 +9,7 @@ use Rattle.orders.specs.Orders.{Among, Lists, Rearranged}
 use Rattle.orders.proofs.Orders.{same-order, order-of-order, wider-order, lists-moved, lists-same}
 use Rattle.attracting.specs.declared.Task.{Task}
 use Rattle.attracting.specs.Attracting.{Rows, tableGame, fromOf, Attracts, Waits}
-use Rattle.levels.specs.Levels.{takenMark, live, Headed, rowsTask, SolvedAt, Turning, Turns}
+use Rattle.levels.specs.Levels.{live, Headed, rowsTask, SolvedAt, Turning, Turns}
 use Rattle.levels.proofs.Marks.{rows-apart, mark-live, live-waits}
 use Rattle.levels.proofs.Levels.{Level, level-start, level-end, turn-lt, low, next-level}
 use Rattle.levels.proofs.Turning.{Turn, turn-head, turn-arena, Above}

@@ -23,7 +23,7 @@ use Rattle.filling.specs.Filling.{Sized}
 use Rattle.builder.specs.declared.Translation.{Translation}
 use Rattle.builder.specs.declared.Translation.the-variants.{Translated, Refused}
 use Rattle.builder.specs.Tables.{Tables, Hold, lengthsFit, nodesFit, statesFit, filled, cleared, translationOf, tablesAfter, numberOf, countsOf, Translates}
-use Rattle.builder.proofs.TranslateLaws.{fit-lengths}
+use Rattle.builder.proofs.TranslateLaws.{fit-lengths, hold-same}
 use Rattle.solving.specs.Solving.{ownersFit, ownersLegal, solvingFits, admitted, solvable, solvingOf, refusalOf, countsAfter, sevenAfter, winnersAfter, LettersAfter, Solves}
 use Rattle.solving.specs.Stages.{refusalAfter, Ready, Holds, Decided, Decides}
 use Rattle.solving.proofs.OwnersLaws.{owners-refusal-is}
@@ -96,9 +96,6 @@ not-last true false c e = refl
 not-last false b c e = refl
 
 -- ---- tables that hold
-pub hold-same : (t : Tables) → Hold t (t .masks) (t .parents) (t .node-priorities) (t .sources) (t .leaves) (t .targets) (t .priorities)
-hold-same t = record { masks-are = refl; parents-are = refl; node-priorities-are = refl; sources-are = refl; leaves-are = refl; targets-are = refl; priorities-are = refl }
-
 abbrev Held : Tables → Tables → Type 0
 Held t u = Hold t (u .masks) (u .parents) (u .node-priorities) (u .sources) (u .leaves) (u .targets) (u .priorities)
 

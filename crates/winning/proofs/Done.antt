@@ -1,12 +1,12 @@
 -- After a call of solving that succeeded: what each of the three contracts comes to, and what follows from it. Assumes nothing.
-use Prim.Native.Nat.{ℕ, zero, suc, _+_, _*_, _≤_, _<_, min}
+use Prim.Native.Nat.{ℕ, zero, suc, _≤_, _<_, min}
 use native.Mathlib.Omega.{arith}
 use mathlib.Core.Path.{_≡_, refl, sym, ap, ap₂, _∙_, subst, fun-ext}
 use mathlib.Core.Bool.{Bool, true, false, _&&_, cond}
-use mathlib.Core.List.{List, [], _∷_, map}
+use mathlib.Core.List.{List, map}
 use lib.Dec.{eqb, ltb}
 use lib.ListN.{length, getD, take, length-map}
-use Rattle.lists.specs.Lists.{all, below}
+use Rattle.lists.specs.Lists.{below}
 use Rattle.lists.proofs.Bools.{and-l, both, eqb≡, le-true, lt-true}
 use Rattle.lists.proofs.Lists.{all-each, getD-mem, getD-map-below, length-below}
 use Rattle.tables.specs.Tables.{padded, places}
@@ -17,22 +17,20 @@ use Rattle.forest.specs.Forest.{forest}
 use Rattle.forest.proofs.Forest.{forest-laws}
 use Rattle.automaton.specs.Automaton.{built, stateAt, start, rowTarget, rowPriority, builtFit}
 use Rattle.automaton.proofs.Tables.{built-good}
-use Rattle.builder.specs.Tables.{Tables, Hold, lengthsFit, nodesFit, statesFit, filled, cleared, countsOf, numberOf, translationOf, tablesAfter}
-use Rattle.builder.specs.declared.Translation.{Translation}
+use Rattle.builder.specs.Tables.{Tables, Hold, lengthsFit, nodesFit, statesFit, filled, countsOf, numberOf, translationOf, tablesAfter}
 use Rattle.builder.specs.declared.Translation.the-variants.{Translated, Refused}
 use Rattle.running.specs.declared.Run.{Run}
 use Rattle.running.specs.declared.Reading.{Reading}
 use Rattle.running.specs.declared.Reading.the-variants.{Moved}
-use Rattle.running.specs.Running.{rowOf, runAfter, priorityOf, targetAt, priorityAt, readingOf, numberOf as runNumberOf}
+use Rattle.running.specs.Running.{rowOf, runAfter, priorityOf, readingOf, numberOf as runNumberOf}
 use Rattle.running.proofs.Steps.{refusal-none, reading-moved}
 use Rattle.correctness.specs.Calls.{Translating, Running}
-use Rattle.correctness.specs.Demand3.{stateCount, under, Beginning}
-use Rattle.correctness.proofs.BuiltRows.{Rows, StandsOver}
+use Rattle.correctness.specs.Demand3.{under, Beginning}
 use Rattle.correctness.proofs.Translated.{Success, success-counts, stands-over, rows-after}
 use Rattle.correctness.proofs.Agreement.{Answered, readBy}
 use Rattle.games.specs.Games.{Follows, met, Won}
 use Rattle.supervision.specs.Supervision.{playerOf, gameOf}
-use Rattle.supervision.proofs.Rows.{row-leads, total}
+use Rattle.supervision.proofs.Rows.{row-leads}
 use Rattle.solving.specs.Solving.{winnerOf, stateWinners, Chosen, ownersFit, ownersLegal, solvingFits, admitted, solvable, solvingOf, sevenAfter, winnersAfter}
 use Rattle.solving.proofs.Winners.{same-byte, winner-few}
 use Rattle.winning.specs.Calls.{Solving, TablesHold, WinnersHold, LettersHold}

@@ -1,7 +1,6 @@
 -- Letters that keep the promise, for every policy, all owners and all tables. Assumes nothing.
 use Prim.Native.Nat.{ℕ, _+_, _-_, _≤_, _<_, min}
 use native.Mathlib.Omega.{arith}
-use native.Mathlib.Decide.{decLt}
 use mathlib.Core.Path.{_≡_, refl, sym, ap, _∙_, subst}
 use mathlib.Core.Logic.{_⊎_, inl, inr, _≢_}
 use mathlib.Core.Bool.{Bool, true, false, _&&_, cond, true≢false}
@@ -18,7 +17,6 @@ use Rattle.policy.specs.declared.Policy.{Policy}
 use Rattle.policy.specs.Policies.{legal}
 use Rattle.automaton.specs.Automaton.{built, builtFit}
 use Rattle.builder.specs.Tables.{Tables, lengthsFit, nodesFit, statesFit}
-use Rattle.games.specs.Games.{Solved}
 use Rattle.games.proofs.Sets.{is, is-true, true-is}
 use Rattle.games.proofs.Plays.{solved-with}
 use Rattle.supervision.specs.Supervision.{playerOf, gameOf}

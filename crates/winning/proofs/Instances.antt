@@ -1,10 +1,9 @@
 -- Premises that are met: every policy, all owners and all tables have a call of solving that meets the contract, and after one that succeeded there is a play by its letters from each built
 -- state. What solving answers of B is computed. Assumes nothing.
 use Prim.Native.Nat.{ℕ, zero, suc, _*_, _<_}
-use native.Mathlib.Omega.{arith}
 use mathlib.Core.Path.{_≡_, refl, sym, ap, _∙_, subst}
 use mathlib.Core.Logic.{_⊎_, inl, inr}
-use mathlib.Core.Bool.{Bool, true, false, cond, true≢false}
+use mathlib.Core.Bool.{Bool, true, false, cond}
 use mathlib.Core.List.{List, [], _∷_}
 use lib.Dec.{eqb}
 use lib.ListN.{length, getD, take, replicate}
@@ -19,7 +18,7 @@ use Rattle.forest.specs.Forest.{before, place, inOrder, largest, roots, opposed
 use Rattle.automaton.specs.Automaton.{next, holds, kids, isLeaf, leaves, firstLeaf, statesOver, builtStates, deepest, lead, entered, firstLeafBelow, leafAfter, priorityAfter, built, stateAt, number, start, rowTarget, rowPriority, builtFit}
 use Rattle.builder.specs.Tables.{Tables, sizesFit, lengthsFit, nodesFit, statesFit, countsOf, numberOf as translateNumberOf}
 use Rattle.builder.specs.declared.Translation.the-variants.{Translated}
-use Rattle.running.specs.declared.Run.{Run}
+use Rattle.builder.proofs.TranslateLaws.{hold-same}
 use Rattle.running.specs.declared.Reading.{Reading}
 use Rattle.running.specs.Running.{readingOf, runAfter}
 use Rattle.records.specs.Records.{policyOf, recordOf}
@@ -30,7 +29,7 @@ use Rattle.correctness.specs.Calls.{Call, Translating, read, readShows, wulfren
 use Rattle.correctness.specs.Known.{B}
 use Rattle.correctness.specs.Instances.{bytesOfB, filledWith}
 use Rattle.correctness.proofs.Translated.{exact-beginning}
-use Rattle.correctness.proofs.Instances.{placeOf, slices, held, policy-back, bytes-give, read-call, wulfrenda-run-call}
+use Rattle.correctness.proofs.Instances.{placeOf, slices, policy-back, bytes-give, read-call, wulfrenda-run-call}
 use Rattle.supervision.specs.Supervision.{playerOf, gameOf}
 use Rattle.supervision.proofs.Rows.{row-leads}
 use Rattle.solving.specs.Solving.{winnerOf, ownersFit, ownersLegal, solvingFits, solvingOf, sevenAfter, winnersAfter}
@@ -71,7 +70,7 @@ solve-call p owners t winners letters =
         answer-is = refl;
         number-is = number-of p owners t winners letters;
         counts-are = counts-of p owners t winners letters;
-        tables-are = held (sevenAfter p owners t winners letters);
+        tables-are = hold-same (sevenAfter p owners t winners letters);
         winners-are = refl;
         letters-are = l .1;
       };
@@ -90,7 +89,7 @@ wulfrenda-solve-call packed owners t winners letters =
         answer = translateNumberOf q;
         left = (placeOf packed, (placeOf owners, slices (sevenAfter p owners t winners letters) (placeOf (winnersAfter p owners t winners letters), (placeOf (l .0), (placeOf (countsOf q), tt)))));
       };
-      learnt = (refl, (refl, (held (sevenAfter p owners t winners letters), (refl, l .1))));
+      learnt = (refl, (refl, (hold-same (sevenAfter p owners t winners letters), (refl, l .1))));
     }
 
 wulfrenda-solve-bytes-call : List ℕ → List ℕ → Tables → List ℕ → List ℕ → Call wulfrenda-solve-bytes
@@ -107,7 +106,7 @@ wulfrenda-solve-bytes-call bytes owners t winners letters =
         answer = firstOf (readNumberOf (a .outcome)) (translateNumberOf q);
         left = (placeOf bytes, (placeOf owners, slices (sevenAfter p owners t winners letters) (placeOf (winnersAfter p owners t winners letters), (placeOf (l .0), (placeOf (countsOf q), (placeOf (offsetAfter (readNumberOf (a .outcome)) (translateNumberOf q) (offsetOf (a .outcome))), tt))))));
       };
-      learnt = (refl, (refl, (held (sevenAfter p owners t winners letters), (refl, (l .1, refl)))));
+      learnt = (refl, (refl, (hold-same (sevenAfter p owners t winners letters), (refl, (l .1, refl)))));
     }
 
 -- ---- after one that succeeded: a play from each built state, in which the other player always picks letter 0

@@ -1,5 +1,4 @@
 -- What holds after a call of solving that succeeded, over the calls: from what the contracts promise of it and of the calls of running. Assumes nothing.
-use Prim.Native.Nat.{ℕ}
 use mathlib.Core.Path.{_≡_, sym, ap, _∙_}
 use Rattle.builder.specs.Tables.{countsOf, numberOf as translateNumberOf}
 use Rattle.reading.specs.Reading.{readingOf as bytesReadingOf, numberOf as readNumberOf}

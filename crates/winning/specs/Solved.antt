@@ -2,9 +2,8 @@
 -- of calls of running. Of the calls nothing is known but what their contracts promise (Calls.antt).
 use Prim.Native.Nat.{ℕ, suc, _≤_, _<_}
 use mathlib.Core.Path.{_≡_}
-use mathlib.Core.List.{List}
 use lib.ListN.{getD, take}
-use Rattle.correctness.specs.Calls.{Function, Places, Call, Translating, Running, read, readShows, wulfrenda-run, wulfrendaRunShows}
+use Rattle.correctness.specs.Calls.{Function, Places, Call, Running, read, readShows, wulfrenda-run, wulfrendaRunShows}
 use Rattle.correctness.specs.Demand3.{stateCount, under, Beginning, Holds}
 use Rattle.games.specs.Games.{Won}
 use Rattle.supervision.specs.Supervision.{playerOf}

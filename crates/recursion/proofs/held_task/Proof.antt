@@ -1,5 +1,4 @@
 use Rattle.recursion.proofs.Steps.{task-plant}
-use native.Mathlib.Omega.{arith}
 use borrow.Author.Needs.{needs}
 use Rattle.recursion.proofs.held_task.Statement.{statement}
 use Rattle.recursion.proofs.held_task.Tie as tie

@@ -1,5 +1,4 @@
 use Rattle.recursion.proofs.Steps.{lost-is}
-use native.Mathlib.Omega.{arith}
 use borrow.Author.Needs.{needs}
 use Rattle.recursion.proofs.lost_task.Statement.{statement}
 use Rattle.recursion.proofs.lost_task.Tie as tie
