@@ -1,1 +1,2 @@
 pub mod NodeTables
+pub mod Marks

@@ -3,11 +3,14 @@
 ghost use mathlib.Core.Path.{_≡_};
 ghost use mathlib.Core.Bool.{true, cond};
 ghost use Prim.Native.Nat.{_≤_};
-ghost use lib.ListN.{length};
+ghost use mathlib.Core.List.{map};
+ghost use lib.ListN.{length, take};
+ghost use lib.Seq.{sets};
 ghost use Rattle.policy.specs.Policies.{accepting, legal};
 ghost use Rattle.policy.specs.ByColour.{byColour};
 ghost use Rattle.tables.specs.Tables.{zeros, padded};
 ghost use Rattle.forest.specs.Forest.{nodePriorities};
+ghost use Rattle.decomposition.specs.Marks.{nodeMarks, settled};
 ghost use Rattle.decomposition.specs.NodeTables.{NodeColumns, nodeTables, Fills};
 use policy::Policy;
 
@@ -17,19 +20,58 @@ pub enum Filled {
     TooMany,
 }
 
-// The priority of a root goes by its verdict.
-fn root_priority(p: Policy, by: &[u64; 8], family: &[bool; 256], m: u64) -> u8
+// The mark of a root goes by its verdict.
+fn root_mark(p: Policy, by: &[u64; 8], family: &[bool; 256], m: u64) -> u8
     requires lawful { ⌜ legal p ≡ true ⌝ }
     requires lent { ⌜ (now by ≡ byColour p) × (now family ≡ p .family) ⌝ }
-    ensures { λ r. ⌜ r ≡ cond (accepting p m) 0 1 ⌝ }
+    ensures { λ r. ⌜ r ≡ cond (accepting p m) 1 0 ⌝ }
 {
     if policy::accepts(p, by, family, m) {
-        return 0;
+        return 1;
     }
-    1
+    0
 }
 
-// The priorities of all nodes, in a table that is cleared: a child's is one more than its parent's.
+// The marks of all nodes, in a table that is cleared: a child's is two more than its parent's.
+fn write_marks(
+    p: Policy,
+    by: &[u64; 8],
+    family: &[bool; 256],
+    masks: &[u64],
+    parents: &[u16],
+    marks: &mut [u8],
+    count: usize,
+)
+    requires lawful { ⌜ legal p ≡ true ⌝ }
+    requires lent { ⌜ (now by ≡ byColour p) × (now family ≡ p .family) ⌝ }
+    requires nodes { ⌜ NodeColumns p (now masks) (now parents) count ⌝ }
+    requires cleared { ⌜ (count ≤ length (now marks)) × (now marks ≡ zeros (now marks)) ⌝ }
+    ensures { λ _. ⌜ now (marks .exit) ≡ padded (length (now (marks .entry))) (nodeMarks p) ⌝ }
+{
+    for n in 0..count {
+        let parent = parents[n];
+        if parent == 65535 {
+            marks[n] = root_mark(p, by, family, masks[n]);
+        } else {
+            let q = parent as usize;
+            marks[n] = marks[q] + 2;
+        }
+    }
+}
+
+// The first `count` marks give way to priorities; accepting roots have `first`.
+fn settle(marks: &mut [u8], count: usize, first: u8)
+    requires { ⌜ (count ≤ length (now marks)) × (first ≤ 2) ⌝ }
+    ensures { λ _. ⌜ now (marks .exit) ≡ sets (now (marks .entry)) 0 (map (settled first) (take count (now (marks .entry)))) ⌝ }
+{
+    for n in 0..count {
+        let mark = marks[n];
+        let root = if mark % 2 == 1 { first } else { 1 };
+        marks[n] = mark / 2 + root;
+    }
+}
+
+// The priorities of all nodes, in a table that is cleared: first their marks, which show where priorities begin.
 fn write_priorities(
     p: Policy,
     by: &[u64; 8],
@@ -45,15 +87,10 @@ fn write_priorities(
     requires cleared { ⌜ (count ≤ length (now «node_priorities»)) × (now «node_priorities» ≡ zeros (now «node_priorities»)) ⌝ }
     ensures { λ _. ⌜ now («node_priorities» .exit) ≡ padded (length (now («node_priorities» .entry))) (nodePriorities p) ⌝ }
 {
-    for n in 0..count {
-        let parent = parents[n];
-        if parent == 65535 {
-            node_priorities[n] = root_priority(p, by, family, masks[n]);
-        } else {
-            let q = parent as usize;
-            node_priorities[n] = node_priorities[q] + 1;
-        }
-    }
+    write_marks(p, by, family, masks, parents, node_priorities, count);
+    let most = tables::greatest8(node_priorities, count);
+    let first = if most % 2 == 1 { 0 } else { 2 };
+    settle(node_priorities, count, first);
 }
 
 // 0 in every place.

@@ -72,6 +72,7 @@ fn fill_built(
         masks,
         parents,
         node_priorities,
+        tables::lowest8(node_priorities, count),
         ends,
         leaves,
         &starts,

@@ -9,7 +9,7 @@ use mathlib.Core.Logic.{_⊎_, inl, inr, _↔_}
 use mathlib.Core.Bool.{true, false, not, true≢false}
 use mathlib.Core.List.{List, List·Memᴰ, List·Memᴰ·eq-of-singleton, Memᴰ·cast}
 use lib.Dec.{eqb}
-use lib.ListN.{length, List·getD-eq-default}
+use lib.ListN.{length}
 use Rattle.lists.specs.Lists.{any}
 use Rattle.lists.proofs.Bools.{test, eqb≡, ≡eqb}
 use Rattle.lists.proofs.Lists.{any-some, some-any}
@@ -24,8 +24,8 @@ use Rattle.forest.specs.Laws.{ForestLaws, maskAt, parentAt, rootAt}
 use Rattle.forest.proofs.Order.{before-irreflexive}
 use Rattle.forest.proofs.Chains.{chain-self, chain-root, by-parent, chain-cases, chain-le, chain-trans}
 use Rattle.forest.proofs.Children.{root-cycle, root-few, root-unique, in-root, child, in-child, child-fewer, ordered-children, ordered-roots}
-use Rattle.forest.proofs.Levels.{most-levels-few, levels-most, levels-child, levels-some}
-use Rattle.forest.proofs.Priorities.{root-even, child-even, child-larger, priority-level}
+use Rattle.forest.proofs.Levels.{levels-most, levels-child, levels-some}
+use Rattle.forest.proofs.Priorities.{root-even, child-even, child-larger}
 use Rattle.forest.proofs.Numbered.{Numbered, numbered}
 
 module _ (p : Policy) (leg : legal p ≡ true) (ns : List Node) (numbers : Numbered p ns) where
@@ -141,18 +141,6 @@ module _ (p : Policy) (leg : legal p ≡ true) (ns : List Node) (numbers : Numbe
 
 pub forest-laws : (p : Policy) → legal p ≡ true → ForestLaws p (forest p)
 forest-laws p leg = numbered-laws p leg (forest p) (numbered p (child-fewer p) (root-few p) (ordered-children p) (ordered-roots p))
-
--- the priority of every node, and of none
-pub priority-few : (p : Policy) → legal p ≡ true → (n : ℕ) → priority p (node (forest p) n) ≤ 9
-unfolding node
-priority-few p leg n = go (decLt n (length (forest p)))
-  where
-    none : Node
-    none = record { mask = 0; parent = 0; level = 0; accepted = false }
-
-    go : Dec (n < length (forest p)) → priority p (node (forest p) n) ≤ 9
-    go (yes l) = omega (arith, priority-level p (node (forest p) n), forest-laws p leg .levels n l, most-levels-few p leg)
-    go (no h) = omega (arith, priority-level p (node (forest p) n), ap (λ (x : Node). x .level) (List·getD-eq-default (forest p) none {n = n} (omega arith)))
 
 -- ---- descendants
 module _ (p : Policy) (ns : List Node) (laws : ForestLaws p ns) where

@@ -2,6 +2,7 @@ pub mod Chains
 pub mod Children
 pub mod Columns
 pub mod Forest
+pub mod Numbering
 pub mod Largest
 pub mod Levels
 pub mod Numbered

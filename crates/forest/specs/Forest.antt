@@ -5,7 +5,7 @@ use mathlib.Core.List.{List, [], _∷_, _++_, map}
 use lib.Count.{ones}
 use lib.Dec.{eqb, ltb, leb}
 use lib.ListN.{length, getD}
-use Rattle.lists.specs.Lists.{any, filter}
+use Rattle.lists.specs.Lists.{any, filter, greatest, lowest}
 use Rattle.lists.specs.Bools.{differs}
 use Rattle.tables.specs.Tables.{places}
 use Rattle.masks.specs.Masks.{has, properly}
@@ -85,14 +85,26 @@ module _ (p : Policy) where
   unfoldable pub forest : List Node
   forest = trees (λ n m. tree (edges p + 1) 65535 0 (accepting p m) n m) 0 (roots p)
 
-  -- ---- priorities
-  -- a node's level, plus 1 if its root is rejecting
-  unfoldable pub priority : Node → ℕ
-  priority x = x .level + cond (x .accepted) 0 1
+  -- ---- priorities (document 02, S-2; document 004, section 5.2)
+  -- the greatest level of a node: a tree has the most levels if one of its nodes has this one
+  unfoldable pub greatestLevel : ℕ
+  greatestLevel = greatest (map (λ (x : Node). x .level) forest)
 
-  -- the priority of an edge in no cycle
+  -- some tree with the most levels has an accepting root: "positive" or "equidistant" in document 004, where it is "negative" otherwise
+  unfoldable pub fromZero : Bool
+  fromZero = let top = greatestLevel in any (λ (x : Node). eqb (x .level) top && x .accepted) forest
+
+  -- the priority of a root, by its verdict
+  unfoldable pub rootPriority : Bool → ℕ
+  rootPriority accepted = cond accepted (cond fromZero 0 2) 1
+
+  -- each level adds 1
+  unfoldable pub priority : Node → ℕ
+  priority x = x .level + rootPriority (x .accepted)
+
+  -- the priority of an edge in no cycle: the lowest that any node has
   unfoldable pub transientPriority : ℕ
-  transientPriority = 0
+  transientPriority = lowest (map priority forest)
 
 -- ---- the node of a number, its ancestors and children, over the numbered nodes ns
 module _ (ns : List Node) where

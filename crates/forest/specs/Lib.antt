@@ -1,3 +1,4 @@
 pub mod Forest
 pub mod Laws
+pub mod Numbering
 pub mod Subtrees

@@ -4,3 +4,4 @@ pub mod Through
 pub mod CodeLaws
 pub mod Inside
 pub mod SameGraph
+pub mod Walks

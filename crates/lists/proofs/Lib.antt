@@ -5,3 +5,4 @@ pub mod AnyAll
 pub mod Filters
 pub mod Distinct
 pub mod Least
+pub mod Extremes

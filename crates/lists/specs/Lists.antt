@@ -1,5 +1,5 @@
 -- Tests, filters and searches on lists. Written to be computed: a recursive call is bound by `let`, and made only where it is needed.
-use Prim.Native.Nat.{ℕ, zero, suc, _+_, _<_}
+use Prim.Native.Nat.{ℕ, zero, suc, _+_, _<_, min, max}
 use mathlib.Core.Logic.{_≢_}
 use mathlib.Core.Bool.{Bool, true, false, _&&_, _||_, cond}
 use mathlib.Core.List.{List, [], _∷_, _++_, List·Memᴰ}
@@ -39,6 +39,17 @@ module _ {A : Type 0} where
 abbrev pub below : ℕ → List ℕ
 below zero = []
 below (suc n) = below n ++ (n ∷ [])
+
+-- the greatest of some numbers; 0 of none
+unfoldable pub greatest : List ℕ → ℕ
+greatest [] = 0
+greatest (k ∷ ks) = max k (greatest ks)
+
+-- the lowest of some numbers; 0 of none
+unfoldable pub lowest : List ℕ → ℕ
+lowest [] = 0
+lowest (k ∷ []) = k
+lowest (k ∷ j ∷ ks) = min k (lowest (j ∷ ks))
 
 -- each member is less than those after it
 abbrev pub Ascending : List ℕ → Type 0

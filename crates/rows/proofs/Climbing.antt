@@ -162,15 +162,15 @@ module _ (p : Policy) where
         leads (inr q) = lead-is p ns laws n c l (k .1) (q .0) (q .1)
 
     -- past the root
-    climb-none : (n c at child : ℕ) → Climbing e l n c → n ≡ 65535 → Met p e l false at child 0
-    unfolding priorityAfter transientPriority
-    climb-none n c at child (inl k) h = record {
+    climb-none : (n c at child transient : ℕ) → Climbing e l n c → n ≡ 65535 → transient ≡ transientPriority p → Met p e l false at child transient
+    unfolding priorityAfter
+    climb-none n c at child transient (inl k) h q = record {
       in-root = sym (k .1);
       node-is = λ z. absurd (false≢true z);
       child-is = λ z. absurd (false≢true z);
-      priority-is = rw (k .1) refl;
+      priority-is = rw (k .1) q;
     }
-    climb-none n c at child (inr k) h = absurd (omega (arith, k .0))
+    climb-none n c at child transient (inr k) h q = absurd (omega (arith, k .0))
 
 -- ---- the walk over the tables
 -- what the walk is called with
@@ -188,7 +188,7 @@ module _ (p : Policy) (masks parents node-priorities : List ℕ) (e l : ℕ) (a 
   pub walk-start : Climbing p e l l l
   walk-start = climb-start p (a .0 .0) (a .0 .1 .few) e (a .1 .0) l good
 
-  pub walk-none : (n c at child : ℕ) → Climbing p e l n c → n ≡ 65535 → Met p e l false at child 0
+  pub walk-none : (n c at child transient : ℕ) → Climbing p e l n c → n ≡ 65535 → transient ≡ transientPriority p → Met p e l false at child transient
   walk-none = climb-none p (a .0 .0) (a .0 .1 .few) e (a .1 .0) l good
 
   module _ (n c : ℕ) (k : Climbing p e l n c) (h : n ≢ 65535) where

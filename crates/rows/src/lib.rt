@@ -8,7 +8,7 @@ ghost use Prim.Native.Nat.{_+_, _*_, _≤_, _<_};
 ghost use lib.ListN.{length, getD};
 ghost use Rattle.tables.specs.Tables.{padded, zeros, Column};
 ghost use Rattle.policy.specs.Policies.{legal, edges, edgeOf, source, targetOf};
-ghost use Rattle.forest.specs.Forest.{forest};
+ghost use Rattle.forest.specs.Forest.{forest, transientPriority};
 ghost use Rattle.automaton.specs.Automaton.{orElse, leaves, built, rowTargets, rowPriorities, stateLeaves};
 ghost use Rattle.automaton.specs.Stages.{firstOver, Nodes, nodeEnds, stateStarts};
 ghost use Rattle.rows.specs.Rows.{Met, Shares, SharedBy, RowsWritten};
@@ -46,17 +46,19 @@ struct Meeting {
     priority: u8,
 }
 
-// From the leaf up to the deepest node that has e.
+// From the leaf up to the deepest node that has e. Where no node has it, the priority is that of an edge in no cycle, `transient`.
 fn climb(
     p: Policy,
     masks: &[u64],
     parents: &[u16],
     node_priorities: &[u8],
+    transient: u8,
     e: usize,
     leaf: usize,
 ) -> Meeting
     requires nodes { ⌜ (legal p ≡ true) × Nodes p (now masks) (now parents) (now «node_priorities») ⌝ }
     requires place { ⌜ (e < edges p) × List·Memᴰ leaf (orElse 65535 (leaves (forest p) p (source p e))) ⌝ }
+    requires transient { ⌜ transient ≡ transientPriority p ⌝ }
     ensures { λ r. ⌜ Met p e leaf (r .met) (r .node) (r .child) (r .priority) ⌝ }
 {
     let mut n = leaf;
@@ -77,7 +79,7 @@ fn climb(
         met: false,
         node: 0,
         child: 0,
-        priority: 0,
+        priority: transient,
     }
 }
 
@@ -158,6 +160,7 @@ fn share(
     masks: &[u64],
     parents: &[u16],
     node_priorities: &[u8],
+    transient: u8,
     ends: &[u16],
     entries: &[u16],
     e: usize,
@@ -169,12 +172,13 @@ fn share(
     requires states { ⌜ (length (built p) ≤ 65535) × Column (stateLeaves p) (now entries) ⌝ }
     requires place { ⌜ (e < edges p) × List·Memᴰ leaf (orElse 65535 (leaves (forest p) p (source p e))) × (over .low ≡ firstOver p (targetOf p e)) × (over .high ≡ firstOver p (targetOf p e + 1)) ⌝ }
     requires shared { ⌜ Shares p e (last .from) (last .to) (last .target) (last .priority) ⌝ }
+    requires transient { ⌜ transient ≡ transientPriority p ⌝ }
     ensures { λ r. ⌜ SharedBy p e leaf (r .from) (r .to) (r .target) (r .priority) ⌝ }
 {
     if (last.from <= leaf) & (leaf < last.to) {
         return last;
     }
-    let m = climb(p, masks, parents, node_priorities, e, leaf);
+    let m = climb(p, masks, parents, node_priorities, transient, e, leaf);
     find(p, ends, entries, e, leaf, m, over, last.hint)
 }
 
@@ -185,6 +189,7 @@ fn fill_edge(
     masks: &[u64],
     parents: &[u16],
     node_priorities: &[u8],
+    transient: u8,
     ends: &[u16],
     entries: &[u16],
     starts: &[usize; 17],
@@ -197,6 +202,7 @@ fn fill_edge(
     requires states { ⌜ (length (built p) ≤ 65535) × Column (stateLeaves p) (now entries) × Column (stateStarts p) (now starts) ⌝ }
     requires edge { ⌜ (v < p .states) × (letter < p .letters) × (now heads ≡ p .target) ⌝ }
     requires room { ⌜ (p .letters * length (built p) ≤ length (now targets)) × (p .letters * length (built p) ≤ length (now priorities)) ⌝ }
+    requires transient { ⌜ transient ≡ transientPriority p ⌝ }
     ensures { λ _. ⌜ RowsWritten p (now (targets .entry)) (now (priorities .entry)) (now (targets .exit)) (now (priorities .exit)) (edgeOf p v letter) (edgeOf p v letter + 1) ⌝ }
 {
     let letters = p.letters as usize;
@@ -219,6 +225,7 @@ fn fill_edge(
             masks,
             parents,
             node_priorities,
+            transient,
             ends,
             entries,
             e,
@@ -240,6 +247,7 @@ pub fn fill_rows(
     masks: &[u64],
     parents: &[u16],
     node_priorities: &[u8],
+    transient: u8,
     ends: &[u16],
     leaves: &[u16],
     starts: &[usize; 17],
@@ -250,6 +258,7 @@ pub fn fill_rows(
     requires states { ⌜ (length (built p) ≤ 65535) × Column (stateLeaves p) (now leaves) × Column (stateStarts p) (now starts) ⌝ }
     requires edges { ⌜ now heads ≡ p .target ⌝ }
     requires cleared { ⌜ (now targets ≡ zeros (now targets)) × (now priorities ≡ zeros (now priorities)) × (p .letters * length (built p) ≤ length (now targets)) × (p .letters * length (built p) ≤ length (now priorities)) ⌝ }
+    requires transient { ⌜ transient ≡ transientPriority p ⌝ }
     ensures targets { λ _. ⌜ now (targets .exit) ≡ padded (length (now (targets .entry))) (rowTargets p) ⌝ }
     ensures priorities { λ _. ⌜ now (priorities .exit) ≡ padded (length (now (priorities .entry))) (rowPriorities p) ⌝ }
 {
@@ -263,6 +272,7 @@ pub fn fill_rows(
                 masks,
                 parents,
                 node_priorities,
+                transient,
                 ends,
                 leaves,
                 starts,

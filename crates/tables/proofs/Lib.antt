@@ -3,3 +3,4 @@ pub mod Copies
 pub mod Tables
 pub mod Stores
 pub mod Columns
+pub mod Extremes

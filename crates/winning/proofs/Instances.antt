@@ -7,6 +7,7 @@ use mathlib.Core.Bool.{Bool, true, false, cond}
 use mathlib.Core.List.{List, [], _∷_}
 use lib.Dec.{eqb}
 use lib.ListN.{length, getD, take, replicate}
+use Rattle.lists.specs.Lists.{greatest, lowest}
 use Rattle.lists.proofs.Bools.{test, eqb≡, ≡eqb}
 use Rattle.masks.specs.Masks.{has, insert, inside, properly, members, submasks, setOf}
 use Rattle.tables.specs.Tables.{padded, zeros, places}
@@ -14,7 +15,7 @@ use Rattle.policy.specs.declared.Policy.{Policy}
 use Rattle.policy.specs.Policies.{edges, edgeOf, source, targetOf, colourOf, edgeColours, coloursOf, inFamily, accepting, countsFit, legalCounts, legalEdge, legalEdges, legalSet, legalFamily, legalGraph, legal, full}
 use Rattle.policy.proofs.Laws.{legal-counts}
 use Rattle.graph.specs.Cycles.{spread, closure, reach, isCycle, contains, cyclesIn}
-use Rattle.forest.specs.Forest.{before, place, inOrder, largest, roots, opposed, children, trees, tree, forest, priority, transientPriority, node, upFrom, chain, childOf, inRoot, forestFits}
+use Rattle.forest.specs.Forest.{before, place, inOrder, largest, roots, opposed, children, trees, tree, forest, greatestLevel, fromZero, rootPriority, priority, transientPriority, node, upFrom, chain, childOf, inRoot, forestFits}
 use Rattle.automaton.specs.Automaton.{next, holds, kids, isLeaf, leaves, firstLeaf, statesOver, builtStates, deepest, lead, entered, firstLeafBelow, leafAfter, priorityAfter, built, stateAt, number, start, rowTarget, rowPriority, builtFit}
 use Rattle.builder.specs.Tables.{Tables, sizesFit, lengthsFit, nodesFit, statesFit, countsOf, numberOf as translateNumberOf}
 use Rattle.builder.specs.declared.Translation.the-variants.{Translated}
@@ -50,7 +51,7 @@ abbrev wide : List ℕ
 wide = replicate 3 7
 
 b-solved : solvingOf B ownersOfB room wide wide ≡ Translated 3 2 0
-unfolding has insert inside properly setOf members submasks padded zeros edges edgeOf source targetOf colourOf edgeColours coloursOf inFamily accepting countsFit legalCounts legalEdge legalEdges legalSet legalFamily legalGraph legal spread closure reach isCycle contains before place inOrder largest full cyclesIn roots opposed children trees tree forest priority transientPriority node upFrom chain childOf inRoot places next holds kids isLeaf leaves firstLeaf statesOver builtStates deepest lead entered firstLeafBelow leafAfter priorityAfter built stateAt number start rowTarget rowPriority builtFit forestFits sizesFit lengthsFit nodesFit statesFit ownersFit ownersLegal solvingFits solvingOf
+unfolding has insert inside properly setOf members submasks padded zeros edges edgeOf source targetOf colourOf edgeColours coloursOf inFamily accepting countsFit legalCounts legalEdge legalEdges legalSet legalFamily legalGraph legal spread closure reach isCycle contains before place inOrder largest full cyclesIn roots opposed children trees tree forest greatest lowest greatestLevel fromZero rootPriority priority transientPriority node upFrom chain childOf inRoot places next holds kids isLeaf leaves firstLeaf statesOver builtStates deepest lead entered firstLeafBelow leafAfter priorityAfter built stateAt number start rowTarget rowPriority builtFit forestFits sizesFit lengthsFit nodesFit statesFit ownersFit ownersLegal solvingFits solvingOf
 b-solved = refl
 
 -- ---- a call of solving for every policy, all owners and all tables

@@ -1,6 +1,6 @@
 -- The library's version.
 use Prim.Native.Nat.{ℕ, _+_, _*_}
 
--- major, minor, patch; another length of the record is another major version
+-- major, minor, patch; another length of the record, other arguments of a call and other tables for a policy are another major version
 abbrev pub version : ℕ
-version = 2 * 1000000 + 1 * 1000 + 0
+version = 3 * 1000000 + 0 * 1000 + 0

@@ -25,7 +25,7 @@ ghost use Rattle.wulfrenda.specs.Library.{version};
 pub extern "C" fn wulfrenda_version() -> u32
     ensures { λ r. ⌜ r ≡ version ⌝ }
 {
-    2001000
+    3000000
 }
 
 // The colour set at a position of the fixed order.

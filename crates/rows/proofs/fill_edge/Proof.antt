@@ -10,11 +10,11 @@ use Rattle.rows.proofs.fill_edge.Statement.{statement}
 use Rattle.rows.proofs.fill_edge.Tie as tie
 
 abbrev Inv-loop : tie.InvT-loop
-Inv-loop p heads masks parents node-priorities ends entries starts v letter targets₀ priorities₀ letters e over first end row₀ s₀ targets priorities row s =
+Inv-loop p heads masks parents node-priorities transient ends entries starts v letter targets₀ priorities₀ letters e over first end row₀ s₀ targets priorities row s =
     EdgeRows p v letter targets₀ priorities₀ targets priorities s × Shares p e (row .from) (row .to) (row .target) (row .priority)
 
 abbrev μ-loop : tie.MeasureT-loop
-μ-loop p heads masks parents node-priorities ends entries starts v letter targets₀ priorities₀ letters e over first end row₀ s₀ targets priorities row s = end - s
+μ-loop p heads masks parents node-priorities transient ends entries starts v letter targets₀ priorities₀ letters e over first end row₀ s₀ targets priorities row s = end - s
 
 -- ---- places
 given : (s : tie.Start Inv-loop μ-loop)
@@ -27,8 +27,8 @@ given s = record {
   few = s .pre .1 .0 .0;
   leaves-are = s .pre .1 .0 .1;
   starts-are = s .pre .1 .0 .2;
-  targets-long = s .pre .1 .1 .1 .0;
-  priorities-long = s .pre .1 .1 .1 .1;
+  targets-long = s .pre .1 .1 .1 .0 .0;
+  priorities-long = s .pre .1 .1 .1 .0 .1;
 }
 
 abbrev entered : tie.After-struct-known Inv-loop μ-loop → tie.Start Inv-loop μ-loop
@@ -89,7 +89,7 @@ share-requires c κs =
     let g = given s in
     let w = found l .before .byte .ensures in
     let o = found l .states-over .ensures in
-    (s .pre .0, ((s .pre .1 .0 .0, s .pre .1 .0 .1), ((edge-in g, edge-rows-leaf g (l .loop .inv .0) (stands i) (c .wide .ensures .0), target-low g w (o .0), target-high g w (o .1)), l .loop .inv .1)))
+    (s .pre .0, ((s .pre .1 .0 .0, s .pre .1 .0 .1), ((edge-in g, edge-rows-leaf g (l .loop .inv .0) (stands i) (c .wide .ensures .0), target-low g w (o .0), target-high g w (o .1)), (l .loop .inv .1, s .pre .1 .1 .1 .1))))
 
 mul-i : tie.Need-mul-i Inv-loop μ-loop
 mul-i c = let i = c .before .before .before in omega (arith, edge-rows-in (given (start (i .before))) (i .before .loop .inv .0) (stands i) .2)

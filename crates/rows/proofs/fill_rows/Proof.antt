@@ -11,18 +11,18 @@ use Rattle.rows.proofs.fill_rows.Statement.{statement}
 use Rattle.rows.proofs.fill_rows.Tie as tie
 
 abbrev Inv-loop2 : tie.InvT-loop2
-Inv-loop2 p heads masks parents node-priorities ends leaves starts targets₀ priorities₀ states letters v letter₀ targets priorities letter =
+Inv-loop2 p heads masks parents node-priorities transient ends leaves starts targets₀ priorities₀ states letters v letter₀ targets priorities letter =
     (letter ≤ letters) × RowsWritten p targets₀ priorities₀ targets priorities (edgeOf p v 0) (edgeOf p v letter)
 
 abbrev μ-loop2 : tie.MeasureT-loop2
-μ-loop2 p heads masks parents node-priorities ends leaves starts targets₀ priorities₀ states letters v letter₀ targets priorities letter = letters - letter
+μ-loop2 p heads masks parents node-priorities transient ends leaves starts targets₀ priorities₀ states letters v letter₀ targets priorities letter = letters - letter
 
 abbrev Inv-loop : tie.InvT-loop
-Inv-loop p heads masks parents node-priorities ends leaves starts targets₀ priorities₀ states letters v₀ targets priorities v =
+Inv-loop p heads masks parents node-priorities transient ends leaves starts targets₀ priorities₀ states letters v₀ targets priorities v =
     RowsWritten p targets₀ priorities₀ targets priorities 0 (edgeOf p v 0)
 
 abbrev μ-loop : tie.MeasureT-loop
-μ-loop p heads masks parents node-priorities ends leaves starts targets₀ priorities₀ states letters v₀ targets priorities v = states - v
+μ-loop p heads masks parents node-priorities transient ends leaves starts targets₀ priorities₀ states letters v₀ targets priorities v = states - v
 
 -- ---- places
 abbrev start : tie.At-loop Inv-loop2 μ-loop2 Inv-loop μ-loop → tie.Start Inv-loop2 μ-loop2 Inv-loop μ-loop
@@ -46,7 +46,7 @@ fill-edge-requires c κs =
     let s = start l in
     let w = l .loop .inv in
     let u = c .before .before .before .loop2 .inv .1 in
-    (s .pre .0, (s .pre .1 .0, ((c .before .before .before .before .loop-test .taken, c .before .before .loop2-test .taken, s .pre .1 .1 .0), (omega (arith, s .pre .1 .1 .1 .2, w .targets-are .long, u .targets-are .long), omega (arith, s .pre .1 .1 .1 .3, w .priorities-are .long, u .priorities-are .long)))))
+    (s .pre .0, (s .pre .1 .0, ((c .before .before .before .before .loop-test .taken, c .before .before .loop2-test .taken, s .pre .1 .1 .0), ((omega (arith, s .pre .1 .1 .1 .0 .2, w .targets-are .long, u .targets-are .long), omega (arith, s .pre .1 .1 .1 .0 .3, w .priorities-are .long, u .priorities-are .long)), s .pre .1 .1 .1 .1))))
 
 add-letter : tie.Need-add-letter Inv-loop2 μ-loop2 Inv-loop μ-loop
 add-letter c = search needs
@@ -75,7 +75,7 @@ same-length-2 c = c .before .loop .inv .priorities-are .long
 returns : tie.Need-returns Inv-loop2 μ-loop2 Inv-loop μ-loop
 returns c =
     let s = start (c .before) in
-    written-all (s .args .p) (s .pre .0 .0) (c .before .loop .inv) (all-edges (s .args .p) _ (c .loop-test .left)) (s .pre .1 .1 .1 .0) (s .pre .1 .1 .1 .1) (s .pre .1 .1 .1 .2) (s .pre .1 .1 .1 .3)
+    written-all (s .args .p) (s .pre .0 .0) (c .before .loop .inv) (all-edges (s .args .p) _ (c .loop-test .left)) (s .pre .1 .1 .1 .0 .0) (s .pre .1 .1 .1 .0 .1) (s .pre .1 .1 .1 .0 .2) (s .pre .1 .1 .1 .0 .3)
 
 pub fill-rows-spec : {M : Type 1} → statement M
 fill-rows-spec =

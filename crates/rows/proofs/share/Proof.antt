@@ -12,7 +12,7 @@ returns c =
     record {
       low = le-true (s .args .last .from) (s .args .leaf) (and-l (leb (s .args .last .from) (s .args .leaf)) (ltb (s .args .leaf) (s .args .last .to)) t);
       high = lt-true (s .args .leaf) (s .args .last .to) (and-r (leb (s .args .last .from) (s .args .leaf)) (ltb (s .args .leaf) (s .args .last .to)) t);
-      all = s .pre .1 .1 .1;
+      all = s .pre .1 .1 .1 .0;
     }
 
 climb-requires : tie.Need-climb-requires
