@@ -645,6 +645,7 @@ fn solving_on_large_forests() {
         "nodes_65535",
         "states_1000",
         "states_65535",
+        "negative",
     ] {
         let p = stored(name);
         for places in [65_535, 65_536] {
