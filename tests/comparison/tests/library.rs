@@ -10,7 +10,7 @@ use independent::{alike, judge, policy};
 use std::fs;
 use wulfrenda::{Counts, ReadError, Refusal, Rows, Run, PLANT, SUPERVISOR};
 
-/// Policies of every shape, a third of them with several roots: those at place i of a test have at most so many edges.
+/// Policies of every shape, a third of them in parts: those at place i of a test have at most so many edges.
 fn shape(i: u64) -> Shape {
     let edges = [4, 8, 16, 32, 64][i as usize % 5];
     if i / 5 % 3 == 2 {

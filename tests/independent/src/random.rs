@@ -59,7 +59,7 @@ impl Shape {
         }
     }
 
-    /// Policies with several roots, of at most so many edges, 4 or more.
+    /// Policies in parts, most with several roots, of at most so many edges, 4 or more.
     pub fn parts(edges: usize) -> Self {
         Shape {
             states: 2..=16,
