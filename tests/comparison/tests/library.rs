@@ -4,15 +4,20 @@
 use comparison::{counts, damaged, hex, policies, random, root, unhex, OwnedTables, SolvedTables};
 use independent::fast::{self, Translator};
 use independent::policy::{from_record, Policy};
-use independent::random::{Random, Shape};
+use independent::random::{kind, Random, Shape};
 use independent::solve::Solver;
 use independent::{alike, judge, policy};
 use std::fs;
 use wulfrenda::{Counts, ReadError, Refusal, Rows, Run, PLANT, SUPERVISOR};
 
-/// Policies of every shape: those at place i of a test have at most so many edges.
+/// Policies of every shape, a third of them in parts: those at place i of a test have at most so many edges.
 fn shape(i: u64) -> Shape {
-    Shape::any([4, 8, 16, 32, 64][i as usize % 5])
+    let edges = [4, 8, 16, 32, 64][i as usize % 5];
+    if i / 5 % 3 == 2 {
+        Shape::parts(edges)
+    } else {
+        Shape::any(edges)
+    }
 }
 
 /// The same policy on the proved side.
@@ -70,12 +75,17 @@ fn translated_alike(
 fn translating() {
     let mut random = random(12);
     let mut translator = Translator::default();
-    let mut fitting = 0;
+    let (mut fitting, mut kinds) = (0, [0; 4]);
     for i in 0..policies(6_000) {
         let p = random.policy(&shape(i));
         let most = 65_535;
         let (nodes, states) = match translator.translate(&p, most, most) {
-            Ok(a) => (a.nodes.len(), a.states.len()),
+            Ok(a) => {
+                if let Some(kind) = kind(&p, a) {
+                    kinds[kind as usize] += 1;
+                }
+                (a.nodes.len(), a.states.len())
+            }
             Err(number) => {
                 for places in [most, most + 1] {
                     let answer = translated_alike(&mut translator, &p, (places, places));
@@ -98,6 +108,8 @@ fn translating() {
         }
     }
     assert!(fitting > policies(6_000) / 2);
+    // each kind of numbering came up
+    assert!(kinds.iter().all(|&n| n > policies(6_000) / 50), "{kinds:?}");
 }
 
 /// What becomes of command bytes in one call: the counts, or the number, and the offset, which is 0 where the policy was read and not translated.
@@ -633,6 +645,7 @@ fn solving_on_large_forests() {
         "nodes_65535",
         "states_1000",
         "states_65535",
+        "negative",
     ] {
         let p = stored(name);
         for places in [65_535, 65_536] {

@@ -59,10 +59,26 @@ pub fn forest(p: &Policy) -> Vec<Node> {
     for root in largest(all.clone()) {
         grow(p, &all, root, NONE, 0, &mut nodes);
     }
-    // a node's priority is its level, plus 1 if its root is rejecting
+    // of each tree: how many levels it has, and whether its root is accepting
+    let trees: Vec<(usize, bool)> = (0..nodes.len())
+        .filter(|&n| nodes[n].parent == NONE)
+        .map(|root| {
+            let branches = (0..nodes.len()).map(|n| branch(&nodes, n));
+            let levels = branches.filter(|b| b.contains(&root)).map(|b| b.len());
+            (levels.max().unwrap(), p.accepts(nodes[root].mask))
+        })
+        .collect();
+    // some tree with the most levels has an accepting root
+    let most = trees.iter().map(|tree| tree.0).max();
+    let remain = trees.iter().any(|tree| Some(tree.0) == most && tree.1);
     for n in 0..nodes.len() {
         let root = *branch(&nodes, n).last().unwrap();
-        nodes[n].priority += if p.accepts(nodes[root].mask) { 0 } else { 1 };
+        nodes[n].priority += match (remain, p.accepts(nodes[root].mask)) {
+            (true, true) => 0,
+            (true, false) => 1,
+            (false, true) => 2,
+            (false, false) => 1,
+        };
     }
     nodes
 }
@@ -97,15 +113,15 @@ fn branch(nodes: &[Node], mut n: usize) -> Vec<usize> {
     up
 }
 
-/// The leaf and the priority of edge `e` from leaf `l`.
-fn step(p: &Policy, nodes: &[Node], e: usize, l: u16) -> (u16, u8) {
+/// The leaf and the priority of edge `e` from leaf `l`, if an edge in no cycle has priority `lowest`.
+fn step(p: &Policy, nodes: &[Node], lowest: u8, e: usize, l: u16) -> (u16, u8) {
     let w = p.edges[e].0;
     let of_w = leaves(p, nodes, w);
     if !nodes
         .iter()
         .any(|n| n.parent == NONE && n.mask >> e & 1 == 1)
     {
-        return (of_w.first().map_or(NONE, |&n| n as u16), 0);
+        return (of_w.first().map_or(NONE, |&n| n as u16), lowest);
     }
     let up = branch(nodes, l as usize);
     let n = *up.iter().find(|&&n| nodes[n].mask >> e & 1 == 1).unwrap();
@@ -129,6 +145,8 @@ fn step(p: &Policy, nodes: &[Node], e: usize, l: u16) -> (u16, u8) {
 
 pub fn translate(p: &Policy) -> Automaton {
     let nodes = forest(p);
+    // every state has edges, so there is a cycle, and a node
+    let lowest = nodes.iter().map(|n| n.priority).min().unwrap();
     let mut states = Vec::new();
     for v in 0..p.states {
         let of_v = leaves(p, &nodes, v);
@@ -142,7 +160,7 @@ pub fn translate(p: &Policy) -> Automaton {
     for &(v, l) in &states {
         for a in 0..p.letters {
             let e = v as usize * p.letters + a;
-            let (leaf, priority) = step(p, &nodes, e, l);
+            let (leaf, priority) = step(p, &nodes, lowest, e, l);
             rows.push((number(p.edges[e].0, leaf), priority));
         }
     }

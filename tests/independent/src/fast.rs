@@ -206,6 +206,9 @@ pub struct Translator {
     /// The policy states that each node is a leaf of, and the built state of (node, policy state) or the first one below.
     leaf_of: Vec<u16>,
     at: Vec<u16>,
+    /// The greatest priority of the tree that grows, and the least one of all nodes.
+    greatest: u8,
+    least: u8,
     out: Automaton,
 }
 
@@ -226,10 +229,21 @@ impl Translator {
         self.first.clear();
         self.next.clear();
         self.states.clear();
+        // the most levels of an accepting tree, and of a rejecting one
+        let mut most = [0; 2];
         for i in 0..self.roots.len() {
-            self.grow(self.roots[i], NONE, 0, node_room.min(NONE as usize))?;
+            let root = self.roots[i];
+            let rejecting = !self.g.accepts(root) as u8;
+            self.greatest = 0;
+            self.grow(root, NONE, rejecting, node_room.min(NONE as usize))?;
+            let most = &mut most[rejecting as usize];
+            *most = (self.greatest + 1 - rejecting).max(*most);
         }
-        self.number();
+        let [accepting, rejecting] = most;
+        self.least = (accepting < rejecting) as u8;
+        if 0 < accepting && accepting < rejecting {
+            self.raise();
+        }
         self.build(p, state_room.min(NONE as usize))?;
         Ok(&self.out)
     }
@@ -260,8 +274,8 @@ impl Translator {
         answer
     }
 
-    /// The tree below a cycle; a node's priority is its level until all are numbered.
-    fn grow(&mut self, mask: u64, parent: u16, level: u8, room: usize) -> Result<u16, Refusal> {
+    /// The tree below a cycle, each level one priority above the last.
+    fn grow(&mut self, mask: u64, parent: u16, priority: u8, room: usize) -> Result<u16, Refusal> {
         let number = self.out.nodes.len();
         if number == room {
             return Err(9);
@@ -269,15 +283,16 @@ impl Translator {
         self.out.nodes.push(Node {
             mask,
             parent,
-            priority: level,
+            priority,
         });
+        self.greatest = self.greatest.max(priority);
         self.first.push(NONE);
         self.next.push(NONE);
         self.states.push(self.g.states(mask));
         let (from, to) = self.children.of(&self.g, mask);
         let mut last = NONE;
         for i in from..to {
-            let c = self.grow(self.children.lists[i], number as u16, level + 1, room)?;
+            let c = self.grow(self.children.lists[i], number as u16, priority + 1, room)?;
             if last == NONE {
                 self.first[number] = c;
             } else {
@@ -288,14 +303,14 @@ impl Translator {
         Ok(number as u16)
     }
 
-    /// From levels to priorities: one more where the root rejects.
-    fn number(&mut self) {
-        let mut rejecting = 0;
+    /// Two more for each node whose root has 0.
+    fn raise(&mut self) {
+        let mut more = 0;
         for node in &mut self.out.nodes {
             if node.parent == NONE {
-                rejecting = !self.g.accepts(node.mask) as u8;
+                more = if node.priority == 0 { 2 } else { 0 };
             }
-            node.priority += rejecting;
+            node.priority += more;
         }
     }
 
@@ -347,7 +362,7 @@ impl Translator {
                     n = nodes[n as usize].parent;
                 }
                 if n == NONE {
-                    rows.push((first_of[w], 0));
+                    rows.push((first_of[w], self.least));
                     continue;
                 }
                 let mut c = if led == NONE {

@@ -1,6 +1,8 @@
-//! Random policies from a fixed seed: one generator, with switches.
+//! Random policies from a fixed seed: one generator, with switches; and of which kinds they are.
 
 use crate::policy::Policy;
+use crate::{Automaton, NONE};
+use std::cmp::Ordering;
 use std::ops::RangeInclusive;
 
 pub struct Random(u64);
@@ -56,6 +58,58 @@ impl Shape {
             initial: true,
         }
     }
+
+    /// Policies in parts, most with several roots, of at most so many edges, 4 or more.
+    pub fn parts(edges: usize) -> Self {
+        Shape {
+            states: 2..=16,
+            letters: 2..=8,
+            colours: 2..=8,
+            targets: Targets::Parts,
+            family: Family::Chance(50),
+            ..Shape::any(edges)
+        }
+    }
+}
+
+/// Which roots the trees with the most levels have. Priorities hang on it.
+#[derive(Clone, Copy, Debug, PartialEq, Eq)]
+pub enum Kind {
+    /// Accepting ones; some other root is rejecting.
+    Positive,
+    /// Ones of both verdicts.
+    Equidistant,
+    /// Rejecting ones; some other root is accepting.
+    Negative,
+    /// Rejecting ones, as all roots are.
+    Rejecting,
+}
+
+/// The kind of a policy with an edge in no cycle and a rejecting root.
+pub fn kind(p: &Policy, a: &Automaton) -> Option<Kind> {
+    let mut in_cycles = 0;
+    // the most levels of a rejecting and of an accepting tree
+    let mut most = [0; 2];
+    for node in &a.nodes {
+        let (mut root, mut level) = (node, 1);
+        while root.parent != NONE {
+            root = &a.nodes[root.parent as usize];
+            level += 1;
+        }
+        in_cycles |= root.mask;
+        let most = &mut most[p.accepts(root.mask) as usize];
+        *most = level.max(*most);
+    }
+    let [rejecting, accepting] = most;
+    if in_cycles.count_ones() as usize == p.edges.len() || rejecting == 0 {
+        return None;
+    }
+    Some(match accepting.cmp(&rejecting) {
+        _ if accepting == 0 => Kind::Rejecting,
+        Ordering::Less => Kind::Negative,
+        Ordering::Equal => Kind::Equidistant,
+        Ordering::Greater => Kind::Positive,
+    })
 }
 
 impl Random {

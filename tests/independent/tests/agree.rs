@@ -1,7 +1,7 @@
 //! The two independent ways agree with each other, and both with document 01's listing of policy B. The solver agrees with what comes of trying all letters, and so
 //! does the check of solutions, on right ones and on wrong ones.
 
-use independent::random::{Random, Shape};
+use independent::random::{kind, Random, Shape};
 use independent::solve::{Solver, NO_LETTER};
 use independent::{alike, brute, check, fast, judge, policy};
 
@@ -9,8 +9,10 @@ use independent::{alike, brute, check, fast, judge, policy};
 fn both_ways_agree() {
     let mut random = Random::new(1);
     let mut kept = policy::Policy::default();
-    for i in 0..500 {
-        let p = random.policy(&Shape::any(if i % 50 == 0 { 12 } else { 8 }));
+    let mut kinds = [0; 4];
+    for i in 0..1_000 {
+        let shape = [Shape::any, Shape::parts][i % 2];
+        let p = random.policy(&shape(if i % 50 < 2 { 12 } else { 8 }));
         let (bytes, text) = (p.bytes(), p.hex());
         alike(policy::read(&bytes), Ok((p.clone(), bytes.len())), &text);
         alike(kept.read(&bytes), Ok(bytes.len()), &text);
@@ -18,6 +20,9 @@ fn both_ways_agree() {
         let slow = brute::translate(&p);
         let quick = fast::translate(&p, 100_000, 100_000).unwrap();
         alike(&slow, &quick, &text);
+        if let Some(kind) = kind(&p, &slow) {
+            kinds[kind as usize] += 1;
+        }
         let mut q = p.clone();
         for edge in &mut q.edges {
             edge.1 = random.below(q.colours);
@@ -37,6 +42,8 @@ fn both_ways_agree() {
             alike(yes, least % 2 == 0, format!("{text} {stem:?} {period:?}"));
         }
     }
+    // each kind of numbering came up
+    assert!(kinds.iter().all(|&n| n > 20), "{kinds:?}");
 }
 
 #[test]

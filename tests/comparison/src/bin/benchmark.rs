@@ -197,6 +197,15 @@ fn file(text: &str) -> Policy {
     policy::read(&unhex(text)).unwrap().0
 }
 
+/// The policies, each with random owners.
+fn with_owners(picks: &mut Random, policies: &[Policy]) -> Vec<(Policy, Vec<u8>)> {
+    let mut owned = |p: &Policy| {
+        let owners = (0..p.states).map(|_| picks.below(2) as u8).collect();
+        (p.clone(), owners)
+    };
+    policies.iter().map(&mut owned).collect()
+}
+
 fn main() {
     let mut random = Random::new(1);
     let mut some = |n: usize, states, letters, colours, family| -> Vec<Policy> {
@@ -247,32 +256,33 @@ fn main() {
     println!("|---|---:|---:|---:|---:|---:|---:|---:|---:|");
     // owners of their own, so that what follows is not moved by them
     let mut picks = Random::new(2);
-    let mut owned = |p: &Policy| -> (Policy, Vec<u8>) {
-        let owners = (0..p.states).map(|_| picks.below(2) as u8).collect();
-        (p.clone(), owners)
-    };
-    let mut with_owners =
-        |policies: &[Policy]| -> Vec<_> { policies.iter().map(&mut owned).collect() };
-    solving("100 sites, random owners", &with_owners(&sites));
+    solving("100 sites, random owners", &with_owners(&mut picks, &sites));
     solving(
         "1,000 states, 10 times random owners",
-        &with_owners(&vec![
-            file(include_str!("../../policies/states_1000.hex"));
-            10
-        ]),
+        &with_owners(
+            &mut picks,
+            &vec![file(include_str!("../../policies/states_1000.hex")); 10],
+        ),
     );
     solving(
         "10 of 16 states, 4 letters, 8 colours",
-        &with_owners(&large),
+        &with_owners(&mut picks, &large),
     );
     solving(
         "3 of the same size, even sets accepted",
-        &with_owners(&alternating),
+        &with_owners(&mut picks, &alternating),
     );
     let most_states = file(include_str!("../../policies/states_65535.hex"));
     solving(
         "65,535 states, 10 times random owners",
-        &with_owners(&vec![most_states.clone(); 10]),
+        &with_owners(&mut picks, &vec![most_states.clone(); 10]),
+    );
+    solving(
+        "priorities from 1: 25,813 states, 10 times random owners",
+        &with_owners(
+            &mut Random::new(3),
+            &vec![file(include_str!("../../policies/negative.hex")); 10],
+        ),
     );
     let hard = (
         file(include_str!("../../policies/game_hard.hex")),
@@ -402,8 +412,8 @@ fn main() {
         println!("| translating {name} | {} |", of_record.max(of_bytes));
     }
     for (name, (p, owners)) in [
-        ("a site", &with_owners(&sites[..1])[0]),
-        ("65,535 states", &with_owners(&[most_states])[0]),
+        ("a site", &with_owners(&mut picks, &sites[..1])[0]),
+        ("65,535 states", &with_owners(&mut picks, &[most_states])[0]),
         ("the hardest found", &hard),
     ] {
         let policy = wulfrenda::Policy::from_record(p.record());
