@@ -25,10 +25,11 @@ extern "C" {
 
 /* ---- version
  *
- * This file's: major times 1,000,000 plus minor times 1,000 plus patch, here 2.1.0. wulfrenda_version gives the archive's. A record of another length or a
- * call with other arguments is another major version; other macros and calls are another minor one.
+ * This file's: major times 1,000,000 plus minor times 1,000 plus patch, here 3.0.0. wulfrenda_version gives the archive's. A record of another length, a
+ * call with other arguments and other tables for one policy are another major version; other macros and calls are another minor one. Since 3.0.0
+ * priorities begin at 1 where no tree with the most levels has an accepting root (see wulfrenda_translate).
  */
-#define WULFRENDA_VERSION 2001000
+#define WULFRENDA_VERSION 3000000
 
 /* ---- limits */
 
@@ -133,6 +134,10 @@ uint8_t wulfrenda_read(const uint8_t *bytes, size_t bytes_length, uint8_t *recor
  *   row_targets      of each row: the built state that it leads to
  *   row_priorities   its priority
  *   counts           three numbers: how many nodes, how many built states, and the built state begun in
+ *
+ * Priorities lie between 0 and the number of colours. If some tree with the most levels has an accepting root, accepting roots have 0 and rejecting ones 1;
+ * otherwise rejecting roots have 1 and accepting ones 2, and no priority is 0. Each level adds 1. A row whose edge is in no cycle has the lowest
+ * priority that any node has.
  *
  * 7. 8: the node tables are of one length, the state tables of one length, and each row table letters times the latter. 9. 10.
  *

@@ -37,20 +37,23 @@ pub const PLANT: u8 = 1;
 pub const NO_LETTER: u8 = 255;
 
 /// The version that this layer is built for: major times 1,000,000 plus minor times 1,000 plus patch. [`version`] gives the archive's.
-pub const VERSION: u32 = 2_001_000;
+pub const VERSION: u32 = 3_000_000;
 
 /// Stack enough for any call.
 pub const STACK_BYTES: usize = 262_144;
 
 /// The seven tables that [`translate`] fills in. The lengths of the three node tables are equal, those of the two state tables too, and each row table is letters
 /// times as long as a state table. Row = built state times letters plus letter.
+///
+/// Priorities lie between 0 and the number of colours. If some tree with the most levels has an accepting root, accepting roots have 0 and rejecting ones 1; otherwise
+/// rejecting roots have 1 and accepting ones 2, and no priority is 0. Each level adds 1. A row whose edge is in no cycle has the lowest priority that any node has.
 #[derive(Debug)]
 pub struct Tables<'a> {
     /// The edges of each node, bit e for edge e.
     pub node_masks: &'a mut [u64],
     /// The parent of each node; [`NONE`] for a root.
     pub node_parents: &'a mut [u16],
-    /// The priority of each node.
+    /// The priority of each node, which accepts exactly if it is even.
     pub node_priorities: &'a mut [u8],
     /// The policy state under each built state.
     pub state_sources: &'a mut [u8],

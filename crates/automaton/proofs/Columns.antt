@@ -11,23 +11,12 @@ use Rattle.tables.proofs.Columns.{column-at}
 use Rattle.policy.specs.declared.Policy.{Policy}
 use Rattle.forest.specs.Forest.{Node, forest, node, priority, nodeMasks, nodeParents, nodePriorities}
 use Rattle.forest.specs.Laws.{maskAt, parentAt}
+use Rattle.forest.proofs.Columns.{length-masks, length-parents, length-node-priorities}
 use Rattle.automaton.specs.Automaton.{Built, built, stateAt, stateSources, stateLeaves}
 use Rattle.automaton.specs.Stages.{endOf, firstOver, nodeEnds, stateStarts}
 
 module _ (p : Policy) where
   -- ---- the columns
-  pub length-masks : length (nodeMasks p) ≡ length (forest p)
-  unfolding nodeMasks
-  length-masks = length-map (forest p) (λ (x : Node). x .mask)
-
-  pub length-parents : length (nodeParents p) ≡ length (forest p)
-  unfolding nodeParents
-  length-parents = length-map (forest p) (λ (x : Node). x .parent)
-
-  pub length-node-priorities : length (nodePriorities p) ≡ length (forest p)
-  unfolding nodePriorities
-  length-node-priorities = length-map (forest p) (priority p)
-
   pub length-ends : length (nodeEnds p) ≡ length (forest p)
   unfolding nodeEnds
   length-ends = length-map-below (endOf (forest p)) (length (forest p))
@@ -47,13 +36,13 @@ module _ (p : Policy) where
   module _ {t : List ℕ} where
     -- ---- the tables of the nodes
     pub masks-long : Column (nodeMasks p) t → length (forest p) ≤ length t
-    masks-long c = omega (arith, c .long, length-masks)
+    masks-long c = omega (arith, c .long, length-masks p)
 
     pub parents-long : Column (nodeParents p) t → length (forest p) ≤ length t
-    parents-long c = omega (arith, c .long, length-parents)
+    parents-long c = omega (arith, c .long, length-parents p)
 
     pub node-priorities-long : Column (nodePriorities p) t → length (forest p) ≤ length t
-    node-priorities-long c = omega (arith, c .long, length-node-priorities)
+    node-priorities-long c = omega (arith, c .long, length-node-priorities p)
 
     pub ends-long : Column (nodeEnds p) t → length (forest p) ≤ length t
     ends-long c = omega (arith, c .long, length-ends)

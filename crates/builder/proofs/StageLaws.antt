@@ -16,7 +16,7 @@ use Rattle.forest.specs.Forest.{forest, nodeMasks, nodeParents, nodePriorities,
 use Rattle.decomposition.specs.NodeTables.{NodeTables, nodeTables, fillingOf, filledOf}
 use Rattle.automaton.specs.Automaton.{built, start, builtFit}
 use Rattle.automaton.specs.Stages.{Nodes}
-use Rattle.automaton.proofs.Columns.{length-masks, length-parents, length-node-priorities}
+use Rattle.forest.proofs.Columns.{length-masks, length-parents, length-node-priorities}
 use Rattle.filling.specs.declared.Building.{Building}
 use Rattle.filling.specs.declared.Building.the-variants.{Whole, TooMany}
 use Rattle.filling.specs.Filling.{buildingOf}

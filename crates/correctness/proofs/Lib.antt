@@ -1,4 +1,5 @@
 pub mod Known
+pub mod FirstPriorities
 pub mod Calls
 pub mod BuiltRows
 pub mod Joint

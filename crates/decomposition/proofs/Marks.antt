@@ -11,7 +11,7 @@ use lib.ListN.{length, getD, take, set, length-set, length-map}
 use lib.Seq.{sets, take-suc, take-all, take-append-seam, length-take-le, getD-take}
 use Rattle.lists.specs.Lists.{greatest}
 use Rattle.lists.proofs.Bools.{test, eqb≡, ≡eqb, neqb}
-use Rattle.lists.proofs.Lists.{map-same, map-mem, mem-map, getD-mem, mem-at}
+use Rattle.lists.proofs.Lists.{map-mem, mem-map, getD-mem, mem-at}
 use Rattle.lists.proofs.Extremes.{greatest-le, greatest-mem}
 use Rattle.tables.specs.Tables.{padded, zeros}
 use Rattle.tables.proofs.Tables.{zeros-padded, length-padded, getD-padded, padded-more}
@@ -19,7 +19,7 @@ use Rattle.tables.proofs.Columns.{map-at, sets-past, sets-over}
 use Rattle.tables.proofs.Copies.{Copying, copying-none, copying-long, copying-more, copying-all}
 use Rattle.policy.specs.declared.Policy.{Policy}
 use Rattle.policy.specs.Policies.{accepting, legal}
-use Rattle.forest.specs.Forest.{Node, isRoot, forest, node, greatestLevel, fromZero, priority, nodePriorities}
+use Rattle.forest.specs.Forest.{Node, isRoot, forest, node, fromZero, priority, nodePriorities}
 use Rattle.forest.specs.Laws.{ForestLaws, maskAt, parentAt, rootAt}
 use Rattle.forest.proofs.Children.{root-few, child-fewer, ordered-children, ordered-roots}
 use Rattle.forest.proofs.Levels.{most-levels-few}

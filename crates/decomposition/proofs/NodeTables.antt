@@ -1,26 +1,19 @@
--- Node tables that hold the columns of the forest, and 0 past them: masks and parents as they are grown, priorities from the front, and what filling the tables gives.
+-- Node tables that hold the columns of the forest, and 0 past them: masks and parents as they are grown, and what filling the tables gives.
 -- Assumes nothing.
-use Prim.Native.Nat.{ℕ, _+_, _≤_, _<_, min}
+use Prim.Native.Nat.{ℕ, _≤_, _<_, min}
 use native.Mathlib.Omega.{arith}
-use native.Mathlib.Numerals.{add-one}
-use mathlib.Core.Path.{_≡_, refl, sym, ap, ap₂, _∙_, subst}
-use mathlib.Core.Logic.{_⊎_, inl, inr, _≢_}
-use mathlib.Core.Bool.{Bool, true, false, cond}
-use mathlib.Core.List.{List, [], _∷_, _++_}
-use lib.ListN.{length, getD, take, set, length-set}
-use lib.Seq.{sets, take-suc, take-all, length-take-le, getD-take}
+use mathlib.Core.Path.{_≡_, refl, sym, ap, _∙_}
+use mathlib.Core.Bool.{Bool, cond}
+use mathlib.Core.List.{List}
+use lib.ListN.{length, getD}
+use lib.Seq.{sets}
 use borrow.Author.Tests.{le-leb, lt-leb}
-use Rattle.lists.proofs.Bools.{test}
 use Rattle.tables.specs.Tables.{padded, zeros, places}
-use Rattle.tables.proofs.Tables.{zeros-padded, zeros-same, length-zeros, length-padded, getD-padded, padded-more}
+use Rattle.tables.proofs.Tables.{zeros-same, length-zeros, length-padded, getD-padded}
 use Rattle.tables.proofs.Stores.{sets-padded}
 use Rattle.policy.specs.declared.Policy.{Policy}
-use Rattle.policy.specs.Policies.{accepting, legal}
-use Rattle.forest.specs.Forest.{forest, node, priority, nodeMasks, nodeParents, nodePriorities, forestFits}
-use Rattle.forest.specs.Laws.{ForestLaws, maskAt, parentAt, rootAt}
-use Rattle.forest.proofs.Children.{root-few, child-fewer, ordered-children, ordered-roots}
-use Rattle.forest.proofs.Numbered.{Numbered, numbered}
-use Rattle.forest.proofs.Columns.{length-masks, length-parents, length-node-priorities, masks-at, parents-at, node-priorities-at}
+use Rattle.forest.specs.Forest.{forest, nodeMasks, nodeParents, nodePriorities, forestFits}
+use Rattle.forest.proofs.Columns.{length-masks, length-parents}
 use Rattle.trees.specs.Growing.{ForestWritten}
 use Rattle.decomposition.specs.declared.Filled.the-variants.{Nodes, TooMany}
 use Rattle.decomposition.specs.NodeTables.{NodeColumns, nodeTables, fillingOf, refusalOf, countAfter, filledOf, Fills}

@@ -16,10 +16,11 @@ use Rattle.policy.specs.declared.Policy.{Policy}
 use Rattle.policy.specs.Policies.{legal}
 use Rattle.policy.proofs.Laws.{legal-counts}
 use Rattle.forest.specs.Forest.{forest, transientPriority, nodePriorities}
+use Rattle.forest.proofs.Columns.{length-node-priorities}
 use Rattle.forest.proofs.Numbering.{forest-some}
 use Rattle.automaton.specs.Automaton.{built, start, rowTargets, rowPriorities, stateLeaves, builtFit}
 use Rattle.automaton.specs.Stages.{nodeEnds, stateStarts, Nodes}
-use Rattle.automaton.proofs.Columns.{length-node-priorities, node-priorities-long, length-ends, length-leaves, length-starts}
+use Rattle.automaton.proofs.Columns.{node-priorities-long, length-ends, length-leaves, length-starts}
 use Rattle.states.specs.StateTables.{StatesFilled}
 use Rattle.filling.specs.declared.Building.the-variants.{Whole, TooMany}
 use Rattle.filling.specs.declared.Building.{Building}

@@ -3,21 +3,21 @@
 use Prim.Native.Nat.{ℕ, zero, suc, _+_, _-_, _≤_, _<_}
 use native.Mathlib.Omega.{arith}
 use native.Mathlib.Decide.{decLt, ℕ-discrete}
-use mathlib.Core.Path.{_≡_, refl, sym, ap, _∙_, subst}
+use mathlib.Core.Path.{_≡_, refl, sym, ap, _∙_}
 use mathlib.Core.Logic.{_⊎_, inl, inr, _↔_, _≢_}
 use mathlib.Core.Bool.{Bool, true, false, _&&_, cond, true≢false}
-use mathlib.Core.List.{List, map, List·Memᴰ}
+use mathlib.Core.List.{map, List·Memᴰ}
 use lib.Dec.{eqb}
 use lib.ListN.{length, length-map, List·getD-eq-default}
 use Rattle.lists.specs.Lists.{any, greatest, lowest}
 use Rattle.lists.proofs.Bools.{test, eqb≡, ≡eqb, and-l, and-r, both}
-use Rattle.lists.proofs.Lists.{any-some, some-any, none-any, getD-mem, mem-at, map-mem, mem-map}
+use Rattle.lists.proofs.Lists.{any-some, some-any, getD-mem, mem-at, map-mem, mem-map}
 use Rattle.lists.proofs.Extremes.{greatest-le, greatest-mem, lowest-le, lowest-mem}
 use Rattle.policy.specs.declared.Policy.{Policy}
-use Rattle.policy.specs.Policies.{accepting, legal}
+use Rattle.policy.specs.Policies.{legal}
 use Rattle.graph.proofs.Walks.{some-cycle}
-use Rattle.forest.specs.Forest.{Node, mostLevels, forest, greatestLevel, fromZero, priority, transientPriority, node, chain}
-use Rattle.forest.specs.Laws.{ForestLaws, maskAt, parentAt, rootAt}
+use Rattle.forest.specs.Forest.{Node, mostLevels, forest, greatestLevel, fromZero, priority, transientPriority, node}
+use Rattle.forest.specs.Laws.{ForestLaws, parentAt, rootAt}
 use Rattle.forest.specs.Numbering.{AcceptingMost, PriorityBounds, plainPriority, InUse, OneFewer}
 use Rattle.forest.proofs.Chains.{by-parent, chain-top, chain-lt}
 use Rattle.forest.proofs.Children.{root-few, child-fewer, ordered-children, ordered-roots}
@@ -85,18 +85,30 @@ module _ (p : Policy) (lawful : legal p ≡ true) where
           go (no u) = let m = ih k (omega (arith, laws .level-up n l f, u)) in (m .0, m .1, m .2, m .3 ∙ sym (numbers .accepted-child n l f))
 
   -- ---- where priorities begin
-  pub from-zero : fromZero p ≡ true → (n : ℕ) × (n < length (forest p)) × (node (forest p) n .level ≡ greatestLevel p) × (node (forest p) n .accepted ≡ true)
+  -- at 0 exactly if some node of the greatest level has an accepting root
+  begin : (fromZero p ≡ true) ↔ ((n : ℕ) × (n < length (forest p)) × (node (forest p) n .level ≡ greatestLevel p) × (node (forest p) n .accepted ≡ true))
   unfolding fromZero
-  from-zero t =
-      let x = any-some (λ (x : Node). eqb (x .level) (greatestLevel p) && x .accepted) (forest p) t in
-      let n = numbered-as (x .0) (x .1) in
-      (n .0, n .1, ap (λ (x : Node). x .level) (n .2) ∙ eqb≡ (x .0 .level) (greatestLevel p) (and-l (eqb (x .0 .level) (greatestLevel p)) (x .0 .accepted) (x .2)), ap (λ (x : Node). x .accepted) (n .2) ∙ and-r (eqb (x .0 .level) (greatestLevel p)) (x .0 .accepted) (x .2))
+  begin = (to, back)
+    where
+      deep : Node → Bool
+      deep x = eqb (x .level) (greatestLevel p)
+
+      to : any (λ (x : Node). eqb (x .level) (greatestLevel p) && x .accepted) (forest p) ≡ true → (n : ℕ) × (n < length (forest p)) × (node (forest p) n .level ≡ greatestLevel p) × (node (forest p) n .accepted ≡ true)
+      to t =
+          let x = any-some (λ (x : Node). deep x && x .accepted) (forest p) t in
+          let n = numbered-as (x .0) (x .1) in
+          (n .0, n .1, ap (λ (x : Node). x .level) (n .2) ∙ eqb≡ (x .0 .level) (greatestLevel p) (and-l (deep (x .0)) (x .0 .accepted) (x .2)), ap (λ (x : Node). x .accepted) (n .2) ∙ and-r (deep (x .0)) (x .0 .accepted) (x .2))
+
+      back : (n : ℕ) × (n < length (forest p)) × (node (forest p) n .level ≡ greatestLevel p) × (node (forest p) n .accepted ≡ true) → any (λ (x : Node). eqb (x .level) (greatestLevel p) && x .accepted) (forest p) ≡ true
+      back d =
+          let x = node (forest p) (d .0) in
+          some-any (λ (x : Node). deep x && x .accepted) (forest p) x (member (d .0) (d .1)) (both (deep x) (x .accepted) (≡eqb (x .level) (greatestLevel p) (d .2)) (d .3))
+
+  pub from-zero : fromZero p ≡ true → (n : ℕ) × (n < length (forest p)) × (node (forest p) n .level ≡ greatestLevel p) × (node (forest p) n .accepted ≡ true)
+  from-zero = begin .0
 
   zero-from : (n : ℕ) → n < length (forest p) → node (forest p) n .level ≡ greatestLevel p → node (forest p) n .accepted ≡ true → fromZero p ≡ true
-  unfolding fromZero
-  zero-from n l e a =
-      some-any (λ (x : Node). eqb (x .level) (greatestLevel p) && x .accepted) (forest p) (node (forest p) n) (member n l)
-      (both (eqb (node (forest p) n .level) (greatestLevel p)) (node (forest p) n .accepted) (≡eqb (node (forest p) n .level) (greatestLevel p) e) a)
+  zero-from n l e a = begin .1 (n, l, e, a)
 
   -- where they begin at 1, an accepting tree has fewer levels
   pub lower : fromZero p ≡ false → (n : ℕ) → n < length (forest p) → node (forest p) n .accepted ≡ true → node (forest p) n .level < greatestLevel p

@@ -20,12 +20,7 @@ even-suc k = go (ℕ-discrete (k % 2) 0)
     go (no n) = rw (neqb (k % 2) 0 n) (≡eqb (suc k % 2) 0 (omega arith))
 
 module _ (p : Policy) where
-  -- a node's level, plus 0 or 2 if its root is accepting, or 1
-  pub priority-is : (x : Node) → priority p x ≡ x .level + cond (x .accepted) (cond (fromZero p) 0 2) 1
-  unfolding priority rootPriority
-  priority-is x = refl
-
-  -- it has the parity that document 01's has
+  -- a priority has the parity that document 01's has
   pub same-parity : (x : Node) → even (priority p x) ≡ even (plainPriority x)
   unfolding priority rootPriority plainPriority even
   same-parity x = go (x .accepted) (fromZero p)
@@ -37,6 +32,11 @@ module _ (p : Policy) where
       go true true = refl
       go true false = ap (λ (k : ℕ). eqb k 0) (two (x .level))
       go false z = refl
+
+  -- a node's level, plus 0 or 2 if its root is accepting, or 1
+  pub priority-is : (x : Node) → priority p x ≡ x .level + cond (x .accepted) (cond (fromZero p) 0 2) 1
+  unfolding priority rootPriority
+  priority-is x = refl
 
   plain-root : (x : Node) → isRoot x ≡ true → even (plainPriority x) ≡ x .accepted
   unfolding plainPriority even

@@ -3,10 +3,9 @@ use Prim.Native.Nat.{ℕ, zero, suc, _+_, _-_, _<_}
 use native.Mathlib.Omega.{arith}
 use mathlib.Core.Path.{_≡_, refl, sym, ap, _∙_, subst}
 use mathlib.Core.Bool.{true}
-use mathlib.Core.List.{List, [], _∷_, List·Memᴰ}
+use mathlib.Core.List.{List, [], _∷_}
 use Rattle.lists.specs.Lists.{below}
 use Rattle.lists.proofs.Lists.{mem-below}
-use Rattle.recurrence.specs.Iterates.{iter}
 use Rattle.recurrence.proofs.Pigeon.{pigeon}
 use Rattle.masks.specs.Masks.{setOf}
 use Rattle.masks.proofs.SetOf.{set-has}

@@ -206,9 +206,8 @@ pub struct Translator {
     /// The policy states that each node is a leaf of, and the built state of (node, policy state) or the first one below.
     leaf_of: Vec<u16>,
     at: Vec<u16>,
-    /// The greatest priority of the tree that grows, and the least one of all nodes.
+    /// The greatest level of the tree that grows.
     greatest: u8,
-    least: u8,
     out: Automaton,
 }
 
@@ -229,22 +228,18 @@ impl Translator {
         self.first.clear();
         self.next.clear();
         self.states.clear();
-        // the most levels of an accepting tree, and of a rejecting one
+        // the most levels of a rejecting tree, and of an accepting one
         let mut most = [0; 2];
         for i in 0..self.roots.len() {
             let root = self.roots[i];
-            let rejecting = !self.g.accepts(root) as u8;
             self.greatest = 0;
-            self.grow(root, NONE, rejecting, node_room.min(NONE as usize))?;
-            let most = &mut most[rejecting as usize];
-            *most = (self.greatest + 1 - rejecting).max(*most);
+            self.grow(root, NONE, 0, node_room.min(NONE as usize))?;
+            let most = &mut most[self.g.accepts(root) as usize];
+            *most = (self.greatest + 1).max(*most);
         }
-        let [accepting, rejecting] = most;
-        self.least = (accepting < rejecting) as u8;
-        if 0 < accepting && accepting < rejecting {
-            self.raise();
-        }
-        self.build(p, state_room.min(NONE as usize))?;
+        let least = (most[1] < most[0]) as u8;
+        self.number(2 * least);
+        self.build(p, least, state_room.min(NONE as usize))?;
         Ok(&self.out)
     }
 
@@ -274,8 +269,8 @@ impl Translator {
         answer
     }
 
-    /// The tree below a cycle, each level one priority above the last.
-    fn grow(&mut self, mask: u64, parent: u16, priority: u8, room: usize) -> Result<u16, Refusal> {
+    /// The tree below a cycle; a node's priority is its level until all are numbered.
+    fn grow(&mut self, mask: u64, parent: u16, level: u8, room: usize) -> Result<u16, Refusal> {
         let number = self.out.nodes.len();
         if number == room {
             return Err(9);
@@ -283,16 +278,16 @@ impl Translator {
         self.out.nodes.push(Node {
             mask,
             parent,
-            priority,
+            priority: level,
         });
-        self.greatest = self.greatest.max(priority);
+        self.greatest = self.greatest.max(level);
         self.first.push(NONE);
         self.next.push(NONE);
         self.states.push(self.g.states(mask));
         let (from, to) = self.children.of(&self.g, mask);
         let mut last = NONE;
         for i in from..to {
-            let c = self.grow(self.children.lists[i], number as u16, priority + 1, room)?;
+            let c = self.grow(self.children.lists[i], number as u16, level + 1, room)?;
             if last == NONE {
                 self.first[number] = c;
             } else {
@@ -303,18 +298,23 @@ impl Translator {
         Ok(number as u16)
     }
 
-    /// Two more for each node whose root has 0.
-    fn raise(&mut self) {
-        let mut more = 0;
+    /// From levels to priorities: a rejecting root has 1, and an accepting one what is given.
+    fn number(&mut self, accepting: u8) {
+        let mut first = 0;
         for node in &mut self.out.nodes {
             if node.parent == NONE {
-                more = if node.priority == 0 { 2 } else { 0 };
+                first = if self.g.accepts(node.mask) {
+                    accepting
+                } else {
+                    1
+                };
             }
-            node.priority += more;
+            node.priority += first;
         }
     }
 
-    fn build(&mut self, p: &Policy, state_room: usize) -> Result<(), Refusal> {
+    /// The states and the rows; an edge in no cycle has the least priority of a node.
+    fn build(&mut self, p: &Policy, least: u8, state_room: usize) -> Result<(), Refusal> {
         let (nodes, states, rows) = (&self.out.nodes, &mut self.out.states, &mut self.out.rows);
         self.leaf_of.clone_from(&self.states);
         for (n, node) in nodes.iter().enumerate() {
@@ -362,7 +362,7 @@ impl Translator {
                     n = nodes[n as usize].parent;
                 }
                 if n == NONE {
-                    rows.push((first_of[w], self.least));
+                    rows.push((first_of[w], least));
                     continue;
                 }
                 let mut c = if led == NONE {
