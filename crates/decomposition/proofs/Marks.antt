@@ -11,7 +11,6 @@ use lib.ListN.{length, getD, take, set, length-set, length-map}
 use lib.Seq.{sets, take-suc, take-all, take-append-seam, length-take-le, getD-take}
 use Rattle.lists.specs.Lists.{greatest}
 use Rattle.lists.proofs.Bools.{test, eqb≡, ≡eqb, neqb}
-use Rattle.lists.proofs.Lists.{map-mem, mem-map, getD-mem, mem-at}
 use Rattle.lists.proofs.Extremes.{greatest-le, greatest-mem}
 use Rattle.tables.specs.Tables.{padded, zeros}
 use Rattle.tables.proofs.Tables.{zeros-padded, length-padded, getD-padded, padded-more}
@@ -26,8 +25,8 @@ use Rattle.forest.proofs.Levels.{most-levels-few}
 use Rattle.forest.proofs.Priorities.{priority-is}
 use Rattle.forest.proofs.Numbered.{Numbered, numbered}
 use Rattle.forest.proofs.Forest.{forest-laws}
-use Rattle.forest.proofs.Numbering.{forest-some, level-le, from-zero, lower, highest-rejects}
-use Rattle.forest.proofs.Columns.{length-masks, length-parents, length-node-priorities, masks-at, parents-at}
+use Rattle.forest.proofs.Numbering.{forest-some, level-le, from-zero, lower, bottom-rejects}
+use Rattle.forest.proofs.Columns.{length-masks, length-parents, length-node-priorities, masks-at, parents-at, mapped-in, mapped-from}
 use Rattle.decomposition.specs.Marks.{mark, nodeMarks, settled}
 use Rattle.decomposition.specs.NodeTables.{NodeColumns}
 
@@ -92,22 +91,19 @@ module _ (p : Policy) where
   -- the greatest is odd exactly if priorities begin at 0
   module _ (lawful : legal p ≡ true) where
     marks-le : (n : ℕ) → n < length (forest p) → mark (node (forest p) n) ≤ greatest (nodeMarks p)
-    unfolding nodeMarks node
-    marks-le n l = greatest-le (map mark (forest p)) (mark (node (forest p) n)) (mem-map mark (forest p) (node (forest p) n) (getD-mem (forest p) n (record { mask = 0; parent = 0; level = 0; accepted = false }) l))
+    unfolding nodeMarks
+    marks-le n l = greatest-le (map mark (forest p)) (mark (node (forest p) n)) (mapped-in p mark n l)
 
     marks-mem : (n : ℕ) × (n < length (forest p)) × (greatest (nodeMarks p) ≡ mark (node (forest p) n))
-    unfolding nodeMarks node
-    marks-mem =
-        let x = map-mem mark (forest p) (greatest (map mark (forest p))) (greatest-mem (map mark (forest p)) (omega (arith, forest-some p lawful, length-map (forest p) mark))) in
-        let n = mem-at (forest p) (record { mask = 0; parent = 0; level = 0; accepted = false }) (x .0) (x .1) in
-        (n .0, n .1, x .2 ∙ sym (ap mark (n .2)))
+    unfolding nodeMarks
+    marks-mem = mapped-from p mark (greatest (map mark (forest p))) (greatest-mem (map mark (forest p)) (omega (arith, forest-some p lawful, length-map (forest p) mark)))
 
     greatest-mark : eqb (greatest (nodeMarks p) % 2) 1 ≡ fromZero p
     greatest-mark = go (test (fromZero p))
       where
         rejects : fromZero p ≡ false → (n : ℕ) → n < length (forest p) → greatest (nodeMarks p) ≡ mark (node (forest p) n) → (node (forest p) n .accepted ≡ true) ⊎ (node (forest p) n .accepted ≡ false) → greatest (nodeMarks p) % 2 ≡ 0
         rejects f n l e (inl a) =
-            let h = highest-rejects p lawful f in
+            let h = bottom-rejects p lawful f in
             absurd (omega (arith, e, accepting-mark (node (forest p) n) a, lower p lawful f n l a, marks-le (h .0) (h .1), rejecting-mark (node (forest p) (h .0)) (h .3), h .2))
         rejects f n l e (inr r) = omega (arith, e, rejecting-mark (node (forest p) n) r)
 

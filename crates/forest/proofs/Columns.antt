@@ -1,14 +1,29 @@
 -- The columns of the forest: how long they are, and what stands at each place. Assumes nothing.
 use Prim.Native.Nat.{ℕ, _<_}
-use mathlib.Core.Path.{_≡_}
+use mathlib.Core.Path.{_≡_, sym, ap, _∙_}
 use mathlib.Core.Bool.{false}
+use mathlib.Core.List.{map, List·Memᴰ}
 use lib.ListN.{length, getD, length-map}
+use Rattle.lists.proofs.Lists.{getD-mem, mem-at, map-mem, mem-map}
 use Rattle.tables.proofs.Columns.{map-at}
 use Rattle.policy.specs.declared.Policy.{Policy}
 use Rattle.forest.specs.Forest.{Node, forest, node, priority, nodeMasks, nodeParents, nodePriorities}
 use Rattle.forest.specs.Laws.{maskAt, parentAt}
 
 module _ (p : Policy) where
+  -- a number of each node: that of a node is one of them, and each of them is that of a node
+  pub mapped-in : (f : Node → ℕ) (n : ℕ) → n < length (forest p) → List·Memᴰ (f (node (forest p) n)) (map f (forest p))
+  unfolding node
+  mapped-in f n l = mem-map f (forest p) (node (forest p) n) (getD-mem (forest p) n (record { mask = 0; parent = 0; level = 0; accepted = false }) l)
+
+  pub mapped-from : (f : Node → ℕ) (k : ℕ) → List·Memᴰ k (map f (forest p)) → (n : ℕ) × (n < length (forest p)) × (k ≡ f (node (forest p) n))
+  unfolding node
+  mapped-from f k m =
+      let x = map-mem f (forest p) k m in
+      let n = mem-at (forest p) (record { mask = 0; parent = 0; level = 0; accepted = false }) (x .0) (x .1) in
+      (n .0, n .1, x .2 ∙ sym (ap f (n .2)))
+
+  -- ---- the columns
   pub length-masks : length (nodeMasks p) ≡ length (forest p)
   unfolding nodeMasks
   length-masks = length-map (forest p) (λ (x : Node). x .mask)

@@ -11,7 +11,7 @@ use lib.Dec.{eqb}
 use lib.ListN.{length, length-map, List·getD-eq-default}
 use Rattle.lists.specs.Lists.{any, greatest, lowest}
 use Rattle.lists.proofs.Bools.{test, eqb≡, ≡eqb, and-l, and-r, both}
-use Rattle.lists.proofs.Lists.{any-some, some-any, getD-mem, mem-at, map-mem, mem-map}
+use Rattle.lists.proofs.Lists.{any-some, some-any, getD-mem, mem-at}
 use Rattle.lists.proofs.Extremes.{greatest-le, greatest-mem, lowest-le, lowest-mem}
 use Rattle.policy.specs.declared.Policy.{Policy}
 use Rattle.policy.specs.Policies.{legal}
@@ -20,6 +20,7 @@ use Rattle.forest.specs.Forest.{Node, mostLevels, forest, greatestLevel,
 use Rattle.forest.specs.Laws.{ForestLaws, parentAt, rootAt}
 use Rattle.forest.specs.Numbering.{AcceptingMost, PriorityBounds, plainPriority, InUse, OneFewer}
 use Rattle.forest.proofs.Chains.{by-parent, chain-top, chain-lt}
+use Rattle.forest.proofs.Columns.{mapped-in, mapped-from}
 use Rattle.forest.proofs.Children.{root-few, child-fewer, ordered-children, ordered-roots}
 use Rattle.forest.proofs.Levels.{most-levels-few}
 use Rattle.forest.proofs.Priorities.{priority-is}
@@ -53,15 +54,19 @@ module _ (p : Policy) (lawful : legal p ≡ true) where
   -- ---- levels
   pub level-le : (n : ℕ) → n < length (forest p) → node (forest p) n .level ≤ greatestLevel p
   unfolding greatestLevel
-  level-le n l = greatest-le (map (λ (x : Node). x .level) (forest p)) (node (forest p) n .level) (mem-map (λ (x : Node). x .level) (forest p) (node (forest p) n) (member n l))
+  level-le n l = greatest-le (map (λ (x : Node). x .level) (forest p)) (node (forest p) n .level) (mapped-in p (λ (x : Node). x .level) n l)
 
-  highest : (n : ℕ) × (n < length (forest p)) × (node (forest p) n .level ≡ greatestLevel p)
+  -- a node of the greatest level
+  bottom : (n : ℕ) × (n < length (forest p)) × (node (forest p) n .level ≡ greatestLevel p)
   unfolding greatestLevel
-  highest =
+  bottom =
       let levels = map (λ (x : Node). x .level) (forest p) in
-      let x = map-mem (λ (x : Node). x .level) (forest p) (greatest levels) (greatest-mem levels (omega (arith, forest-some, length-map (forest p) (λ (x : Node). x .level)))) in
-      let n = numbered-as (x .0) (x .1) in
-      (n .0, n .1, ap (λ (x : Node). x .level) (n .2) ∙ sym (x .2))
+      let n = mapped-from p (λ (x : Node). x .level) (greatest levels) (greatest-mem levels (omega (arith, forest-some, length-map (forest p) (λ (x : Node). x .level)))) in
+      (n .0, n .1, sym (n .2))
+
+  -- one whose root has the verdict a
+  abbrev pub Bottom : Bool → Type 0
+  Bottom a = (n : ℕ) × (n < length (forest p)) × (node (forest p) n .level ≡ greatestLevel p) × (node (forest p) n .accepted ≡ a)
 
   -- each level above a node has a node of its tree
   above : (n : ℕ) → n < length (forest p) → (k : ℕ) → k ≤ node (forest p) n .level
@@ -86,25 +91,25 @@ module _ (p : Policy) (lawful : legal p ≡ true) where
 
   -- ---- where priorities begin
   -- at 0 exactly if some node of the greatest level has an accepting root
-  begin : (fromZero p ≡ true) ↔ ((n : ℕ) × (n < length (forest p)) × (node (forest p) n .level ≡ greatestLevel p) × (node (forest p) n .accepted ≡ true))
+  begin : (fromZero p ≡ true) ↔ Bottom true
   unfolding fromZero
   begin = (to, back)
     where
       deep : Node → Bool
       deep x = eqb (x .level) (greatestLevel p)
 
-      to : any (λ (x : Node). eqb (x .level) (greatestLevel p) && x .accepted) (forest p) ≡ true → (n : ℕ) × (n < length (forest p)) × (node (forest p) n .level ≡ greatestLevel p) × (node (forest p) n .accepted ≡ true)
+      to : any (λ (x : Node). deep x && x .accepted) (forest p) ≡ true → Bottom true
       to t =
           let x = any-some (λ (x : Node). deep x && x .accepted) (forest p) t in
           let n = numbered-as (x .0) (x .1) in
           (n .0, n .1, ap (λ (x : Node). x .level) (n .2) ∙ eqb≡ (x .0 .level) (greatestLevel p) (and-l (deep (x .0)) (x .0 .accepted) (x .2)), ap (λ (x : Node). x .accepted) (n .2) ∙ and-r (deep (x .0)) (x .0 .accepted) (x .2))
 
-      back : (n : ℕ) × (n < length (forest p)) × (node (forest p) n .level ≡ greatestLevel p) × (node (forest p) n .accepted ≡ true) → any (λ (x : Node). eqb (x .level) (greatestLevel p) && x .accepted) (forest p) ≡ true
+      back : Bottom true → any (λ (x : Node). deep x && x .accepted) (forest p) ≡ true
       back d =
           let x = node (forest p) (d .0) in
           some-any (λ (x : Node). deep x && x .accepted) (forest p) x (member (d .0) (d .1)) (both (deep x) (x .accepted) (≡eqb (x .level) (greatestLevel p) (d .2)) (d .3))
 
-  pub from-zero : fromZero p ≡ true → (n : ℕ) × (n < length (forest p)) × (node (forest p) n .level ≡ greatestLevel p) × (node (forest p) n .accepted ≡ true)
+  pub from-zero : fromZero p ≡ true → Bottom true
   from-zero = begin .0
 
   zero-from : (n : ℕ) → n < length (forest p) → node (forest p) n .level ≡ greatestLevel p → node (forest p) n .accepted ≡ true → fromZero p ≡ true
@@ -118,9 +123,9 @@ module _ (p : Policy) (lawful : legal p ≡ true) where
       go (yes e) = absurd (true≢false (sym (zero-from n l e a) ∙ f))
       go (no u) = omega (arith, level-le n l, u)
 
-  -- and one that has the most is rejecting
-  pub highest-rejects : fromZero p ≡ false → (n : ℕ) × (n < length (forest p)) × (node (forest p) n .level ≡ greatestLevel p) × (node (forest p) n .accepted ≡ false)
-  highest-rejects f = let n = highest in (n .0, n .1, n .2, go (n .0) (n .1) (n .2) (test (node (forest p) (n .0) .accepted)))
+  -- and a tree that has the most is rejecting
+  pub bottom-rejects : fromZero p ≡ false → Bottom false
+  bottom-rejects f = let n = bottom in (n .0, n .1, n .2, go (n .0) (n .1) (n .2) (test (node (forest p) (n .0) .accepted)))
     where
       go : (n : ℕ) → n < length (forest p) → node (forest p) n .level ≡ greatestLevel p → (node (forest p) n .accepted ≡ true) ⊎ (node (forest p) n .accepted ≡ false) → node (forest p) n .accepted ≡ false
       go n l e (inl a) = absurd (true≢false (sym (zero-from n l e a) ∙ f))
@@ -136,14 +141,11 @@ module _ (p : Policy) (lawful : legal p ≡ true) where
 
   transient-le : (n : ℕ) → n < length (forest p) → transientPriority p ≤ priority p (node (forest p) n)
   unfolding transientPriority
-  transient-le n l = lowest-le (map (priority p) (forest p)) (priority p (node (forest p) n)) (mem-map (priority p) (forest p) (node (forest p) n) (member n l))
+  transient-le n l = lowest-le (map (priority p) (forest p)) (priority p (node (forest p) n)) (mapped-in p (priority p) n l)
 
   transient-node : (n : ℕ) × (n < length (forest p)) × (transientPriority p ≡ priority p (node (forest p) n))
   unfolding transientPriority
-  transient-node =
-      let x = map-mem (priority p) (forest p) (lowest (map (priority p) (forest p))) (lowest-mem (map (priority p) (forest p)) (omega (arith, forest-some, length-map (forest p) (priority p)))) in
-      let n = numbered-as (x .0) (x .1) in
-      (n .0, n .1, x .2 ∙ sym (ap (priority p) (n .2)))
+  transient-node = mapped-from p (priority p) (lowest (map (priority p) (forest p))) (lowest-mem (map (priority p) (forest p)) (omega (arith, forest-some, length-map (forest p) (priority p))))
 
   -- where they begin at 1, each is at least 1
   one-le : fromZero p ≡ false → (n : ℕ) → 1 ≤ priority p (node (forest p) n)
@@ -163,7 +165,7 @@ module _ (p : Policy) (lawful : legal p ≡ true) where
           let r = above (n .0) (n .1) 0 (omega arith) in
           rw t (omega (arith, transient-le (r .0) (r .1), priority-by (r .0) true true (r .3 ∙ n .3) t, r .2))
       go (inr f) =
-          let n = highest-rejects f in
+          let n = bottom-rejects f in
           let r = above (n .0) (n .1) 0 (omega arith) in
           let m = transient-node in
           rw f (omega (arith, transient-le (r .0) (r .1), rejecting-priority (r .0) (r .3 ∙ n .3), r .2, m .2, one-le f (m .0)))
@@ -178,7 +180,7 @@ module _ (p : Policy) (lawful : legal p ≡ true) where
       go (inr r) z = omega (arith, rejecting-priority n r, level-le n l)
 
   levels-few : greatestLevel p + 1 ≤ mostLevels p
-  levels-few = let n = highest in omega (arith, n .2, laws .levels (n .0) (n .1))
+  levels-few = let n = bottom in omega (arith, n .2, laws .levels (n .0) (n .1))
 
   pub transient-bounds : PriorityBounds p (transientPriority p)
   transient-bounds = let n = transient-node in record { lowest = omega arith; most = omega (arith, n .2, priority-most (n .0) (n .1), levels-few) }
@@ -223,7 +225,7 @@ module _ (p : Policy) (lawful : legal p ≡ true) where
   -- the rejecting tree with the most levels has every priority from 1 on, in either numbering
   in-rejecting : fromZero p ≡ false → (k : ℕ) → 1 ≤ k → k ≤ greatestLevel p + 1 → InUse (forest p) (priority p) k × InUse (forest p) plainPriority k
   in-rejecting f k h l =
-      let n = highest-rejects f in
+      let n = bottom-rejects f in
       let m = above (n .0) (n .1) (k - 1) (omega (arith, n .2)) in
       ((m .0, m .1, omega (arith, rejecting-priority (m .0) (m .3 ∙ n .3), m .2)), (m .0, m .1, omega (arith, plain-by (m .0) false (m .3 ∙ n .3), m .2)))
 
@@ -265,13 +267,13 @@ module _ (p : Policy) (lawful : legal p ≡ true) where
             root-lt = chain-lt (forest p) (laws .parent-lt) (laws .level-up) (n .0) (r .0) (n .1) (r .1);
             is-root = r .2;
             accepts = sym (laws .rooted (n .0) (r .0) (n .1) (r .1) (r .2)) ∙ n .3;
-            deepest = n .0;
-            deepest-lt = n .1;
+            bottom = n .0;
+            bottom-lt = n .1;
             in-tree = r .1;
             most = λ m l. omega (arith, level-le m l, n .2);
           }
 
       back : AcceptingMost p (forest p) → fromZero p ≡ true
       back d =
-          let h = highest in
-          zero-from (d .deepest) (d .deepest-lt) (omega (arith, level-le (d .deepest) (d .deepest-lt), d .most (h .0) (h .1), h .2)) (laws .rooted (d .deepest) (d .root) (d .deepest-lt) (d .in-tree) (d .is-root) ∙ d .accepts)
+          let h = bottom in
+          zero-from (d .bottom) (d .bottom-lt) (omega (arith, level-le (d .bottom) (d .bottom-lt), d .most (h .0) (h .1), h .2)) (laws .rooted (d .bottom) (d .root) (d .bottom-lt) (d .in-tree) (d .is-root) ∙ d .accepts)

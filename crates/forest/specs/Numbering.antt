@@ -10,16 +10,16 @@ use Rattle.policy.specs.Policies.{accepting}
 use Rattle.forest.specs.Forest.{Node, mostLevels, forest, greatestLevel, priority, transientPriority, node, chain}
 use Rattle.forest.specs.Laws.{maskAt, rootAt}
 
--- some tree with the most levels has an accepting root: the tree's root, and a node of the tree with no other node below its level
+-- some tree with the most levels has an accepting root: the tree's root, and a node of the tree that has the greatest level of all
 pub record AcceptingMost (p : Policy) (ns : List Node) : Type 0 where
   pub root : ℕ
   pub root-lt : root < length ns
   pub is-root : rootAt ns root ≡ true
   pub accepts : accepting p (maskAt ns root) ≡ true
-  pub deepest : ℕ
-  pub deepest-lt : deepest < length ns
-  pub in-tree : List·Memᴰ root (chain ns deepest)
-  pub most : (n : ℕ) → n < length ns → node ns n .level ≤ node ns deepest .level
+  pub bottom : ℕ
+  pub bottom-lt : bottom < length ns
+  pub in-tree : List·Memᴰ root (chain ns bottom)
+  pub most : (n : ℕ) → n < length ns → node ns n .level ≤ node ns bottom .level
 
 -- where a priority lies: from the lowest of all, which is 0 or 1, up to the most levels that a tree can have, the number of colours
 pub record PriorityBounds (p : Policy) (k : ℕ) : Type 0 where
@@ -31,7 +31,7 @@ pub record PriorityBounds (p : Policy) (k : ℕ) : Type 0 where
 unfoldable pub plainPriority : Node → ℕ
 plainPriority x = x .level + cond (x .accepted) 0 1
 
--- the node table ns has the priority k under the numbering f
+-- some node has the priority k under the numbering f
 abbrev pub InUse : List Node → (Node → ℕ) → ℕ → Type 0
 InUse ns f k = (n : ℕ) × (n < length ns) × (f (node ns n) ≡ k)
 
