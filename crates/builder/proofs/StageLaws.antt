@@ -12,7 +12,7 @@ use Rattle.tables.proofs.Columns.{column-padded}
 use Rattle.policy.specs.declared.Policy.{Policy}
 use Rattle.decomposition.specs.declared.Filled as node-filled
 use Rattle.decomposition.specs.declared.Filled.the-variants as node-variants
-use Rattle.forest.specs.Forest.{forest, nodeMasks, nodeParents, nodePriorities, forestFits}
+use Rattle.forest.specs.Forest.{forest, transientPriority, nodeMasks, nodeParents, nodePriorities, forestFits}
 use Rattle.decomposition.specs.NodeTables.{NodeTables, nodeTables, fillingOf, filledOf}
 use Rattle.automaton.specs.Automaton.{built, start, builtFit}
 use Rattle.automaton.specs.Stages.{Nodes}
@@ -35,12 +35,16 @@ startIn (Whole n a) = a
 startIn TooMany = 0
 
 abbrev areNodes : node-filled.Filled → Bool
-areNodes (node-variants.Nodes n) = true
+areNodes (node-variants.Nodes n k) = true
 areNodes node-variants.TooMany = false
 
 abbrev nodesOf : node-filled.Filled → ℕ
-nodesOf (node-variants.Nodes n) = n
+nodesOf (node-variants.Nodes n k) = n
 nodesOf node-variants.TooMany = 0
+
+abbrev lowestIn : node-filled.Filled → ℕ
+lowestIn (node-variants.Nodes n k) = k
+lowestIn node-variants.TooMany = 0
 
 pub fits-few : (p : Policy) (s₀ : List ℕ) → builtFit p s₀ ≡ true → length (built p) ≤ 65535
 unfolding builtFit places
@@ -69,20 +73,20 @@ module _ (p : Policy) (s₀ : List ℕ) {r : Building} (e : r ≡ buildingOf p s
       go (inr f) = f
 
 module _ (p : Policy) (m₀ q₀ r₀ : List ℕ) {r : node-filled.Filled} (e : r ≡ fillingOf p (nodeTables m₀ q₀ r₀)) where
-  pub nodes-fits : {n : ℕ} → r ≡ node-variants.Nodes n → (forestFits p m₀ ≡ true) × (n ≡ length (forest p))
+  pub nodes-fits : {n k : ℕ} → r ≡ node-variants.Nodes n k → (forestFits p m₀ ≡ true) × (n ≡ length (forest p)) × (k ≡ transientPriority p)
   unfolding fillingOf
-  nodes-fits {n} d = go (test (forestFits p m₀))
+  nodes-fits {n} {k} d = go (test (forestFits p m₀))
     where
-      go : (forestFits p m₀ ≡ true) ⊎ (forestFits p m₀ ≡ false) → (forestFits p m₀ ≡ true) × (n ≡ length (forest p))
-      go (inl t) = let q : node-variants.Nodes n ≡ node-variants.Nodes (length (forest p)) = sym d ∙ e ∙ rw t refl in (t, ap nodesOf q)
-      go (inr f) = let q : node-variants.Nodes n ≡ node-variants.TooMany = sym d ∙ e ∙ rw f refl in absurd (true≢false (ap areNodes q))
+      go : (forestFits p m₀ ≡ true) ⊎ (forestFits p m₀ ≡ false) → (forestFits p m₀ ≡ true) × (n ≡ length (forest p)) × (k ≡ transientPriority p)
+      go (inl t) = let q : node-variants.Nodes n k ≡ node-variants.Nodes (length (forest p)) (transientPriority p) = sym d ∙ e ∙ rw t refl in (t, ap nodesOf q, ap lowestIn q)
+      go (inr f) = let q : node-variants.Nodes n k ≡ node-variants.TooMany = sym d ∙ e ∙ rw f refl in absurd (true≢false (ap areNodes q))
 
   pub nodes-none : r ≡ node-variants.TooMany → forestFits p m₀ ≡ false
   unfolding fillingOf
   nodes-none d = go (test (forestFits p m₀))
     where
       go : (forestFits p m₀ ≡ true) ⊎ (forestFits p m₀ ≡ false) → forestFits p m₀ ≡ false
-      go (inl t) = let q : node-variants.Nodes (length (forest p)) ≡ node-variants.TooMany = sym (sym d ∙ e ∙ rw t refl) in absurd (true≢false (ap areNodes q))
+      go (inl t) = let q : node-variants.Nodes (length (forest p)) (transientPriority p) ≡ node-variants.TooMany = sym (sym d ∙ e ∙ rw t refl) in absurd (true≢false (ap areNodes q))
       go (inr f) = f
 
 -- ---- the node tables

@@ -116,7 +116,7 @@ pub fn translate_legal<'a>(
     ) {
         return Translation::Refused(8);
     }
-    let Filled::Nodes(nodes) = decomposition::fill_nodes(
+    let Filled::Nodes(nodes, transient) = decomposition::fill_nodes(
         p,
         heads,
         colours,
@@ -136,6 +136,7 @@ pub fn translate_legal<'a>(
         masks,
         parents,
         node_priorities,
+        transient,
         nodes,
         sources,
         leaves,

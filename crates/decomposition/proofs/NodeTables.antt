@@ -2,7 +2,7 @@
 -- Assumes nothing.
 use Prim.Native.Nat.{ℕ, _≤_, _<_, min}
 use native.Mathlib.Omega.{arith}
-use mathlib.Core.Path.{_≡_, refl, sym, ap, _∙_}
+use mathlib.Core.Path.{_≡_, refl, sym, ap, ap₂, _∙_}
 use mathlib.Core.Bool.{Bool, cond}
 use mathlib.Core.List.{List}
 use lib.ListN.{length, getD}
@@ -12,11 +12,11 @@ use Rattle.tables.specs.Tables.{padded, zeros, places}
 use Rattle.tables.proofs.Tables.{zeros-same, length-zeros, length-padded, getD-padded}
 use Rattle.tables.proofs.Stores.{sets-padded}
 use Rattle.policy.specs.declared.Policy.{Policy}
-use Rattle.forest.specs.Forest.{forest, nodeMasks, nodeParents, nodePriorities, forestFits}
+use Rattle.forest.specs.Forest.{forest, transientPriority, nodeMasks, nodeParents, nodePriorities, forestFits}
 use Rattle.forest.proofs.Columns.{length-masks, length-parents}
 use Rattle.trees.specs.Growing.{ForestWritten}
 use Rattle.decomposition.specs.declared.Filled.the-variants.{Nodes, TooMany}
-use Rattle.decomposition.specs.NodeTables.{NodeColumns, nodeTables, fillingOf, refusalOf, countAfter, filledOf, Fills}
+use Rattle.decomposition.specs.NodeTables.{NodeColumns, nodeTables, fillingOf, refusalOf, countAfter, lowestAfter, filledOf, Fills}
 
 -- ---- masks and parents as they are grown
 -- a table just cleared is its own zeros
@@ -73,19 +73,19 @@ module _ {p : Policy} (m₀ q₀ r₀ : List ℕ) {m₁ q₁ r₁ m q : List ℕ
     pub grown-room : (n ≤ length r₁) × (r₁ ≡ zeros r₁)
     grown-room = (omega (arith, long-masks, ap length (z .2), length-zeros r₀), clear r₀ r₁ (z .2))
 
-    pub filled-whole : {r : List ℕ} → r ≡ padded (length r₁) (nodePriorities p) → Fills p (nodeTables m₀ q₀ r₀) (Nodes n) (nodeTables m q r)
-    unfolding fillingOf refusalOf countAfter filledOf forestFits places
-    filled-whole {r} er =
+    pub filled-whole : {r : List ℕ} {k : ℕ} → k ≡ transientPriority p → r ≡ padded (length r₁) (nodePriorities p) → Fills p (nodeTables m₀ q₀ r₀) (Nodes n k) (nodeTables m q r)
+    unfolding fillingOf refusalOf countAfter lowestAfter filledOf forestFits places
+    filled-whole {r} {k} ek er =
         let b = le-leb (length (forest p)) (min (length m₀) 65535) (omega (arith, fits, long-masks)) in
         let e = er ∙ ap (λ (k : ℕ). padded k (nodePriorities p)) (ap length (z .2) ∙ length-zeros r₀) in
-        record { answer-is = rw b (ap (λ (k : ℕ). Nodes k) all-nodes); number-is = rw b refl; count-is = rw b all-nodes; tables-are = rw b (λ i. nodeTables (grown-masks i) (grown-parents i) (e i)) }
+        record { answer-is = rw b (ap₂ Nodes all-nodes ek); number-is = rw b refl; count-is = rw b all-nodes; lowest-is = rw b ek; tables-are = rw b (λ i. nodeTables (grown-masks i) (grown-parents i) (e i)) }
 
   -- there are more nodes than places
   pub filled-none : min (length m₁) 65535 < n → Fills p (nodeTables m₀ q₀ r₀) TooMany (nodeTables m q r₁)
-  unfolding fillingOf refusalOf countAfter filledOf forestFits places
+  unfolding fillingOf refusalOf countAfter lowestAfter filledOf forestFits places
   filled-none h =
       let many : min (length m₁) 65535 < length (forest p) = omega (arith, g .count-is) in
       let b = lt-leb (length (forest p)) (min (length m₀) 65535) (omega (arith, many, long-masks)) in
       let em = g .masks-are ∙ ap (λ (b : Bool). cond b (sets m₁ 0 (nodeMasks p)) (zeros m₁)) (lt-leb (length (forest p)) (min (length m₁) 65535) many) ∙ zeros-same m₁ m₀ long-masks in
       let eq = g .parents-are ∙ ap (λ (b : Bool). cond b (sets q₁ 0 (nodeParents p)) (zeros q₁)) (lt-leb (length (forest p)) (min (length m₁) 65535) many) ∙ zeros-same q₁ q₀ long-parents in
-      record { answer-is = rw b refl; number-is = rw b refl; count-is = rw b refl; tables-are = rw b (λ i. nodeTables (em i) (eq i) (z .2 i)) }
+      record { answer-is = rw b refl; number-is = rw b refl; count-is = rw b refl; lowest-is = rw b refl; tables-are = rw b (λ i. nodeTables (em i) (eq i) (z .2 i)) }

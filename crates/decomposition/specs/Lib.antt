@@ -1,2 +1,2 @@
 pub mod NodeTables
-pub mod Marks
+pub mod FromZero

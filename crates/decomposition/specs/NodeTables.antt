@@ -7,7 +7,7 @@ use lib.ListN.{length}
 use Rattle.lists.specs.Questions.{ask}
 use Rattle.tables.specs.Tables.{padded, zeros, Column}
 use Rattle.policy.specs.declared.Policy.{Policy}
-use Rattle.forest.specs.Forest.{forest, forestFits, nodeMasks, nodeParents, nodePriorities}
+use Rattle.forest.specs.Forest.{forest, transientPriority, forestFits, nodeMasks, nodeParents, nodePriorities}
 use Rattle.decomposition.specs.declared.Filled.{Filled}
 use Rattle.decomposition.specs.declared.Filled.the-variants.{Nodes, TooMany}
 
@@ -29,24 +29,32 @@ pub record NodeColumns (p : Policy) (masks parents : List ℕ) (n : ℕ) : Type 
 -- ---- document 01's number and value for each answer
 -- the number of the refusal; 0 where the nodes fit
 abbrev pub numberOf : Filled → ℕ
-numberOf (Nodes n) = 0
+numberOf (Nodes n k) = 0
 numberOf TooMany = 9
 
 -- how many nodes there are; 0 after a refusal
 abbrev pub countOf : Filled → ℕ
-countOf (Nodes n) = n
+countOf (Nodes n k) = n
 countOf TooMany = 0
 
+-- the lowest priority of a node; 0 after a refusal
+abbrev pub lowestOf : Filled → ℕ
+lowestOf (Nodes n k) = k
+lowestOf TooMany = 0
+
 module _ (p : Policy) (t : NodeTables) where
-  -- how many nodes there are
+  -- how many nodes there are, and the lowest priority of them
   unfoldable pub fillingOf : Filled
-  fillingOf = cond (forestFits p (t .masks)) (Nodes (length (forest p))) TooMany
+  fillingOf = cond (forestFits p (t .masks)) (Nodes (length (forest p)) (transientPriority p)) TooMany
 
   unfoldable pub refusalOf : ℕ
   refusalOf = ask (forestFits p (t .masks)) 9 0
 
   unfoldable pub countAfter : ℕ
   countAfter = cond (forestFits p (t .masks)) (length (forest p)) 0
+
+  unfoldable pub lowestAfter : ℕ
+  lowestAfter = cond (forestFits p (t .masks)) (transientPriority p) 0
 
   -- the tables at exit: the columns of the forest where the nodes fit, and otherwise 0 in every place
   unfoldable pub filledOf : NodeTables
@@ -59,4 +67,5 @@ pub record Fills (p : Policy) (entry : NodeTables) (answer : Filled) (exit : Nod
   pub answer-is : answer ≡ fillingOf p entry
   pub number-is : numberOf answer ≡ refusalOf p entry
   pub count-is : countOf answer ≡ countAfter p entry
+  pub lowest-is : lowestOf answer ≡ lowestAfter p entry
   pub tables-are : exit ≡ filledOf p entry

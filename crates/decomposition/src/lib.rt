@@ -1,77 +1,112 @@
 // The alternating cycle decomposition of a policy: the node tables, with the nodes of the forest, tree by tree, and their priorities.
 // Beside a policy stand its arrays, lent: `heads` are the targets of its edges, `colours` their colours; `by` has the edges of each colour.
 ghost use mathlib.Core.Path.{_≡_};
-ghost use mathlib.Core.Bool.{true, cond};
-ghost use Prim.Native.Nat.{_≤_};
-ghost use mathlib.Core.List.{map};
-ghost use lib.ListN.{length, take};
-ghost use lib.Seq.{sets};
+ghost use mathlib.Core.Bool.{true, false, cond};
+ghost use Prim.Native.Nat.{_≤_, max};
+ghost use lib.ListN.{length};
 ghost use Rattle.policy.specs.Policies.{accepting, legal};
 ghost use Rattle.policy.specs.ByColour.{byColour};
-ghost use Rattle.tables.specs.Tables.{zeros, padded};
-ghost use Rattle.forest.specs.Forest.{nodePriorities};
-ghost use Rattle.decomposition.specs.Marks.{nodeMarks, settled};
+ghost use Rattle.lists.specs.Lists.{greatest};
+ghost use Rattle.tables.specs.Tables.{zeros, padded, Column};
+ghost use Rattle.forest.specs.Forest.{forest, fromZero, transientPriority, nodeParents, nodePriorities};
+ghost use Rattle.decomposition.specs.FromZero.{nodeHeights, plainPriorities, someAccepting};
 ghost use Rattle.decomposition.specs.NodeTables.{NodeColumns, nodeTables, Fills};
 use policy::Policy;
 
-// What filling the node tables answers: how many nodes there are, or that they do not fit.
+// What filling the node tables answers: how many nodes there are, and the lowest priority of them, which an edge in no cycle has; or that they do not fit.
 pub enum Filled {
-    Nodes(usize),
+    Nodes(usize, u8),
     TooMany,
 }
 
-// The mark of a root goes by its verdict.
-fn root_mark(p: Policy, by: &[u64; 8], family: &[bool; 256], m: u64) -> u8
+// The priority of a root goes by its verdict, where priorities begin at 0.
+fn root_priority(p: Policy, by: &[u64; 8], family: &[bool; 256], m: u64) -> u8
     requires lawful { ⌜ legal p ≡ true ⌝ }
     requires lent { ⌜ (now by ≡ byColour p) × (now family ≡ p .family) ⌝ }
-    ensures { λ r. ⌜ r ≡ cond (accepting p m) 1 0 ⌝ }
+    ensures { λ r. ⌜ r ≡ cond (accepting p m) 0 1 ⌝ }
 {
     if policy::accepts(p, by, family, m) {
-        return 1;
+        return 0;
     }
-    0
+    1
 }
 
-// The marks of all nodes, in a table that is cleared: a child's is two more than its parent's.
-fn write_marks(
+fn greater(a: u8, b: u8) -> u8
+    ensures { λ r. ⌜ r ≡ max a b ⌝ }
+{
+    if a < b {
+        return b;
+    }
+    a
+}
+
+// The greatest height of a node, and whether some root is accepting.
+struct Heights {
+    most: u8,
+    accepting: bool,
+}
+
+// The priorities of all nodes as if they began at 0, in a table that is cleared: a child's is one more than its parent's. Of the tree at hand, `top` is the greatest
+// so far, and twice a priority and `lift` make a height; `most` is the greatest height of the trees before it.
+fn number_from_zero(
     p: Policy,
     by: &[u64; 8],
     family: &[bool; 256],
     masks: &[u64],
     parents: &[u16],
-    marks: &mut [u8],
+    node_priorities: &mut [u8],
     count: usize,
-)
+) -> Heights
     requires lawful { ⌜ legal p ≡ true ⌝ }
     requires lent { ⌜ (now by ≡ byColour p) × (now family ≡ p .family) ⌝ }
     requires nodes { ⌜ NodeColumns p (now masks) (now parents) count ⌝ }
-    requires cleared { ⌜ (count ≤ length (now marks)) × (now marks ≡ zeros (now marks)) ⌝ }
-    ensures { λ _. ⌜ now (marks .exit) ≡ padded (length (now (marks .entry))) (nodeMarks p) ⌝ }
+    requires cleared { ⌜ (count ≤ length (now «node_priorities»)) × (now «node_priorities» ≡ zeros (now «node_priorities»)) ⌝ }
+    ensures heights { λ r. ⌜ (r .most ≡ greatest (nodeHeights p)) × (r .accepting ≡ someAccepting p) ⌝ }
+    ensures table { λ _. ⌜ now («node_priorities» .exit) ≡ padded (length (now («node_priorities» .entry))) (plainPriorities p) ⌝ }
 {
+    let mut most: u8 = 0;
+    let mut accepting = false;
+    let mut top: u8 = 0;
+    let mut lift: u8 = 0;
     for n in 0..count {
         let parent = parents[n];
+        let mut priority: u8 = 0;
         if parent == 65535 {
-            marks[n] = root_mark(p, by, family, masks[n]);
+            most = greater(most, 2 * top + lift);
+            priority = root_priority(p, by, family, masks[n]);
+            accepting = accepting | (priority == 0);
+            top = priority;
+            lift = 3 - 3 * priority;
         } else {
-            let q = parent as usize;
-            marks[n] = marks[q] + 2;
+            priority = node_priorities[parent as usize] + 1;
+            top = greater(top, priority);
         }
+        node_priorities[n] = priority;
+    }
+    Heights {
+        most: greater(most, 2 * top + lift),
+        accepting: accepting,
     }
 }
 
-// The first `count` marks give way to priorities; accepting roots have `first`.
-fn settle(marks: &mut [u8], count: usize, first: u8)
-    requires { ⌜ (count ≤ length (now marks)) × (first ≤ 2) ⌝ }
-    ensures { λ _. ⌜ now (marks .exit) ≡ sets (now (marks .entry)) 0 (map (settled first) (take count (now (marks .entry)))) ⌝ }
+// Two more for each node of a tree whose root has 0, where priorities begin at 1.
+fn raise(p: Policy, parents: &[u16], node_priorities: &mut [u8], count: usize)
+    requires lawful { ⌜ (legal p ≡ true) × (fromZero p ≡ false) ⌝ }
+    requires nodes { ⌜ (count ≡ length (forest p)) × (count ≤ 65535) × Column (nodeParents p) (now parents) ⌝ }
+    requires table { ⌜ (count ≤ length (now «node_priorities»)) × (now «node_priorities» ≡ padded (length (now «node_priorities»)) (plainPriorities p)) ⌝ }
+    ensures { λ _. ⌜ now («node_priorities» .exit) ≡ padded (length (now («node_priorities» .entry))) (nodePriorities p) ⌝ }
 {
+    let mut more: u8 = 0;
     for n in 0..count {
-        let mark = marks[n];
-        let root = if mark % 2 == 1 { first } else { 1 };
-        marks[n] = mark / 2 + root;
+        let priority = node_priorities[n];
+        if parents[n] == 65535 {
+            more = if priority == 0 { 2 } else { 0 };
+        }
+        node_priorities[n] = priority + more;
     }
 }
 
-// The priorities of all nodes, in a table that is cleared: first their marks, which show where priorities begin.
+// The priorities of all nodes, in a table that is cleared. Given back: the lowest of them.
 fn write_priorities(
     p: Policy,
     by: &[u64; 8],
@@ -80,17 +115,23 @@ fn write_priorities(
     parents: &[u16],
     node_priorities: &mut [u8],
     count: usize,
-)
+) -> u8
     requires lawful { ⌜ legal p ≡ true ⌝ }
     requires lent { ⌜ (now by ≡ byColour p) × (now family ≡ p .family) ⌝ }
     requires nodes { ⌜ NodeColumns p (now masks) (now parents) count ⌝ }
     requires cleared { ⌜ (count ≤ length (now «node_priorities»)) × (now «node_priorities» ≡ zeros (now «node_priorities»)) ⌝ }
-    ensures { λ _. ⌜ now («node_priorities» .exit) ≡ padded (length (now («node_priorities» .entry))) (nodePriorities p) ⌝ }
+    ensures lowest { λ r. ⌜ r ≡ transientPriority p ⌝ }
+    ensures table { λ _. ⌜ now («node_priorities» .exit) ≡ padded (length (now («node_priorities» .entry))) (nodePriorities p) ⌝ }
 {
-    write_marks(p, by, family, masks, parents, node_priorities, count);
-    let most = tables::greatest8(node_priorities, count);
-    let first = if most % 2 == 1 { 0 } else { 2 };
-    settle(node_priorities, count, first);
+    let found = number_from_zero(p, by, family, masks, parents, node_priorities, count);
+    if found.most % 2 == 1 {
+        return 0;
+    }
+    if !found.accepting {
+        return 1;
+    }
+    raise(p, parents, node_priorities, count);
+    1
 }
 
 // 0 in every place.
@@ -122,6 +163,6 @@ pub fn fill_nodes<'a>(
     if tables::places(masks.len()) < count {
         return Filled::TooMany;
     }
-    write_priorities(p, &by, family, masks, parents, node_priorities, count);
-    Filled::Nodes(count)
+    let transient = write_priorities(p, &by, family, masks, parents, node_priorities, count);
+    Filled::Nodes(count, transient)
 }

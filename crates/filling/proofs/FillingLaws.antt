@@ -1,26 +1,23 @@
 -- What the stages after the nodes rest on: the tables that one hands to the next, and what they answer and leave. Assumes nothing.
-use Prim.Native.Nat.{ℕ, _*_, _≤_, _<_, min}
+use Prim.Native.Nat.{ℕ, _*_, _≤_, min}
 use native.Mathlib.Omega.{arith}
 use native.Mathlib.Nat.{mul-comm, mul-le-mul-right}
 use mathlib.Core.Path.{_≡_, refl, sym, ap, ap₂, _∙_, subst}
 use mathlib.Core.Bool.{Bool, true, false}
 use mathlib.Core.List.{List, [], _∷_}
-use lib.ListN.{length, take}
+use lib.ListN.{length}
 use lib.Seq.{sets}
-use Rattle.lists.specs.Lists.{lowest}
 use Rattle.lists.proofs.Bools.{le-true}
 use Rattle.tables.specs.Tables.{padded, zeros, Column, places}
 use Rattle.tables.proofs.Tables.{zeros-same, length-zeros}
-use Rattle.tables.proofs.Columns.{column-padded, column-take, column-sets}
+use Rattle.tables.proofs.Columns.{column-padded, column-sets}
 use Rattle.policy.specs.declared.Policy.{Policy}
 use Rattle.policy.specs.Policies.{legal}
 use Rattle.policy.proofs.Laws.{legal-counts}
-use Rattle.forest.specs.Forest.{forest, transientPriority, nodePriorities}
-use Rattle.forest.proofs.Columns.{length-node-priorities}
-use Rattle.forest.proofs.Numbering.{forest-some}
+use Rattle.forest.specs.Forest.{forest, transientPriority}
 use Rattle.automaton.specs.Automaton.{built, start, rowTargets, rowPriorities, stateLeaves, builtFit}
 use Rattle.automaton.specs.Stages.{nodeEnds, stateStarts, Nodes}
-use Rattle.automaton.proofs.Columns.{node-priorities-long, length-ends, length-leaves, length-starts}
+use Rattle.automaton.proofs.Columns.{length-ends, length-leaves, length-starts}
 use Rattle.states.specs.StateTables.{StatesFilled}
 use Rattle.filling.specs.declared.Building.the-variants.{Whole, TooMany}
 use Rattle.filling.specs.declared.Building.{Building}
@@ -28,23 +25,15 @@ use Rattle.filling.specs.Filling.{Sized, Clear, buildingOf, Builds}
 
 -- ---- equal policies: what is known of one is known of the other
 module _ {p q : Policy} (e : p ≡ q) where
-  pub nodes-same : {m a r : List ℕ} {count : ℕ} → (legal p ≡ true) × Nodes p m a r × (count ≡ length (forest p)) → (legal q ≡ true) × Nodes q m a r × (count ≡ length (forest q))
-  nodes-same {m} {a} {r} {count} n = subst (λ (x : Policy). (legal x ≡ true) × Nodes x m a r × (count ≡ length (forest x))) e n
+  pub nodes-same : {m a r : List ℕ} {count low : ℕ} → (legal p ≡ true) × Nodes p m a r × (count ≡ length (forest p)) × (low ≡ transientPriority p)
+      → (legal q ≡ true) × Nodes q m a r × (count ≡ length (forest q)) × (low ≡ transientPriority q)
+  nodes-same {m} {a} {r} {count} {low} n = subst (λ (x : Policy). (legal x ≡ true) × Nodes x m a r × (count ≡ length (forest x)) × (low ≡ transientPriority x)) e n
 
   pub sized-same : {s l t k : List ℕ} → Sized p s l t k → Sized q s l t k
   sized-same {s} {l} {t} {k} z = subst (λ (x : Policy). Sized x s l t k) e z
 
   pub builds-same : {s₀ l₀ t₀ k₀ s l t k : List ℕ} {r : Building} → Builds p s₀ l₀ t₀ k₀ r s l t k → Builds q s₀ l₀ t₀ k₀ r s l t k
   builds-same {s₀} {l₀} {t₀} {k₀} {s} {l} {t} {k} {r} b = subst (λ (x : Policy). Builds x s₀ l₀ t₀ k₀ r s l t k) e b
-
--- ---- the lowest priority of the nodes
-module _ {p : Policy} {masks parents node-priorities : List ℕ} {count : ℕ} (n : (legal p ≡ true) × Nodes p masks parents node-priorities × (count ≡ length (forest p))) where
-  pub node-some : (0 < count) × (count ≤ length node-priorities)
-  node-some = (omega (arith, forest-some p (n .0), n .2), omega (arith, node-priorities-long p (n .1 .node-priorities-are), n .2))
-
-  pub lowest-transient : {x : ℕ} → x ≡ lowest (take count node-priorities) → x ≡ transientPriority p
-  unfolding transientPriority nodePriorities
-  lowest-transient e = e ∙ ap (λ (k : ℕ). lowest (take k node-priorities)) (n .2 ∙ sym (length-node-priorities p)) ∙ ap lowest (column-take (n .1 .node-priorities-are))
 
 -- ---- the ends
 pub ends-column : (p : Policy) (ends₀ : List ℕ) {ends : List ℕ} {count : ℕ} → count ≡ length (forest p) → count ≤ length ends₀ → ends ≡ sets ends₀ 0 (nodeEnds p) → Column (nodeEnds p) ends

@@ -1,5 +1,5 @@
 // The automaton's tables from the node tables: the ends of the nodes, the built states and their rows. Inner layer: the policy is legal, the node tables are its
-// forest's, and the tables have lengths that belong together. Beside a policy stand its arrays, lent: `heads` are the targets of its edges, `colours` their colours.
+// forest's, `transient` is the lowest priority of a node, and the tables have lengths that belong together. Beside a policy stand its arrays, lent: `heads` are the targets of its edges, `colours` their colours.
 // Where a policy would be copied, its shape and its arrays stand for it, and the contract speaks of the policy that they make.
 // Each stage reads and writes tables of the caller, so the functions have more than eight parameters.
 use policy::Policy;
@@ -12,7 +12,7 @@ ghost use Rattle.tables.specs.Tables.{zeros};
 ghost use Rattle.policy.specs.declared.Policy.{Policy};
 ghost use Rattle.policy.specs.Making.{fromParts};
 ghost use Rattle.policy.specs.Policies.{legal};
-ghost use Rattle.forest.specs.Forest.{forest};
+ghost use Rattle.forest.specs.Forest.{forest, transientPriority};
 ghost use Rattle.automaton.specs.Stages.{Nodes};
 ghost use Rattle.filling.specs.Filling.{Sized, Clear, Builds};
 
@@ -46,6 +46,7 @@ fn fill_built(
     masks: &[u64],
     parents: &[u16],
     node_priorities: &[u8],
+    transient: u8,
     ends: &mut [u16],
     count: usize,
     sources: &mut [u8],
@@ -55,7 +56,7 @@ fn fill_built(
 ) -> Building
     ghost { Policy }
     requires policy { λ p. ⌜ fromParts shape (now heads) (now colours) (now family) ≡ p ⌝ }
-    requires nodes { λ p. ⌜ (legal p ≡ true) × Nodes p (now masks) (now parents) (now «node_priorities») × (count ≡ length (forest p)) ⌝ }
+    requires nodes { λ p. ⌜ (legal p ≡ true) × Nodes p (now masks) (now parents) (now «node_priorities») × (count ≡ length (forest p)) × (transient ≡ transientPriority p) ⌝ }
     requires room { λ p. ⌜ Sized p (now sources) (now leaves) (now targets) (now priorities) × Clear (now sources) (now leaves) (now targets) (now priorities) × (count ≤ length (now ends)) ⌝ }
     ensures { λ p r. ⌜ Builds p (now (sources .entry)) (now (leaves .entry)) (now (targets .entry)) (now (priorities .entry)) r (now (sources .exit)) (now (leaves .exit)) (now (targets .exit)) (now (priorities .exit)) ⌝ }
 {
@@ -72,7 +73,7 @@ fn fill_built(
         masks,
         parents,
         node_priorities,
-        tables::lowest8(node_priorities, count),
+        transient,
         ends,
         leaves,
         &starts,
@@ -92,6 +93,7 @@ fn build_within(
     masks: &[u64],
     parents: &[u16],
     node_priorities: &[u8],
+    transient: u8,
     ends: &mut [u16],
     count: usize,
     sources: &mut [u8],
@@ -101,7 +103,7 @@ fn build_within(
 ) -> Building
     ghost { Policy }
     requires policy { λ p. ⌜ fromParts shape (now heads) (now colours) (now family) ≡ p ⌝ }
-    requires nodes { λ p. ⌜ (legal p ≡ true) × Nodes p (now masks) (now parents) (now «node_priorities») × (count ≡ length (forest p)) ⌝ }
+    requires nodes { λ p. ⌜ (legal p ≡ true) × Nodes p (now masks) (now parents) (now «node_priorities») × (count ≡ length (forest p)) × (transient ≡ transientPriority p) ⌝ }
     requires room { λ p. ⌜ Sized p (now sources) (now leaves) (now targets) (now priorities) × Clear (now sources) (now leaves) (now targets) (now priorities) ⌝ }
     ensures { λ p r. ⌜ Builds p (now (sources .entry)) (now (leaves .entry)) (now (targets .entry)) (now (priorities .entry)) r (now (sources .exit)) (now (leaves .exit)) (now (targets .exit)) (now (priorities .exit)) ⌝ }
 {
@@ -114,6 +116,7 @@ fn build_within(
             masks,
             parents,
             node_priorities,
+            transient,
             ends,
             count,
             sources,
@@ -132,6 +135,7 @@ fn build_within(
             masks,
             parents,
             node_priorities,
+            transient,
             &mut more,
             count,
             sources,
@@ -148,6 +152,7 @@ fn build_within(
         masks,
         parents,
         node_priorities,
+        transient,
         count,
         sources,
         leaves,
@@ -165,6 +170,7 @@ fn build_large(
     masks: &[u64],
     parents: &[u16],
     node_priorities: &[u8],
+    transient: u8,
     count: usize,
     sources: &mut [u8],
     leaves: &mut [u16],
@@ -173,7 +179,7 @@ fn build_large(
 ) -> Building
     ghost { Policy }
     requires policy { λ p. ⌜ fromParts shape (now heads) (now colours) (now family) ≡ p ⌝ }
-    requires nodes { λ p. ⌜ (legal p ≡ true) × Nodes p (now masks) (now parents) (now «node_priorities») × (count ≡ length (forest p)) ⌝ }
+    requires nodes { λ p. ⌜ (legal p ≡ true) × Nodes p (now masks) (now parents) (now «node_priorities») × (count ≡ length (forest p)) × (transient ≡ transientPriority p) ⌝ }
     requires room { λ p. ⌜ Sized p (now sources) (now leaves) (now targets) (now priorities) × Clear (now sources) (now leaves) (now targets) (now priorities) ⌝ }
     ensures { λ p r. ⌜ Builds p (now (sources .entry)) (now (leaves .entry)) (now (targets .entry)) (now (priorities .entry)) r (now (sources .exit)) (now (leaves .exit)) (now (targets .exit)) (now (priorities .exit)) ⌝ }
 {
@@ -186,6 +192,7 @@ fn build_large(
         masks,
         parents,
         node_priorities,
+        transient,
         &mut ends,
         count,
         sources,
@@ -204,6 +211,7 @@ pub fn build<'a>(
     masks: &[u64],
     parents: &[u16],
     node_priorities: &[u8],
+    transient: u8,
     count: usize,
     sources: &mut [u8],
     leaves: &mut [u16],
@@ -211,7 +219,7 @@ pub fn build<'a>(
     priorities: &mut [u8],
 ) -> Building
     requires lent { ⌜ (now heads ≡ p .target) × (now colours ≡ p .colour) × (now family ≡ p .family) ⌝ }
-    requires nodes { ⌜ (legal p ≡ true) × Nodes p (now masks) (now parents) (now «node_priorities») × (count ≡ length (forest p)) ⌝ }
+    requires nodes { ⌜ (legal p ≡ true) × Nodes p (now masks) (now parents) (now «node_priorities») × (count ≡ length (forest p)) × (transient ≡ transientPriority p) ⌝ }
     requires room { ⌜ Sized p (now sources) (now leaves) (now targets) (now priorities) ⌝ }
     ensures { λ r. ⌜ Builds p (now (sources .entry)) (now (leaves .entry)) (now (targets .entry)) (now (priorities .entry)) r (now (sources .exit)) (now (leaves .exit)) (now (targets .exit)) (now (priorities .exit)) ⌝ }
 {
@@ -227,6 +235,7 @@ pub fn build<'a>(
             masks,
             parents,
             node_priorities,
+            transient,
             &mut ends,
             count,
             sources,
@@ -243,6 +252,7 @@ pub fn build<'a>(
         masks,
         parents,
         node_priorities,
+        transient,
         &mut ends,
         count,
         sources,

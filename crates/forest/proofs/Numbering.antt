@@ -3,7 +3,8 @@
 use Prim.Native.Nat.{ℕ, zero, suc, _+_, _-_, _≤_, _<_}
 use native.Mathlib.Omega.{arith}
 use native.Mathlib.Decide.{decLt, ℕ-discrete}
-use mathlib.Core.Path.{_≡_, refl, sym, ap, _∙_}
+use native.Mathlib.Numerals.{add-one}
+use mathlib.Core.Path.{_≡_, refl, sym, ap, _∙_, subst}
 use mathlib.Core.Logic.{_⊎_, inl, inr, _↔_, _≢_}
 use mathlib.Core.Bool.{Bool, true, false, _&&_, cond, true≢false}
 use mathlib.Core.List.{map, List·Memᴰ}
@@ -16,14 +17,14 @@ use Rattle.lists.proofs.Extremes.{greatest-le, greatest-mem, lowest-le, lowest-
 use Rattle.policy.specs.declared.Policy.{Policy}
 use Rattle.policy.specs.Policies.{legal}
 use Rattle.graph.proofs.Walks.{some-cycle}
-use Rattle.forest.specs.Forest.{Node, mostLevels, forest, greatestLevel, fromZero, priority, transientPriority, node}
+use Rattle.forest.specs.Forest.{Node, mostLevels, forest, greatestLevel, fromZero, priority, transientPriority, node, chain}
 use Rattle.forest.specs.Laws.{ForestLaws, parentAt, rootAt}
 use Rattle.forest.specs.Numbering.{AcceptingMost, PriorityBounds, plainPriority, InUse, OneFewer}
-use Rattle.forest.proofs.Chains.{by-parent, chain-top, chain-lt}
+use Rattle.forest.proofs.Chains.{by-parent, chain-up, chain-lt, chain-trans, chain-top}
 use Rattle.forest.proofs.Columns.{mapped-in, mapped-from}
 use Rattle.forest.proofs.Children.{root-few, child-fewer, ordered-children, ordered-roots}
 use Rattle.forest.proofs.Levels.{most-levels-few}
-use Rattle.forest.proofs.Priorities.{priority-is}
+use Rattle.forest.proofs.Priorities.{priority-is, plain-kept, plain-rejecting}
 use Rattle.forest.proofs.Numbered.{Numbered, numbered}
 use Rattle.forest.proofs.Forest.{forest-laws}
 
@@ -88,6 +89,18 @@ module _ (p : Policy) (lawful : legal p ≡ true) where
           go : Dec (node (forest p) n .level ≡ k) → (m : ℕ) × (m < length (forest p)) × (node (forest p) m .level ≡ k) × (node (forest p) m .accepted ≡ node (forest p) n .accepted)
           go (yes e) = (n, l, e, refl)
           go (no u) = let m = ih k (omega (arith, laws .level-up n l f, u)) in (m .0, m .1, m .2, m .3 ∙ sym (numbers .accepted-child n l f))
+
+  -- a node that is no root has the root of the node before it
+  pub accepted-before : (n : ℕ) → suc n < length (forest p) → rootAt (forest p) (suc n) ≡ false → node (forest p) (suc n) .accepted ≡ node (forest p) n .accepted
+  accepted-before n l f = go (subst (λ (x : ℕ). (rootAt (forest p) x ≡ true) ⊎ List·Memᴰ (parentAt (forest p) x) (chain (forest p) n)) (add-one n) (laws .depth-first n (omega arith)))
+    where
+      go : (rootAt (forest p) (suc n) ≡ true) ⊎ List·Memᴰ (parentAt (forest p) (suc n)) (chain (forest p) n) → node (forest p) (suc n) .accepted ≡ node (forest p) n .accepted
+      go (inl t) = absurd (true≢false (sym t ∙ f))
+      go (inr m) =
+          let up = chain-lt (forest p) (laws .parent-lt) (laws .level-up) n (parentAt (forest p) (suc n)) (omega arith) m in
+          let r = chain-top (forest p) (laws .parent-lt) (laws .level-up) (parentAt (forest p) (suc n)) up in
+          laws .rooted (suc n) (r .0) l (chain-up (forest p) (laws .parent-lt) (laws .level-up) (suc n) (r .0) l f (r .1)) (r .2)
+          ∙ sym (laws .rooted n (r .0) (omega arith) (chain-trans (forest p) (laws .parent-lt) (laws .level-up) n (parentAt (forest p) (suc n)) (r .0) (omega arith) m (r .1)) (r .2))
 
   -- ---- where priorities begin
   -- at 0 exactly if some node of the greatest level has an accepting root
@@ -215,13 +228,6 @@ module _ (p : Policy) (lawful : legal p ≡ true) where
   unfolding plainPriority
   plain-by n a ea = rw ea refl
 
-  pub plain-kept : fromZero p ≡ true → (n : ℕ) → priority p (node (forest p) n) ≡ plainPriority (node (forest p) n)
-  plain-kept t n = go (test (node (forest p) n .accepted))
-    where
-      go : (node (forest p) n .accepted ≡ true) ⊎ (node (forest p) n .accepted ≡ false) → priority p (node (forest p) n) ≡ plainPriority (node (forest p) n)
-      go (inl a) = priority-by n true true a t ∙ sym (plain-by n true a)
-      go (inr r) = rejecting-priority n r ∙ sym (plain-by n false r)
-
   -- the rejecting tree with the most levels has every priority from 1 on, in either numbering
   in-rejecting : fromZero p ≡ false → (k : ℕ) → 1 ≤ k → k ≤ greatestLevel p + 1 → InUse (forest p) (priority p) k × InUse (forest p) plainPriority k
   in-rejecting f k h l =
@@ -247,8 +253,8 @@ module _ (p : Policy) (lawful : legal p ≡ true) where
       at-most f k most u = omega (arith, most (u .0) (u .1), u .2)
 
       go : (fromZero p ≡ true) ⊎ (fromZero p ≡ false) → (node (forest p) n .accepted ≡ true) ⊎ (node (forest p) n .accepted ≡ false) → OneFewer p
-      go (inl t) a = absurd (moved (plain-kept t n))
-      go (inr f) (inr r) = absurd (moved (rejecting-priority n r ∙ sym (plain-by n false r)))
+      go (inl t) a = absurd (moved (plain-kept p t (node (forest p) n)))
+      go (inr f) (inr r) = absurd (moved (plain-rejecting p (node (forest p) n) r))
       go (inr f) (inl a) = record {
         before = λ k. (at-most plainPriority k plain-most, used f a k);
         now = λ k. (λ u. (omega (arith, one-le f (u .0), u .2), at-most (priority p) k priority-most u), λ h. in-rejecting f k (h .0) (h .1) .0);

@@ -58,3 +58,16 @@ module _ (p : Policy) where
 
   pub child-larger : (x y : Node) → y .level ≡ x .level + 1 → y .accepted ≡ x .accepted → priority p x < priority p y
   child-larger x y l a = omega (arith, child-suc x y l a)
+
+  -- ---- beside document 01's
+  pub plain-kept : fromZero p ≡ true → (x : Node) → priority p x ≡ plainPriority x
+  unfolding priority rootPriority plainPriority
+  plain-kept t x = rw t refl
+
+  pub plain-rejecting : (x : Node) → x .accepted ≡ false → priority p x ≡ plainPriority x
+  unfolding priority rootPriority plainPriority
+  plain-rejecting x r = rw r refl
+
+  pub plain-raised : fromZero p ≡ false → (x : Node) → x .accepted ≡ true → priority p x ≡ plainPriority x + 2
+  unfolding priority rootPriority plainPriority
+  plain-raised f x a = rw (f, a) (omega arith)

@@ -4,19 +4,13 @@ use native.Mathlib.Omega.{arith}
 use native.Mathlib.Decide.{decLt}
 use mathlib.Core.Path.{_≡_, refl, sym, ap, _∙_}
 use mathlib.Core.List.{List, [], _∷_, _++_, map}
-use lib.ListN.{length, getD, take, drop, replicate, length-map, List·getD-append}
-use lib.Seq.{sets, length-sets, sets-eq, getD-drop, getD-append-add, drop-append-seam, length-take-le, getD-take, ext-getD}
+use lib.ListN.{length, getD, drop, replicate, length-map, List·getD-append}
+use lib.Seq.{sets, length-sets, sets-eq, getD-drop, getD-append-add, drop-append-seam, ext-getD}
 use Rattle.tables.specs.Tables.{padded, Column}
 use Rattle.tables.proofs.Tables.{length-padded, getD-padded}
 
 pub column-padded : (n : ℕ) (l : List ℕ) → length l ≤ n → Column l (padded n l)
 column-padded n l h = record { long = omega (arith, length-padded n l h); each = λ i q. getD-padded n l i q }
-
--- its first places are the list
-pub column-take : {l t : List ℕ} → Column l t → take (length l) t ≡ l
-column-take {l} {t} c =
-    let so = length-take-le (length l) t (c .long) in
-    ext-getD 0 (take (length l) t) l so (λ i q. let h : i < length l = omega (arith, q, so) in getD-take (length l) t i 0 h ∙ c .each i h)
 
 -- ---- a list stored from the front
 module _ (t l : List ℕ) (h : length l ≤ length t) where

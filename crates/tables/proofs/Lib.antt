@@ -3,4 +3,3 @@ pub mod Copies
 pub mod Tables
 pub mod Stores
 pub mod Columns
-pub mod Extremes

@@ -1,11 +1,9 @@
-// Lent tables: how many places count; every place of one set to 0, at the three widths that tables have; a part of one copied to a later place; an entry as a place; and
-// the greatest and the lowest of some entries.
+// Lent tables: how many places count; every place of one set to 0, at the three widths that tables have; a part of one copied to a later place; and an entry as a place.
 ghost use mathlib.Core.Path.{_≡_};
 ghost use mathlib.Core.List.{List·Memᴰ};
 ghost use Prim.Native.Nat.{ℕ, _+_, _-_, _<_, _≤_, min};
-ghost use lib.ListN.{length, take};
+ghost use lib.ListN.{length};
 ghost use lib.Seq.{sets};
-ghost use Rattle.lists.specs.Lists.{greatest, lowest};
 ghost use Rattle.tables.specs.Tables.{zeros};
 ghost use Rattle.tables.specs.Copies.{part, moved};
 
@@ -69,34 +67,4 @@ pub fn copy_moved16(t: &mut [u16], from: usize, at: usize, size: usize)
     for j in 0..size {
         t[at + j] = t[from + j] + shift;
     }
-}
-
-// The greatest of the first `count` entries. Inner layer, as below.
-pub fn greatest8(t: &[u8], count: usize) -> u8
-    requires { ⌜ count ≤ length (now t) ⌝ }
-    ensures { λ r. ⌜ r ≡ greatest (take count (now (t .entry))) ⌝ }
-{
-    let mut most: u8 = 0;
-    for i in 0..count {
-        let x = t[i];
-        if most < x {
-            most = x;
-        }
-    }
-    most
-}
-
-// The lowest of the first `count` entries. Inner layer: there is one.
-pub fn lowest8(t: &[u8], count: usize) -> u8
-    requires { ⌜ (0 < count) × (count ≤ length (now t)) ⌝ }
-    ensures { λ r. ⌜ r ≡ lowest (take count (now (t .entry))) ⌝ }
-{
-    let mut least = t[0];
-    for i in 1..count {
-        let x = t[i];
-        if x < least {
-            least = x;
-        }
-    }
-    least
 }

@@ -115,7 +115,7 @@ build-requires c κs =
     let s = start m in
     let z = fit-lengths (m .from-parts .result) (s .args .masks .now) (s .args .parents .now) (s .args .node-priorities .now) (s .args .sources .now) (s .args .leaves .now) (s .args .targets .now) (s .args .priorities .now) (fit q) in
     let f = nodes-fits (m .from-parts .result) (s .args .masks .now) (s .args .parents .now) (s .args .node-priorities .now) (n .fill-nodes .ensures .answer-is) (c .before .before .before .before .before .before .before .before .nodes .given .1) in
-    (lent m, ((lawful m, nodes-are (m .from-parts .result) (s .args .masks .now) (s .args .parents .now) (s .args .node-priorities .now) _ _ _ (n .fill-nodes .ensures .tables-are) (f .0) (z .0) (z .1), f .1), z .2))
+    (lent m, ((lawful m, nodes-are (m .from-parts .result) (s .args .masks .now) (s .args .parents .now) (s .args .node-priorities .now) _ _ _ (n .fill-nodes .ensures .tables-are) (f .0) (z .0) (z .1), f .1, f .2), z .2))
 
 enum-known-states : tie.Need-enum-known-states
 enum-known-states c = search needs
@@ -142,16 +142,16 @@ same-length-10 : tie.Need-same-length-10
 same-length-10 c = c .before .before .clear8 .kept .0 ∙ filled (c .before .before .before .before .before .before .before .before .before .before .before .before .before .before .before .before .before .before .before .before .before .before) .fill-nodes .kept .1 .1 .1 .1 .1 .1 .0
 
 same-length-11 : tie.Need-same-length-11
-same-length-11 c = c .before .before .before .before .before .before .before .before .before .before .before .before .before .before .before .before .before .before .before .before .before .before .build .kept .1 .1 .1 .1 .1 .1 .1 .1 .0
+same-length-11 c = c .before .before .before .before .before .before .before .before .before .before .before .before .before .before .before .before .before .before .before .before .before .before .build .kept .1 .1 .1 .1 .1 .1 .1 .1 .1 .0
 
 same-length-12 : tie.Need-same-length-12
-same-length-12 c = c .before .before .before .before .before .before .before .before .before .before .before .before .before .before .before .before .before .before .before .before .before .before .build .kept .1 .1 .1 .1 .1 .1 .1 .1 .1 .0
+same-length-12 c = c .before .before .before .before .before .before .before .before .before .before .before .before .before .before .before .before .before .before .before .before .before .before .build .kept .1 .1 .1 .1 .1 .1 .1 .1 .1 .1 .0
 
 same-length-13 : tie.Need-same-length-13
-same-length-13 c = c .before .before .before .before .before .before .before .before .before .before .before .before .before .before .before .before .before .before .before .before .before .before .build .kept .1 .1 .1 .1 .1 .1 .1 .1 .1 .1 .0
+same-length-13 c = c .before .before .before .before .before .before .before .before .before .before .before .before .before .before .before .before .before .before .before .before .before .before .build .kept .1 .1 .1 .1 .1 .1 .1 .1 .1 .1 .1 .0
 
 same-length-14 : tie.Need-same-length-14
-same-length-14 c = c .before .before .before .before .before .before .before .before .before .before .before .before .before .before .before .before .before .before .before .before .before .before .build .kept .1 .1 .1 .1 .1 .1 .1 .1 .1 .1 .1 .0
+same-length-14 c = c .before .before .before .before .before .before .before .before .before .before .before .before .before .before .before .before .before .before .before .before .before .before .build .kept .1 .1 .1 .1 .1 .1 .1 .1 .1 .1 .1 .1 .0
 
 returns-3 : tie.Need-returns-3
 returns-3 c =
@@ -168,8 +168,8 @@ returns-3 c =
       c .before .before .clear8 .ensures ∙ zeros-same (n .fill-nodes .last .1 .1 .1 .1 .1 .1 .0) (s .args .node-priorities .now) (n .fill-nodes .kept .1 .1 .1 .1 .1 .1 .0),
     ) (b .build .ensures))
 
-cast-t63 : tie.Need-cast-t63
-cast-t63 c =
+cast-t64 : tie.Need-cast-t64
+cast-t64 c =
     let b = c .before .before .before .before .before .before .before .before .before .before .before in
     let n = filled b in
     let q = fitting n in
@@ -178,8 +178,8 @@ cast-t63 c =
     let f = nodes-fits (m .from-parts .result) (s .args .masks .now) (s .args .parents .now) (s .args .node-priorities .now) (n .fill-nodes .ensures .answer-is) (counted b .nodes .given .1) in
     omega (arith, f .1, nodes-few (m .from-parts .result) (s .args .masks .now) (f .0))
 
-cast-t64 : tie.Need-cast-t64
-cast-t64 c =
+cast-t65 : tie.Need-cast-t65
+cast-t65 c =
     let b = c .before .before .before .before .before .before .before .before .before .before .before in
     let m = made (fitting (filled b)) in
     let s = start m in
@@ -196,16 +196,16 @@ same-length-17 : tie.Need-same-length-17
 same-length-17 c = filled (c .before .before .before .before .before .before .before .before .before .before .before) .fill-nodes .kept .1 .1 .1 .1 .1 .1 .0
 
 same-length-18 : tie.Need-same-length-18
-same-length-18 c = c .before .before .before .before .before .before .before .before .before .before .before .build .kept .1 .1 .1 .1 .1 .1 .1 .1 .0
+same-length-18 c = c .before .before .before .before .before .before .before .before .before .before .before .build .kept .1 .1 .1 .1 .1 .1 .1 .1 .1 .0
 
 same-length-19 : tie.Need-same-length-19
-same-length-19 c = c .before .before .before .before .before .before .before .before .before .before .before .build .kept .1 .1 .1 .1 .1 .1 .1 .1 .1 .0
+same-length-19 c = c .before .before .before .before .before .before .before .before .before .before .before .build .kept .1 .1 .1 .1 .1 .1 .1 .1 .1 .1 .0
 
 same-length-20 : tie.Need-same-length-20
-same-length-20 c = c .before .before .before .before .before .before .before .before .before .before .before .build .kept .1 .1 .1 .1 .1 .1 .1 .1 .1 .1 .0
+same-length-20 c = c .before .before .before .before .before .before .before .before .before .before .before .build .kept .1 .1 .1 .1 .1 .1 .1 .1 .1 .1 .1 .0
 
 same-length-21 : tie.Need-same-length-21
-same-length-21 c = c .before .before .before .before .before .before .before .before .before .before .before .build .kept .1 .1 .1 .1 .1 .1 .1 .1 .1 .1 .1 .0
+same-length-21 c = c .before .before .before .before .before .before .before .before .before .before .before .build .kept .1 .1 .1 .1 .1 .1 .1 .1 .1 .1 .1 .1 .0
 
 returns-4 : tie.Need-returns-4
 returns-4 c =
@@ -251,8 +251,8 @@ translate-legal-spec =
     same-length-13
     same-length-14
     returns-3
-    cast-t63
     cast-t64
+    cast-t65
     same-length-15
     same-length-16
     same-length-17

@@ -64,7 +64,7 @@ same-length-6 c = search needs
 returns-2 : tie.Need-returns-2
 returns-2 c =
     let s = start (c .before .before .before .before .before .before .before .before .before .before .before .before .before) in
-    filled-whole (s .args .masks .now) (s .args .parents .now) (s .args .node-priorities .now) (s .pre .1 .1) (s .pre .1 .2) (cleared (c .before .before .before .before .before .before .before .before .before .before .before .before .before) .clear-nodes .ensures) (c .before .before .before .before .before .before .before .before .before .before .before .before .before .fill-columns .ensures) (fits (c .before .before .before .before .before .before .before)) (c .before .before .write-priorities .ensures)
+    filled-whole (s .args .masks .now) (s .args .parents .now) (s .args .node-priorities .now) (s .pre .1 .1) (s .pre .1 .2) (cleared (c .before .before .before .before .before .before .before .before .before .before .before .before .before) .clear-nodes .ensures) (c .before .before .before .before .before .before .before .before .before .before .before .before .before .fill-columns .ensures) (fits (c .before .before .before .before .before .before .before)) (c .before .before .write-priorities .ensures .0) (c .before .before .write-priorities .ensures .1)
 
 pub fill-nodes-spec : {M : Type 1} → statement M
 fill-nodes-spec =

@@ -4,7 +4,7 @@ use mathlib.Core.Path.{refl, sym, ap}
 use borrow.Author.Needs.{needs}
 use Rattle.lists.proofs.Bools.{not-true, unnot}
 use Rattle.policy.specs.declared.Policy.{Policy}
-use Rattle.filling.proofs.FillingLaws.{nodes-same, sized-same, builds-same, ends-column, built-few, leaves-column, starts-column, rows-fit, node-some, lowest-transient, built-whole, built-none}
+use Rattle.filling.proofs.FillingLaws.{nodes-same, sized-same, builds-same, ends-column, built-few, leaves-column, starts-column, rows-fit, built-whole, built-none}
 use Rattle.filling.proofs.fill_built.Statement.{statement}
 use Rattle.filling.proofs.fill_built.Tie as tie
 
@@ -57,15 +57,9 @@ returns c =
     let q = m .from-parts .ensures in
     builds-same q (built-none (sized-same (sym q) (s .pre .1 .0)) (w .fill-states .ensures) (not-true (w .fill-states .result .fits) (c .if1 .taken)) (s .pre .1 .1))
 
-lowest8-requires : tie.Need-lowest8-requires
-lowest8-requires c κs =
-    let m = made (ended (placed c)) in
-    node-some (nodes-same (sym (m .from-parts .ensures)) (start m .pre .0))
-
 fill-rows-requires : tie.Need-fill-rows-requires
 fill-rows-requires c κs =
-    let l = c .before .before .before .before .before in
-    let q = l .before in
+    let q = c .before .before .before .before .before in
     let w = placed q in
     let e = ended w in
     let m = made e in
@@ -74,11 +68,11 @@ fill-rows-requires c κs =
     let f = unnot (w .fill-states .result .fits) (q .if1 .left) in
     let z = sized-same (sym (m .from-parts .ensures)) (s .pre .1 .0) in
     let o = w .fill-states .ensures in
-    ((n .0, n .1, ends-column (m .from-parts .result) (s .args .ends .now) (n .2) (s .pre .1 .2) (e .fill-ends .ensures)), ((built-few z o f, leaves-column z o f, starts-column z o f (n .0) refl), (sym (ap (λ (p : Policy). p .target) (m .from-parts .ensures)), ((s .pre .1 .1 .targets-are, s .pre .1 .1 .priorities-are, rows-fit z o f .0, rows-fit z o f .1), lowest-transient n (l .lowest8 .ensures)))))
+    ((n .0, n .1, ends-column (m .from-parts .result) (s .args .ends .now) (n .2) (s .pre .1 .2) (e .fill-ends .ensures)), ((built-few z o f, leaves-column z o f, starts-column z o f (n .0) refl), (sym (ap (λ (p : Policy). p .target) (m .from-parts .ensures)), ((s .pre .1 .1 .targets-are, s .pre .1 .1 .priorities-are, rows-fit z o f .0, rows-fit z o f .1), n .3))))
 
 start-of-requires : tie.Need-start-of-requires
 start-of-requires c κs =
-    let q = c .before .before .before .before .before .before .before .before .before .before .before .before in
+    let q = c .before .before .before .before .before .before .before .before .before .before .before in
     let w = placed q in
     let e = ended w in
     let m = made e in
@@ -90,13 +84,13 @@ start-of-requires c κs =
     (n .0, starts-column z o f (n .0) refl, built-few z o f)
 
 same-length-4 : tie.Need-same-length-4
-same-length-4 c = ended (placed (c .before .before .before .before .before .before .before .before .before .before .before .before .before)) .fill-ends .kept .1 .1 .1 .0
+same-length-4 c = ended (placed (c .before .before .before .before .before .before .before .before .before .before .before .before)) .fill-ends .kept .1 .1 .1 .0
 
 same-length-5 : tie.Need-same-length-5
-same-length-5 c = placed (c .before .before .before .before .before .before .before .before .before .before .before .before .before) .fill-states .kept .1 .1 .1 .1 .0
+same-length-5 c = placed (c .before .before .before .before .before .before .before .before .before .before .before .before) .fill-states .kept .1 .1 .1 .1 .0
 
 same-length-6 : tie.Need-same-length-6
-same-length-6 c = placed (c .before .before .before .before .before .before .before .before .before .before .before .before .before) .fill-states .kept .1 .1 .1 .1 .1 .0
+same-length-6 c = placed (c .before .before .before .before .before .before .before .before .before .before .before .before) .fill-states .kept .1 .1 .1 .1 .1 .0
 
 same-length-7 : tie.Need-same-length-7
 same-length-7 c = c .before .before .before .before .before .before .fill-rows .kept .1 .1 .1 .1 .1 .1 .1 .1 .1 .0
@@ -106,7 +100,7 @@ same-length-8 c = c .before .before .before .before .before .before .fill-rows .
 
 returns-2 : tie.Need-returns-2
 returns-2 c =
-    let q = c .before .before .before .before .before .before .before .before .before .before .before .before .before in
+    let q = c .before .before .before .before .before .before .before .before .before .before .before .before in
     let w = placed q in
     let e = ended w in
     let m = made e in
@@ -128,7 +122,6 @@ fill-built-spec =
     same-length-2
     same-length-3
     returns
-    lowest8-requires
     fill-rows-requires
     start-of-requires
     same-length-4
