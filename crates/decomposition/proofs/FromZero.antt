@@ -1,15 +1,15 @@
--- Numbering as if priorities began at 0: from the front, each child after its parent, with the greatest height so far; then two more for accepting trees where they begin at 1.
+-- Numbering as if priorities began at 0: from the front, each child after its parent, with the greatest height of the trees; then two more for accepting trees where they begin at 1.
 -- Assumes nothing.
 use Prim.Native.Nat.{ℕ, zero, suc, _+_, _-_, _*_, _%_, _≤_, _<_, max}
 use native.Mathlib.Omega.{arith}
 use native.Mathlib.Numerals.{add-one}
 use mathlib.Core.Path.{_≡_, refl, sym, ap, ap₂, _∙_, subst}
 use mathlib.Core.Logic.{_⊎_, inl, inr, _≢_}
-use mathlib.Core.Bool.{Bool, true, false, _||_, cond}
+use mathlib.Core.Bool.{Bool, true, false, _||_, cond, true≢false}
 use mathlib.Core.List.{List, [], _∷_, _++_, map, List·Memᴰ}
 use lib.Dec.{eqb}
-use lib.ListN.{length, getD, take, set, length-set, length-map}
-use lib.Seq.{sets, take-suc, take-all, length-take-le, getD-take}
+use lib.ListN.{length, getD, take, drop, set, length-set, length-map, length-drop}
+use lib.Seq.{sets, take-suc, take-all, length-take-le, getD-take, getD-drop, getD-set-same, getD-set-other, ext-getD}
 use Rattle.lists.specs.Lists.{any, greatest}
 use Rattle.lists.proofs.Bools.{test, eqb≡, ≡eqb, neqb}
 use Rattle.lists.proofs.Lists.{some-any, none-any, map-same, getD-mem}
@@ -18,7 +18,8 @@ use Rattle.lists.proofs.Extremes.{greatest-le, greatest-mem, greatest-none, gre
 use Rattle.tables.specs.Tables.{padded, zeros, Column}
 use Rattle.tables.proofs.Tables.{zeros-padded, length-padded, getD-padded, padded-more}
 use Rattle.tables.proofs.Columns.{map-at, sets-past, sets-over}
-use Rattle.tables.proofs.Copies.{Copying, copying-none, copying-long, copying-more, copying-all}
+use Rattle.tables.specs.Copies.{part}
+use Rattle.tables.proofs.Copies.{length-part, Copying, copying-none, copying-long, copying-more, copying-all}
 use Rattle.policy.specs.declared.Policy.{Policy}
 use Rattle.policy.specs.Policies.{legal}
 use Rattle.policy.specs.Policies as Policies
@@ -32,10 +33,17 @@ use Rattle.forest.proofs.Numbered.{Numbered, numbered}
 use Rattle.forest.proofs.Forest.{forest-laws}
 use Rattle.forest.proofs.Numbering.{forest-some, level-le, from-zero, lower, bottom-rejects, accepted-before, transient-is}
 use Rattle.forest.proofs.Columns.{length-masks, length-parents, length-node-priorities, masks-at, parents-at, node-priorities-at, mapped-in, mapped-from}
-use Rattle.decomposition.specs.FromZero.{height, nodeHeights, plainPriorities, someAccepting}
+use Rattle.decomposition.specs.FromZero.{plainPriorities, someAccepting}
 use Rattle.decomposition.specs.NodeTables.{NodeColumns}
 
 -- ---- heights
+-- twice a node's level, plus 3 if its root is accepting and otherwise 2: the greatest of all is odd exactly if some tree with the most levels has an accepting root
+unfoldable pub height : Node → ℕ
+height x = 2 * x .level + cond (x .accepted) 3 2
+
+unfoldable pub nodeHeights : Policy → List ℕ
+nodeHeights p = map height (forest p)
+
 height-le : (x : Node) → height x ≤ 2 * x .level + 3
 unfolding height
 height-le x = go (x .accepted)
@@ -82,6 +90,38 @@ pub root-few : (b : Bool) {x : ℕ} → x ≡ cond b 0 1 → x ≤ 1
 root-few true e = omega (arith, e)
 root-few false e = omega (arith, e)
 
+-- ---- the greatest of a part of a table
+pub part-none : (t : List ℕ) (from : ℕ) → 0 ≡ greatest (part (from - from) from t)
+unfolding greatest
+part-none t from = let z : 0 ≡ from - from = omega arith in ap (λ (k : ℕ). greatest (part k from t)) z
+
+pub part-more : (t : List ℕ) (from n : ℕ) → from ≤ n → n < length t → greatest (part (n + 1 - from) from t) ≡ max (greatest (part (n - from) from t)) (getD t n 0)
+part-more t from n h l =
+    let e : n + 1 - from ≡ (n - from) + 1 = omega (arith, h) in
+    let i : from + (n - from) ≡ n = omega (arith, h) in
+    ap (λ (k : ℕ). greatest (part k from t)) e ∙ greatest-more (drop from t) (n - from) (omega (arith, length-drop from t, h)) ∙ ap (max (greatest (part (n - from) from t))) (getD-drop from t (n - from) 0 ∙ ap (λ (j : ℕ). getD t j 0) i)
+
+-- what stands before place n does not change with it
+part-before : (t : List ℕ) (from n x : ℕ) → from ≤ n → n < length t → part (n - from) from (set t n x) ≡ part (n - from) from t
+part-before t from n x h l =
+    ext-getD 0 (part (n - from) from (set t n x)) (part (n - from) from t) (long (set t n x) (omega (arith, length-set t n x)) ∙ sym (long t l))
+    (λ i q. let k : i < n - from = omega (arith, q, long (set t n x) (omega (arith, length-set t n x))) in at (set t n x) i k ∙ getD-set-other t n (from + i) x 0 (λ z. absurd (omega (arith, z, k))) ∙ sym (at t i k))
+  where
+    long : (u : List ℕ) → n < length u → length (part (n - from) from u) ≡ n - from
+    long u l = length-part (n - from) from u (omega (arith, h))
+
+    at : (u : List ℕ) (i : ℕ) → i < n - from → getD (part (n - from) from u) i 0 ≡ getD u (from + i) 0
+    at u i k = getD-take (n - from) (drop from u) i 0 k ∙ getD-drop from u i 0
+
+-- a tree grows by a node
+pub tree-more : (t : List ℕ) (from n x : ℕ) → from ≤ n → n < length t → greatest (part (n + 1 - from) from (set t n x)) ≡ max (greatest (part (n - from) from t)) x
+tree-more t from n x h l =
+    part-more (set t n x) from n h (omega (arith, length-set t n x)) ∙ ap₂ max (ap greatest (part-before t from n x h l)) (getD-set-same t n x 0 l)
+
+-- or begins
+pub tree-first : (t : List ℕ) (n x : ℕ) → n < length t → greatest (part (n + 1 - n) n (set t n x)) ≡ x
+tree-first t n x l = tree-more t n n x (omega arith) l ∙ omega (arith, part-none t n)
+
 -- ---- the columns
 module _ (p : Policy) where
   length-plain : length (plainPriorities p) ≡ length (forest p)
@@ -103,6 +143,10 @@ module _ (p : Policy) where
   take-node : (n : ℕ) → n < length (forest p) → take (n + 1) (forest p) ≡ take n (forest p) ++ (node (forest p) n ∷ [])
   unfolding node
   take-node n l = ap (λ (k : ℕ). take k (forest p)) (add-one n) ∙ take-suc (forest p) n (record { mask = 0; parent = 0; level = 0; accepted = false }) l
+
+  node-in : (n : ℕ) → n < length (forest p) → List·Memᴰ (node (forest p) n) (forest p)
+  unfolding node
+  node-in n l = getD-mem (forest p) n (record { mask = 0; parent = 0; level = 0; accepted = false }) l
 
   node-taken : (n m : ℕ) → m < n → n ≤ length (forest p) → List·Memᴰ (node (forest p) m) (take n (forest p))
   unfolding node
@@ -429,24 +473,38 @@ module _ {p : Policy} {masks parents t : List ℕ} (r₀ : List ℕ) {count : �
   pub unraised-table : (count ≤ length t) × (t ≡ padded (length t) (plainPriorities p))
   unraised-table = (omega (arith, plain-long), e ∙ ap (λ (k : ℕ). padded k (plainPriorities p)) (sym plain-long))
 
--- ---- what comes of it
-module _ (p : Policy) (lawful : legal p ≡ true) {most : ℕ} {accepting : Bool} (h : (most ≡ greatest (nodeHeights p)) × (accepting ≡ someAccepting p)) where
-  begins : eqb (most % 2) 1 ≡ fromZero p
-  begins = ap (λ (k : ℕ). eqb (k % 2) 1) (h .0) ∙ greatest-height p lawful
+-- ---- where priorities begin
+module _ (p : Policy) (lawful : legal p ≡ true) where
+  -- by the greatest height
+  pub begins-by-height : {most : ℕ} {b : Bool} → most ≡ greatest (nodeHeights p) → b ≡ eqb (most % 2) 1 → b ≡ fromZero p
+  begins-by-height q e = e ∙ ap (λ (k : ℕ). eqb (k % 2) 1) q ∙ greatest-height p lawful
 
+  -- not at 0 if no root is accepting
+  pub begins-at-one : {accepting : Bool} → accepting ≡ someAccepting p → accepting ≡ false → false ≡ fromZero p
+  unfolding someAccepting
+  begins-at-one q f = go (test (fromZero p))
+    where
+      go : (fromZero p ≡ true) ⊎ (fromZero p ≡ false) → false ≡ fromZero p
+      go (inl t) =
+          let n = from-zero p lawful t in
+          absurd (true≢false (sym (n .3) ∙ none-any (λ (x : Node). x .accepted) (forest p) (sym q ∙ f) (node (forest p) (n .0)) (node-in p (n .0) (n .1))))
+      go (inr r) = sym r
+
+-- ---- what comes of it
+module _ (p : Policy) (lawful : legal p ≡ true) where
   plain-same : ((x : Node) → List·Memᴰ x (forest p) → priority p x ≡ plainPriority x) → plainPriorities p ≡ nodePriorities p
   unfolding plainPriorities nodePriorities
   plain-same e = map-same plainPriority (priority p) (forest p) (λ x m. sym (e x m))
 
   -- priorities begin at 0
-  pub kept : most % 2 ≡ 1 → (0 ≡ transientPriority p) × (plainPriorities p ≡ nodePriorities p)
-  kept o = let t = sym begins ∙ ≡eqb (most % 2) 1 o in (sym (transient-is p lawful ∙ rw t refl), plain-same (λ x m. plain-kept p t x))
+  pub kept : {b : Bool} → b ≡ fromZero p → b ≡ true → (0 ≡ transientPriority p) × (plainPriorities p ≡ nodePriorities p)
+  kept q o = let t = sym q ∙ o in (sym (transient-is p lawful ∙ rw t refl), plain-same (λ x m. plain-kept p t x))
 
   -- they begin at 1
-  pub one : most % 2 ≢ 1 → (fromZero p ≡ false) × (1 ≡ transientPriority p)
-  one o = let f = sym begins ∙ neqb (most % 2) 1 o in (f, sym (transient-is p lawful ∙ rw f refl))
+  pub one : {b : Bool} → b ≡ fromZero p → b ≡ false → (fromZero p ≡ false) × (1 ≡ transientPriority p)
+  one q o = let f = sym q ∙ o in (f, sym (transient-is p lawful ∙ rw f refl))
 
   -- and no root is accepting
-  pub all-rejecting : accepting ≡ false → plainPriorities p ≡ nodePriorities p
+  pub all-rejecting : {accepting : Bool} → accepting ≡ someAccepting p → accepting ≡ false → plainPriorities p ≡ nodePriorities p
   unfolding someAccepting
-  all-rejecting f = plain-same (λ x m. plain-rejecting p x (none-any (λ (x : Node). x .accepted) (forest p) (sym (h .1) ∙ f) x m))
+  all-rejecting q f = plain-same (λ x m. plain-rejecting p x (none-any (λ (x : Node). x .accepted) (forest p) (sym q ∙ f) x m))

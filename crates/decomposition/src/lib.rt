@@ -2,14 +2,15 @@
 // Beside a policy stand its arrays, lent: `heads` are the targets of its edges, `colours` their colours; `by` has the edges of each colour.
 ghost use mathlib.Core.Path.{_≡_};
 ghost use mathlib.Core.Bool.{true, false, cond};
-ghost use Prim.Native.Nat.{_≤_, max};
+ghost use Prim.Native.Nat.{_-_, _≤_, max};
 ghost use lib.ListN.{length};
 ghost use Rattle.policy.specs.Policies.{accepting, legal};
 ghost use Rattle.policy.specs.ByColour.{byColour};
 ghost use Rattle.lists.specs.Lists.{greatest};
 ghost use Rattle.tables.specs.Tables.{zeros, padded, Column};
+ghost use Rattle.tables.specs.Copies.{part};
 ghost use Rattle.forest.specs.Forest.{forest, fromZero, transientPriority, nodeParents, nodePriorities};
-ghost use Rattle.decomposition.specs.FromZero.{nodeHeights, plainPriorities, someAccepting};
+ghost use Rattle.decomposition.specs.FromZero.{plainPriorities, someAccepting};
 ghost use Rattle.decomposition.specs.NodeTables.{NodeColumns, nodeTables, Fills};
 use policy::Policy;
 
@@ -40,14 +41,26 @@ fn greater(a: u8, b: u8) -> u8
     a
 }
 
-// The greatest height of a node, and whether some root is accepting.
-struct Heights {
-    most: u8,
+// The greatest of the entries from place `from` up to `to`.
+fn greatest_in(t: &[u8], from: usize, to: usize) -> u8
+    requires { ⌜ (from ≤ to) × (to ≤ length (now t)) ⌝ }
+    ensures { λ r. ⌜ r ≡ greatest (part (to - from) from (now (t .entry))) ⌝ }
+{
+    let mut most: u8 = 0;
+    for i in from..to {
+        most = greater(most, t[i]);
+    }
+    most
+}
+
+// Whether priorities begin at 0, and whether some root is accepting.
+struct Beginning {
+    from_zero: bool,
     accepting: bool,
 }
 
-// The priorities of all nodes as if they began at 0, in a table that is cleared: a child's is one more than its parent's. Of the tree at hand, `top` is the greatest
-// so far, and twice a priority and `lift` make a height; `most` is the greatest height of the trees before it.
+// The priorities of all nodes as if they began at 0, in a table that is cleared: a child's is one more than its parent's. The tree at hand begins at node `first`, and
+// in it twice a priority and `lift` make a height; `most` is the greatest height of the trees before it.
 fn number_from_zero(
     p: Policy,
     by: &[u64; 8],
@@ -56,36 +69,42 @@ fn number_from_zero(
     parents: &[u16],
     node_priorities: &mut [u8],
     count: usize,
-) -> Heights
+) -> Beginning
     requires lawful { ⌜ legal p ≡ true ⌝ }
     requires lent { ⌜ (now by ≡ byColour p) × (now family ≡ p .family) ⌝ }
     requires nodes { ⌜ NodeColumns p (now masks) (now parents) count ⌝ }
     requires cleared { ⌜ (count ≤ length (now «node_priorities»)) × (now «node_priorities» ≡ zeros (now «node_priorities»)) ⌝ }
-    ensures heights { λ r. ⌜ (r .most ≡ greatest (nodeHeights p)) × (r .accepting ≡ someAccepting p) ⌝ }
+    ensures beginning { λ r. ⌜ (r .«from_zero» ≡ fromZero p) × (r .accepting ≡ someAccepting p) ⌝ }
     ensures table { λ _. ⌜ now («node_priorities» .exit) ≡ padded (length (now («node_priorities» .entry))) (plainPriorities p) ⌝ }
 {
     let mut most: u8 = 0;
     let mut accepting = false;
-    let mut top: u8 = 0;
+    let mut first: usize = 0;
     let mut lift: u8 = 0;
     for n in 0..count {
         let parent = parents[n];
         let mut priority: u8 = 0;
         if parent == 65535 {
-            most = greater(most, 2 * top + lift);
+            most = greater(most, 2 * greatest_in(node_priorities, first, n) + lift);
             priority = root_priority(p, by, family, masks[n]);
             accepting = accepting | (priority == 0);
-            top = priority;
+            first = n;
             lift = 3 - 3 * priority;
         } else {
             priority = node_priorities[parent as usize] + 1;
-            top = greater(top, priority);
         }
         node_priorities[n] = priority;
     }
-    Heights {
-        most: greater(most, 2 * top + lift),
-        accepting: accepting,
+    if !accepting {
+        return Beginning {
+            from_zero: false,
+            accepting: false,
+        };
+    }
+    let height = greater(most, 2 * greatest_in(node_priorities, first, count) + lift);
+    Beginning {
+        from_zero: height % 2 == 1,
+        accepting: true,
     }
 }
 
@@ -123,11 +142,11 @@ fn write_priorities(
     ensures lowest { λ r. ⌜ r ≡ transientPriority p ⌝ }
     ensures table { λ _. ⌜ now («node_priorities» .exit) ≡ padded (length (now («node_priorities» .entry))) (nodePriorities p) ⌝ }
 {
-    let found = number_from_zero(p, by, family, masks, parents, node_priorities, count);
-    if found.most % 2 == 1 {
+    let begins = number_from_zero(p, by, family, masks, parents, node_priorities, count);
+    if begins.from_zero {
         return 0;
     }
-    if !found.accepting {
+    if !begins.accepting {
         return 1;
     }
     raise(p, parents, node_priorities, count);
