@@ -1,17 +1,14 @@
--- Tables that begin with a column of the nodes or of the built states: how long they are, and what stands in each place. Assumes nothing.
+-- Tables that begin with the ends of the nodes or a column of the built states: how long they are, and what stands in each place. Assumes nothing.
 use Prim.Native.Nat.{ℕ, _+_, _≤_, _<_}
 use native.Mathlib.Omega.{arith}
 use mathlib.Core.Path.{_≡_, _∙_}
-use mathlib.Core.Bool.{false}
 use mathlib.Core.List.{List}
 use lib.ListN.{length, getD, length-map}
 use Rattle.lists.proofs.Lists.{length-map-below, getD-map-below}
 use Rattle.tables.specs.Tables.{Column}
 use Rattle.tables.proofs.Columns.{column-at}
 use Rattle.policy.specs.declared.Policy.{Policy}
-use Rattle.forest.specs.Forest.{Node, forest, node, priority, nodeMasks, nodeParents, nodePriorities}
-use Rattle.forest.specs.Laws.{maskAt, parentAt}
-use Rattle.forest.proofs.Columns.{length-masks, length-parents, length-node-priorities}
+use Rattle.forest.specs.Forest.{forest}
 use Rattle.automaton.specs.Automaton.{Built, built, stateAt, stateSources, stateLeaves}
 use Rattle.automaton.specs.Stages.{endOf, firstOver, nodeEnds, stateStarts}
 
@@ -34,37 +31,15 @@ module _ (p : Policy) where
   length-starts = length-map-below (firstOver p) (p .states + 1)
 
   module _ {t : List ℕ} where
-    -- ---- the tables of the nodes
-    pub masks-long : Column (nodeMasks p) t → length (forest p) ≤ length t
-    masks-long c = omega (arith, c .long, length-masks p)
-
-    pub parents-long : Column (nodeParents p) t → length (forest p) ≤ length t
-    parents-long c = omega (arith, c .long, length-parents p)
-
-    pub node-priorities-long : Column (nodePriorities p) t → length (forest p) ≤ length t
-    node-priorities-long c = omega (arith, c .long, length-node-priorities p)
-
+    -- ---- the ends of the nodes
     pub ends-long : Column (nodeEnds p) t → length (forest p) ≤ length t
     ends-long c = omega (arith, c .long, length-ends)
 
-    module _ (n : ℕ) (h : n < length (forest p)) where
-      pub mask-at : Column (nodeMasks p) t → getD t n 0 ≡ maskAt (forest p) n
-      unfolding nodeMasks node
-      mask-at c = column-at (λ (x : Node). x .mask) (forest p) c (record { mask = 0; parent = 0; level = 0; accepted = false }) n h
+    pub end-at : (n : ℕ) → n < length (forest p) → Column (nodeEnds p) t → getD t n 0 ≡ endOf (forest p) n
+    unfolding nodeEnds
+    end-at n h c = c .each n (omega (arith, length-ends)) ∙ getD-map-below (endOf (forest p)) (length (forest p)) n 0 h
 
-      pub parent-at : Column (nodeParents p) t → getD t n 0 ≡ parentAt (forest p) n
-      unfolding nodeParents node
-      parent-at c = column-at (λ (x : Node). x .parent) (forest p) c (record { mask = 0; parent = 0; level = 0; accepted = false }) n h
-
-      pub node-priority-at : Column (nodePriorities p) t → getD t n 0 ≡ priority p (node (forest p) n)
-      unfolding nodePriorities node
-      node-priority-at c = column-at (priority p) (forest p) c (record { mask = 0; parent = 0; level = 0; accepted = false }) n h
-
-      pub end-at : Column (nodeEnds p) t → getD t n 0 ≡ endOf (forest p) n
-      unfolding nodeEnds
-      end-at c = c .each n (omega (arith, length-ends)) ∙ getD-map-below (endOf (forest p)) (length (forest p)) n 0 h
-
-    -- ---- those of the built states
+    -- ---- the built states
     pub sources-long : Column (stateSources p) t → length (built p) ≤ length t
     sources-long c = omega (arith, c .long, length-sources)
 

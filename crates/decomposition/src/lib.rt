@@ -59,8 +59,9 @@ struct Beginning {
     accepting: bool,
 }
 
-// The priorities of all nodes as if they began at 0, in a table that is cleared: a child's is one more than its parent's. The tree at hand begins at node `first`, and
-// in it twice a priority and `lift` make a height; `most` is the greatest height of the trees before it.
+// The priorities of all nodes as if they began at 0, in a table that is cleared: a child's is one more than its parent's. Trees in a row whose roots have one verdict
+// are looked at together, and only where another verdict follows: those at hand begin at node `first`, and in them twice a priority and `lift` make a height; `most`
+// is the greatest height before them.
 fn number_from_zero(
     p: Policy,
     by: &[u64; 8],
@@ -78,27 +79,28 @@ fn number_from_zero(
     ensures table { λ _. ⌜ now («node_priorities» .exit) ≡ padded (length (now («node_priorities» .entry))) (plainPriorities p) ⌝ }
 {
     let mut most: u8 = 0;
-    let mut accepting = false;
     let mut first: usize = 0;
     let mut lift: u8 = 0;
     for n in 0..count {
         let parent = parents[n];
         let mut priority: u8 = 0;
         if parent == 65535 {
-            most = greater(most, 2 * greatest_in(node_priorities, first, n) + lift);
             priority = root_priority(p, by, family, masks[n]);
-            accepting = accepting | (priority == 0);
-            first = n;
-            lift = 3 - 3 * priority;
+            let own = 3 - 3 * priority;
+            if own != lift {
+                most = greater(most, 2 * greatest_in(node_priorities, first, n) + lift);
+                first = n;
+                lift = own;
+            }
         } else {
             priority = node_priorities[parent as usize] + 1;
         }
         node_priorities[n] = priority;
     }
-    if !accepting {
+    if first == 0 {
         return Beginning {
-            from_zero: false,
-            accepting: false,
+            from_zero: lift != 0,
+            accepting: lift != 0,
         };
     }
     let height = greater(most, 2 * greatest_in(node_priorities, first, count) + lift);

@@ -21,8 +21,8 @@ use Rattle.forest.specs.Forest.{forest, nodeParents}
 use Rattle.forest.specs.Laws.{parentAt, rootAt}
 use Rattle.forest.proofs.Forest.{forest-laws}
 use Rattle.automaton.specs.Stages.{endOf, nodeEnds}
-use Rattle.forest.proofs.Columns.{length-parents}
-use Rattle.automaton.proofs.Columns.{length-ends, parent-at}
+use Rattle.forest.proofs.Columns.{length-parents, parent-at}
+use Rattle.automaton.proofs.Columns.{length-ends}
 use Rattle.automaton.proofs.Ends.{Raised, raised-none, raised-all, raised-root, raised-kept, raised-more, root-parent}
 use Rattle.ends.specs.Raising.{successors, raisedTo}
 

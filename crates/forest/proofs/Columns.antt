@@ -1,11 +1,13 @@
--- The columns of the forest: how long they are, and what stands at each place. Assumes nothing.
-use Prim.Native.Nat.{ℕ, _<_}
+-- The columns of the forest, and tables that begin with them: how long they are, and what stands at each place. Assumes nothing.
+use Prim.Native.Nat.{ℕ, _≤_, _<_}
+use native.Mathlib.Omega.{arith}
 use mathlib.Core.Path.{_≡_, sym, ap, _∙_}
 use mathlib.Core.Bool.{false}
-use mathlib.Core.List.{map, List·Memᴰ}
+use mathlib.Core.List.{List, map, List·Memᴰ}
 use lib.ListN.{length, getD, length-map}
 use Rattle.lists.proofs.Lists.{getD-mem, mem-at, map-mem, mem-map}
-use Rattle.tables.proofs.Columns.{map-at}
+use Rattle.tables.specs.Tables.{Column}
+use Rattle.tables.proofs.Columns.{map-at, column-at}
 use Rattle.policy.specs.declared.Policy.{Policy}
 use Rattle.forest.specs.Forest.{Node, forest, node, priority, nodeMasks, nodeParents, nodePriorities}
 use Rattle.forest.specs.Laws.{maskAt, parentAt}
@@ -36,14 +38,30 @@ module _ (p : Policy) where
   unfolding nodePriorities
   length-node-priorities = length-map (forest p) (priority p)
 
-  pub masks-at : (n : ℕ) → n < length (forest p) → getD (nodeMasks p) n 0 ≡ maskAt (forest p) n
-  unfolding nodeMasks node
-  masks-at n l = map-at (λ (x : Node). x .mask) (forest p) (record { mask = 0; parent = 0; level = 0; accepted = false }) n l
-
-  pub parents-at : (n : ℕ) → n < length (forest p) → getD (nodeParents p) n 0 ≡ parentAt (forest p) n
-  unfolding nodeParents node
-  parents-at n l = map-at (λ (x : Node). x .parent) (forest p) (record { mask = 0; parent = 0; level = 0; accepted = false }) n l
-
   pub node-priorities-at : (n : ℕ) → n < length (forest p) → getD (nodePriorities p) n 0 ≡ priority p (node (forest p) n)
   unfolding nodePriorities node
   node-priorities-at n l = map-at (priority p) (forest p) (record { mask = 0; parent = 0; level = 0; accepted = false }) n l
+
+  -- ---- tables that begin with them
+  module _ {t : List ℕ} where
+    pub masks-long : Column (nodeMasks p) t → length (forest p) ≤ length t
+    masks-long c = omega (arith, c .long, length-masks)
+
+    pub parents-long : Column (nodeParents p) t → length (forest p) ≤ length t
+    parents-long c = omega (arith, c .long, length-parents)
+
+    pub node-priorities-long : Column (nodePriorities p) t → length (forest p) ≤ length t
+    node-priorities-long c = omega (arith, c .long, length-node-priorities)
+
+    module _ (n : ℕ) (h : n < length (forest p)) where
+      pub mask-at : Column (nodeMasks p) t → getD t n 0 ≡ maskAt (forest p) n
+      unfolding nodeMasks node
+      mask-at c = column-at (λ (x : Node). x .mask) (forest p) c (record { mask = 0; parent = 0; level = 0; accepted = false }) n h
+
+      pub parent-at : Column (nodeParents p) t → getD t n 0 ≡ parentAt (forest p) n
+      unfolding nodeParents node
+      parent-at c = column-at (λ (x : Node). x .parent) (forest p) c (record { mask = 0; parent = 0; level = 0; accepted = false }) n h
+
+      pub node-priority-at : Column (nodePriorities p) t → getD t n 0 ≡ priority p (node (forest p) n)
+      unfolding nodePriorities node
+      node-priority-at c = column-at (priority p) (forest p) c (record { mask = 0; parent = 0; level = 0; accepted = false }) n h

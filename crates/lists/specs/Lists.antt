@@ -1,4 +1,4 @@
--- Tests, filters and searches on lists. Written to be computed: a recursive call is bound by `let`, and made only where it is needed.
+-- Tests, filters and searches on lists, the greatest and the lowest number of a list. Written to be computed: a recursive call is bound by `let`, and made only where it is needed.
 use Prim.Native.Nat.{ℕ, zero, suc, _+_, _<_, min, max}
 use mathlib.Core.Logic.{_≢_}
 use mathlib.Core.Bool.{Bool, true, false, _&&_, _||_, cond}

@@ -20,10 +20,10 @@ use Rattle.forest.specs.Forest.{Node, forest, priority, transientPriority, node
 use Rattle.forest.specs.Laws.{ForestLaws, maskAt, parentAt, rootAt}
 use Rattle.forest.proofs.Chains.{chain-self, chain-le, chain-lt, chain-parent, chain-trans, chain-linear, chain-top}
 use Rattle.forest.proofs.Forest.{forest-laws}
+use Rattle.forest.proofs.Columns.{masks-long, parents-long, node-priorities-long, mask-at, parent-at, node-priority-at}
 use Rattle.automaton.specs.Automaton.{orElse, deepest, lead, leaves, priorityAfter}
 use Rattle.automaton.specs.Stages.{Nodes}
 use Rattle.automaton.proofs.Branch.{of-child, chain-inside, child-lt, child-between, lead-is, deepest-mem, deepest-under, deepest-at}
-use Rattle.automaton.proofs.Columns.{masks-long, parents-long, node-priorities-long, mask-at, parent-at, node-priority-at}
 use Rattle.automaton.proofs.EdgeRuns.{Good}
 use Rattle.automaton.proofs.Ends.{root-parent}
 use Rattle.automaton.proofs.Leaves.{leaves-good, meets, root-with, with-root}

@@ -27,10 +27,10 @@ use Rattle.graph.proofs.Cycles.{contains-some, some-contains}
 use Rattle.forest.specs.Forest.{Node, forest, chain, childOf, nodeMasks}
 use Rattle.forest.specs.Laws.{ForestLaws, maskAt}
 use Rattle.forest.proofs.Chains.{chain-le}
+use Rattle.forest.proofs.Columns.{mask-at}
 use Rattle.automaton.specs.Automaton.{holds, isLeaf}
 use Rattle.automaton.specs.Stages.{endOf}
 use Rattle.automaton.proofs.Branch.{child-above, child-lt, child-between}
-use Rattle.automaton.proofs.Columns.{mask-at}
 use Rattle.automaton.proofs.Ends.{end-gt, end-le, under-end, end-under, end-mono, child-ends}
 
 -- ---- the edges that leave a state

@@ -5,7 +5,7 @@ use mathlib.Core.Path.{_≡_, sym, ap, _∙_}
 use lib.ListN.{getD}
 use Rattle.lists.specs.Lists.{greatest}
 use Rattle.tables.specs.Copies.{part}
-use Rattle.decomposition.proofs.FromZero.{part-none, part-more}
+use Rattle.decomposition.proofs.Parts.{part-none, part-more}
 use native.Mathlib.Omega.{arith}
 use borrow.Author.Needs.{needs}
 use Rattle.decomposition.proofs.greatest_in.Statement.{statement}

@@ -3,7 +3,8 @@ use Prim.Native.Nat.{_-_, _≤_}
 use mathlib.Core.Path.{refl}
 use mathlib.Core.Logic.{⊎-elim}
 use Rattle.policy.specs.declared.Policy.{Policy}
-use Rattle.decomposition.proofs.FromZero.{Unraised, Raised, parents-long, raised-none, raised-long, raised-small, raised-accepting, raised-rejecting, raised-child, raised-all}
+use Rattle.forest.proofs.Columns.{parents-long}
+use Rattle.decomposition.proofs.Raising.{Unraised, Raised, raised-none, raised-long, raised-small, raised-accepting, raised-rejecting, raised-child, raised-all}
 use native.Mathlib.Omega.{arith}
 use Rattle.decomposition.proofs.raise.Statement.{statement}
 use Rattle.decomposition.proofs.raise.Tie as tie

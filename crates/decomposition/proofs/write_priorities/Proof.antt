@@ -6,7 +6,8 @@ use Rattle.lists.proofs.Bools.{not-true}
 use Rattle.tables.specs.Tables.{padded}
 use Rattle.forest.specs.Forest.{nodePriorities}
 use lib.ListN.{length}
-use Rattle.decomposition.proofs.FromZero.{kept, one, all-rejecting, plain-long, unraised-table}
+use Rattle.decomposition.proofs.FromZero.{plain-long, unraised-table}
+use Rattle.decomposition.proofs.Heights.{kept, one, all-rejecting}
 use Rattle.decomposition.proofs.write_priorities.Statement.{statement}
 use Rattle.decomposition.proofs.write_priorities.Tie as tie
 

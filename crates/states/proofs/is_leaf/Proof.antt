@@ -7,8 +7,9 @@ use lib.ListN.{length, getD}
 use Rattle.lists.proofs.Bools.{not-true, unnot}
 use Rattle.forest.specs.Forest.{forest}
 use Rattle.forest.proofs.Forest.{forest-laws}
+use Rattle.forest.proofs.Columns.{masks-long}
 use Rattle.automaton.specs.Stages.{endOf}
-use Rattle.automaton.proofs.Columns.{masks-long, ends-long, end-at}
+use Rattle.automaton.proofs.Columns.{ends-long, end-at}
 use Rattle.automaton.proofs.Ends.{end-gt, end-le}
 use Rattle.states.proofs.LeafTests.{AmongChildren, children-start, children-in, children-next, children-found, children-done, leaf-out, column-contains}
 use Rattle.states.proofs.is_leaf.Statement.{statement}
