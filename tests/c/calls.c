@@ -173,10 +173,23 @@ static int nine_hold_b(const uint8_t owners[2]) {
 
 static void version(void) { CHECK(wulfrenda_version() == WULFRENDA_VERSION); }
 
+static int members(uint8_t set) {
+    int n = 0;
+    for (; set != 0; set >>= 1) n += set & 1;
+    return n;
+}
+
+/* From 255 to 0, each of the 256 behind the one before it: fewer members, or as many and a higher mask. */
 static void colour_set(void) {
-    CHECK(wulfrenda_colour_set(0) == 255);
+    uint8_t last = wulfrenda_colour_set(0);
+    CHECK(last == 255);
     CHECK(wulfrenda_colour_set(1) == 127);
-    CHECK(wulfrenda_colour_set(255) == 0);
+    for (unsigned position = 1; position < 256; position++) {
+        uint8_t set = wulfrenda_colour_set((uint8_t)position);
+        CHECK(members(set) < members(last) || (members(set) == members(last) && set > last));
+        last = set;
+    }
+    CHECK(last == 0);
 }
 
 /* What reading refuses: the number, where the refused command begins, and the command bytes. */

@@ -675,5 +675,6 @@ fn the_order_of_the_colour_sets() {
     sets.sort_by_key(|s| (std::cmp::Reverse(s.count_ones()), *s));
     for (position, &set) in sets.iter().enumerate() {
         assert_eq!(wulfrenda::colour_set_at(position as u8), set);
+        assert_eq!(policy::set_at(position as u8), set);
     }
 }

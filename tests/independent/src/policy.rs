@@ -14,6 +14,18 @@ pub struct Policy {
     pub family: Vec<bool>,
 }
 
+/// The colour set at a position of document 01's order, with no table: sizes are passed by how many sets they have, and in the size the masks are passed in turn.
+pub fn set_at(position: u8) -> u8 {
+    let (mut size, mut sets, mut left) = (8, 1, usize::from(position));
+    while left >= sets {
+        left -= sets;
+        sets = sets * size / (9 - size);
+        size -= 1;
+    }
+    let mut alike = (0..=u8::MAX).filter(|set| set.count_ones() as usize == size);
+    alike.nth(left).unwrap()
+}
+
 impl Policy {
     pub fn source(&self, e: usize) -> usize {
         e / self.letters

@@ -290,7 +290,7 @@ fn main() {
     );
     solving("the hardest found", std::slice::from_ref(&hard));
 
-    println!("\n| call | ours | independent | ns a letter or edge | ratio |");
+    println!("\n| call | ours | independent | ns a letter, edge or set | ratio |");
     println!("|---|---:|---:|---:|---:|");
     let p = &alternating[0];
     let ours = wulfrenda::Policy::from_record(p.record());
@@ -396,6 +396,23 @@ fn main() {
             ),
         );
     }
+    // neither side has a table
+    line(
+        "the 256 colour sets by position, a call for each",
+        256,
+        best(
+            || {
+                for position in 0..=u8::MAX {
+                    black_box(wulfrenda::colour_set_at(black_box(position)));
+                }
+            },
+            || {
+                for position in 0..=u8::MAX {
+                    black_box(policy::set_at(black_box(position)));
+                }
+            },
+        ),
+    );
 
     println!("\n| call | stack in bytes, 4,096 or more |");
     println!("|---|---:|");
