@@ -7,17 +7,19 @@ use native.Mathlib.Numerals.{add-one}
 use mathlib.Core.Path.{_≡_, refl, sym, ap, ap₂, _∙_, subst}
 use mathlib.Core.Logic.{_≢_}
 use mathlib.Core.Bool.{Bool, true, false, _||_, not, cond}
-use mathlib.Core.List.{List, [], _∷_, _++_}
+use mathlib.Core.List.{List}
 use lib.Dec.{eqb}
-use lib.ListN.{length, getD, take, set, length-set}
-use lib.Seq.{take-suc, take-all, length-take-le, getD-take}
+use lib.ListN.{length, getD, take, set}
+use lib.Seq.{sets, take-suc, take-all, length-take-le}
 use Rattle.lists.specs.Lists.{any, greatest}
 use Rattle.lists.proofs.Bools.{or-left, or-right}
 use Rattle.lists.proofs.AnyAll.{any-snoc}
 use Rattle.lists.proofs.Extremes.{greatest-none, greatest-more}
-use Rattle.tables.specs.Tables.{padded, zeros}
-use Rattle.tables.proofs.Tables.{zeros-padded, length-padded, getD-padded, padded-more}
+use Rattle.tables.specs.Tables.{padded}
 use Rattle.tables.specs.Copies.{part}
+use Rattle.tables.proofs.Tables.{length-padded}
+use Rattle.tables.proofs.Copies.{Copying, copying-none, copying-long, copying-all}
+use Rattle.tables.proofs.Columns.{copying-next, copying-at, sets-over}
 use Rattle.policy.specs.declared.Policy.{Policy}
 use Rattle.policy.specs.Policies.{legal}
 use Rattle.policy.specs.Policies as Policies
@@ -30,28 +32,6 @@ use Rattle.decomposition.specs.NodeTables.{NodeColumns}
 use Rattle.decomposition.proofs.Plain.{plain-root, plain-child, length-plain, plain-at, numbers, plain-small, parent-is, is-root, is-child, parent-before, same-tree}
 use Rattle.decomposition.proofs.Parts.{part-none, tree-first, tree-more}
 use Rattle.decomposition.proofs.Heights.{nodeHeights, length-heights, heights-at, plain-height, greatest-height, one-verdict}
-
--- ---- the table t holds the first n entries of the column l
-module _ (l t : List ℕ) where
-  column-none : t ≡ zeros t → t ≡ padded (length t) (take 0 l)
-  column-none e = e ∙ zeros-padded t
-
-  module _ (n : ℕ) (e : t ≡ padded (length t) (take n l)) where
-    column-at : n ≤ length l → (j : ℕ) → j < n → getD t j 0 ≡ getD l j 0
-    column-at h j k =
-        ap (λ (u : List ℕ). getD u j 0) e ∙ getD-padded (length t) (take n l) j (omega (arith, length-take-le n l h)) ∙ getD-take n l j 0 k
-
-    column-more : n < length l → n < length t → (x : ℕ) → x ≡ getD l n 0 → set t n x ≡ padded (length (set t n x)) (take (n + 1) l)
-    column-more h k x d =
-        let q : length (take n l) ≡ n = length-take-le n l (omega arith) in
-        let step : set (padded (length t) (take n l)) n x ≡ padded (length t) (take n l ++ (x ∷ [])) =
-        subst (λ (i : ℕ). set (padded (length t) (take n l)) i x ≡ padded (length t) (take n l ++ (x ∷ []))) q (padded-more (length t) (take n l) x (omega (arith, q))) in
-        let longer : take n l ++ (x ∷ []) ≡ take (n + 1) l =
-        ap (λ (y : ℕ). take n l ++ (y ∷ [])) d ∙ sym (take-suc l n 0 h) ∙ ap (λ (i : ℕ). take i l) (sym (add-one n)) in
-        ap (λ (u : List ℕ). set u n x) e ∙ step ∙ ap₂ padded (sym (length-set t n x)) longer
-
-    column-whole : length l ≤ n → t ≡ padded (length t) l
-    column-whole h = e ∙ ap (padded (length t)) (take-all n l h)
 
 -- ---- some root of the first n nodes is accepting
 module _ (p : Policy) where
@@ -83,9 +63,7 @@ abbrev pub topFrom : ℕ → ℕ → List ℕ → ℕ
 topFrom first n r = greatest (part (n - first) first r)
 
 pub record FromZero (p : Policy) (r₀ r : List ℕ) (n most first lift : ℕ) : Type 0 where
-  pub at-most : n ≤ length (forest p)
-  pub long : length r ≡ length r₀
-  pub are : r ≡ padded (length r) (take n (plainPriorities p))
+  pub are : Copying (plainPriorities p) r₀ 0 r n
   pub first-le : first ≤ n
   pub most-is : max most (2 * topFrom first n r + lift) ≡ greatest (take n (nodeHeights p))
   pub top-few : topFrom first n r ≤ 100
@@ -96,11 +74,9 @@ pub record FromZero (p : Policy) (r₀ r : List ℕ) (n most first lift : ℕ) :
   pub one : first ≡ 0 → (m : ℕ) → m < n → cond (node (forest p) m .accepted) 3 0 ≡ lift
   pub both : first ≢ 0 → seen p n ≡ true
 
-pub from-zero-none : (p : Policy) (r : List ℕ) → r ≡ zeros r → FromZero p r r 0 0 0 0
-from-zero-none p r e = record {
-  at-most = omega arith;
-  long = refl;
-  are = column-none (plainPriorities p) r e;
+pub from-zero-none : (p : Policy) (r : List ℕ) → FromZero p r r 0 0 0 0
+from-zero-none p r = record {
+  are = copying-none (plainPriorities p) r 0;
   first-le = omega arith;
   most-is = ap (λ (k : ℕ). max 0 (2 * k + 0)) (sym (part-none r 0)) ∙ greatest-none (nodeHeights p);
   top-few = omega (arith, part-none r 0);
@@ -110,11 +86,16 @@ from-zero-none p r e = record {
   both = λ h. absurd (h refl);
 }
 
+pub from-zero-le : {p : Policy} {masks parents r₀ r : List ℕ} {count n most first lift : ℕ} → NodeColumns p masks parents count → FromZero p r₀ r n most first lift → n ≤ count
+from-zero-le {p} w v = omega (arith, v .are .at-most, length-plain p, w .all)
+
 module _ {p : Policy} (lawful : legal p ≡ true) {masks parents r₀ r : List ℕ} {count n most first lift : ℕ} (w : NodeColumns p masks parents count) (v : FromZero p r₀ r n most first lift) (room : count ≤ length r₀) where
   -- ---- all are
   module _ (h : count ≤ n) where
-    pub from-zero-all : r ≡ padded (length r₀) (plainPriorities p)
-    from-zero-all = column-whole (plainPriorities p) r n (v .are) (omega (arith, length-plain p, w .all)) ∙ ap (λ (k : ℕ). padded k (plainPriorities p)) (v .long)
+    pub from-zero-all : r₀ ≡ padded (length r₀) (take count r₀) → r ≡ padded (length r₀) (plainPriorities p)
+    from-zero-all e =
+        let long = length-take-le count r₀ room in
+        copying-all (v .are) (omega (arith, length-plain p, w .all)) ∙ ap (λ (t : List ℕ). sets t 0 (plainPriorities p)) e ∙ sets-over (length r₀) (take count r₀) (plainPriorities p) (omega (arith, long, length-plain p, w .all)) (omega (arith, long))
 
     -- with roots of one verdict
     pub begins-alike : first ≡ 0 → {b : Bool} → b ≡ not (eqb lift 0) → (b ≡ fromZero p) × (b ≡ someAccepting p)
@@ -140,14 +121,12 @@ module _ {p : Policy} (lawful : legal p ≡ true) {masks parents r₀ r : List �
     few = omega (arith, w .all, w .few)
 
     pub from-zero-long : n < length r
-    from-zero-long = omega (arith, v .long)
+    from-zero-long = omega (arith, copying-long (v .are))
 
     more : (x : ℕ) {most′ first′ lift′ : ℕ} → x ≡ plainPriority (node (forest p) n) → lift′ ≡ cond (node (forest p) n .accepted) 3 0 → first′ ≤ n → max most′ (2 * topFrom first′ (n + 1) (set r n x) + lift′) ≡ max (max most (2 * topFrom first n r + lift)) (2 * x + lift′)
         → topFrom first′ (n + 1) (set r n x) ≤ 100 → (first′ ≡ 0 → (m : ℕ) → m < n → cond (node (forest p) m .accepted) 3 0 ≡ lift′) → (first′ ≢ 0 → seen p (n + 1) ≡ true) → FromZero p r₀ (set r n x) (n + 1) most′ first′ lift′
     more x {most′} {first′} {lift′} e el ef em et eo eb = record {
-      at-most = omega (arith, w .all);
-      long = length-set r n x ∙ v .long;
-      are = column-more (plainPriorities p) r n (v .are) (omega (arith, length-plain p, w .all)) from-zero-long x (e ∙ sym (plain-at p n here));
+      are = copying-next (v .are) (omega (arith, length-plain p, w .all)) x (e ∙ sym (plain-at p n here));
       first-le = omega (arith, ef);
       most-is = em ∙ ap₂ max (v .most-is) (plain-height (node (forest p) n) x lift′ e el ∙ sym (heights-at p n here)) ∙ sym (greatest-more (nodeHeights p) n (omega (arith, length-heights p, here)));
       top-few = et;
@@ -230,11 +209,11 @@ module _ {p : Policy} (lawful : legal p ≡ true) {masks parents r₀ r : List �
 
       plain-before : getD r (getD parents n 0) 0 ≡ plainPriority (node (forest p) (parentAt (forest p) n))
       plain-before =
-          column-at (plainPriorities p) r n (v .are) (omega (arith, length-plain p, v .at-most)) (getD parents n 0) before ∙ plain-at p (getD parents n 0) (omega (arith, before, here))
+          copying-at (v .are) (omega (arith, length-plain p, w .all)) (getD parents n 0) before ∙ plain-at p (getD parents n 0) (omega (arith, before, here))
           ∙ ap (λ (i : ℕ). plainPriority (node (forest p) i)) up
 
       pub from-zero-parent : (getD parents n 0 < length r) × (getD r (getD parents n 0) 0 < 100)
-      from-zero-parent = (omega (arith, before, v .long), omega (arith, plain-before, plain-small p lawful (parentAt (forest p) n) (omega (arith, up, before, here))))
+      from-zero-parent = (omega (arith, before, from-zero-long), omega (arith, plain-before, plain-small p lawful (parentAt (forest p) n) (omega (arith, up, before, here))))
 
       pub from-zero-child : {x most′ first′ lift′ : ℕ} → x ≡ getD r (getD parents n 0) 0 + 1 → most′ ≡ most → first′ ≡ first → lift′ ≡ lift → FromZero p r₀ (set r n x) (n + 1) most′ first′ lift′
       from-zero-child {x} e em ef el = rw (em, ef, el) (alike x is (same n refl before))

@@ -1,7 +1,7 @@
 -- Two more for accepting trees, where priorities begin at 1: the first n nodes have their priorities. Assumes nothing.
 use Prim.Native.Nat.{ℕ, zero, suc, _+_, _≤_, _<_}
 use native.Mathlib.Omega.{arith}
-use mathlib.Core.Path.{_≡_, refl, sym, ap, _∙_, subst}
+use mathlib.Core.Path.{_≡_, refl, sym, ap, _∙_}
 use mathlib.Core.Logic.{_⊎_, inl, inr, _≢_}
 use mathlib.Core.Bool.{Bool, true, false, cond}
 use mathlib.Core.List.{List}
@@ -10,8 +10,8 @@ use lib.Seq.{sets, length-take-le}
 use Rattle.lists.proofs.Bools.{test}
 use Rattle.tables.specs.Tables.{padded, Column}
 use Rattle.tables.proofs.Tables.{getD-padded}
-use Rattle.tables.proofs.Columns.{sets-past, sets-over}
-use Rattle.tables.proofs.Copies.{Copying, copying-none, copying-long, copying-more, copying-all}
+use Rattle.tables.proofs.Columns.{copying-next, sets-past, sets-over}
+use Rattle.tables.proofs.Copies.{Copying, copying-none, copying-long, copying-all}
 use Rattle.policy.specs.declared.Policy.{Policy}
 use Rattle.policy.specs.Policies.{legal}
 use Rattle.forest.specs.Forest.{forest, node, fromZero, priority, nodeParents, nodePriorities}
@@ -62,7 +62,7 @@ module _ (p : Policy) where
 
       raised-more : (x more′ : ℕ) → more′ ≡ cond (node (forest p) n .accepted) 2 0 → x ≡ getD t n 0 + more′ → Raised t₀ (set t n x) (n + 1) more′
       raised-more x more′ em e = record {
-        is = let z : 0 + n ≡ n = omega arith in subst (λ (k : ℕ). Copying (nodePriorities p) t₀ 0 (set t k x) (n + 1)) z (copying-more (v .is) (omega (arith, length-node-priorities p, there)) x (priority-here (test (node (forest p) n .accepted)) ∙ sym (node-priorities-at p n there)));
+        is = copying-next (v .is) (omega (arith, length-node-priorities p, there)) x (priority-here (test (node (forest p) n .accepted)) ∙ sym (node-priorities-at p n there));
         more-is = λ m q. let same : n ≡ m = omega (arith, q) in em ∙ ap (λ (i : ℕ). cond (node (forest p) i .accepted) 2 0) same;
       }
         where

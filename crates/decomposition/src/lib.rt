@@ -3,11 +3,11 @@
 ghost use mathlib.Core.Path.{_≡_};
 ghost use mathlib.Core.Bool.{true, false, cond};
 ghost use Prim.Native.Nat.{_-_, _≤_, max};
-ghost use lib.ListN.{length};
+ghost use lib.ListN.{length, take};
 ghost use Rattle.policy.specs.Policies.{accepting, legal};
 ghost use Rattle.policy.specs.ByColour.{byColour};
 ghost use Rattle.lists.specs.Lists.{greatest};
-ghost use Rattle.tables.specs.Tables.{zeros, padded, Column};
+ghost use Rattle.tables.specs.Tables.{padded, Column};
 ghost use Rattle.tables.specs.Copies.{part};
 ghost use Rattle.forest.specs.Forest.{forest, fromZero, transientPriority, nodeParents, nodePriorities};
 ghost use Rattle.decomposition.specs.FromZero.{plainPriorities, someAccepting};
@@ -59,9 +59,9 @@ struct Beginning {
     accepting: bool,
 }
 
-// The priorities of all nodes as if they began at 0, in a table that is cleared: a child's is one more than its parent's. Trees in a row whose roots have one verdict
-// are looked at together, and only where another verdict follows: those at hand begin at node `first`, and in them twice a priority and `lift` make a height; `most`
-// is the greatest height before them.
+// The priorities of all nodes as if they began at 0, in a table that is cleared past them: a child's is one more than its parent's. Trees in a row whose roots have
+// one verdict are looked at together, and only where another verdict follows: those at hand begin at node `first`, and in them twice a priority and `lift` make a
+// height; `most` is the greatest height before them.
 fn number_from_zero(
     p: Policy,
     by: &[u64; 8],
@@ -74,7 +74,7 @@ fn number_from_zero(
     requires lawful { ⌜ legal p ≡ true ⌝ }
     requires lent { ⌜ (now by ≡ byColour p) × (now family ≡ p .family) ⌝ }
     requires nodes { ⌜ NodeColumns p (now masks) (now parents) count ⌝ }
-    requires cleared { ⌜ (count ≤ length (now «node_priorities»)) × (now «node_priorities» ≡ zeros (now «node_priorities»)) ⌝ }
+    requires cleared { ⌜ (count ≤ length (now «node_priorities»)) × (now «node_priorities» ≡ padded (length (now «node_priorities»)) (take count (now «node_priorities»))) ⌝ }
     ensures beginning { λ r. ⌜ (r .«from_zero» ≡ fromZero p) × (r .accepting ≡ someAccepting p) ⌝ }
     ensures table { λ _. ⌜ now («node_priorities» .exit) ≡ padded (length (now («node_priorities» .entry))) (plainPriorities p) ⌝ }
 {
@@ -127,7 +127,7 @@ fn raise(p: Policy, parents: &[u16], node_priorities: &mut [u8], count: usize)
     }
 }
 
-// The priorities of all nodes, in a table that is cleared. Given back: the lowest of them.
+// The priorities of all nodes, in a table that is cleared past them. Given back: the lowest of them.
 fn write_priorities(
     p: Policy,
     by: &[u64; 8],
@@ -140,7 +140,7 @@ fn write_priorities(
     requires lawful { ⌜ legal p ≡ true ⌝ }
     requires lent { ⌜ (now by ≡ byColour p) × (now family ≡ p .family) ⌝ }
     requires nodes { ⌜ NodeColumns p (now masks) (now parents) count ⌝ }
-    requires cleared { ⌜ (count ≤ length (now «node_priorities»)) × (now «node_priorities» ≡ zeros (now «node_priorities»)) ⌝ }
+    requires cleared { ⌜ (count ≤ length (now «node_priorities»)) × (now «node_priorities» ≡ padded (length (now «node_priorities»)) (take count (now «node_priorities»))) ⌝ }
     ensures lowest { λ r. ⌜ r ≡ transientPriority p ⌝ }
     ensures table { λ _. ⌜ now («node_priorities» .exit) ≡ padded (length (now («node_priorities» .entry))) (nodePriorities p) ⌝ }
 {
@@ -153,15 +153,6 @@ fn write_priorities(
     }
     raise(p, parents, node_priorities, count);
     1
-}
-
-// 0 in every place.
-fn clear_nodes(masks: &mut [u64], parents: &mut [u16], node_priorities: &mut [u8])
-    ensures { λ _. ⌜ (now (masks .exit) ≡ zeros (now (masks .entry))) × (now (parents .exit) ≡ zeros (now (parents .entry))) × (now («node_priorities» .exit) ≡ zeros (now («node_priorities» .entry))) ⌝ }
-{
-    tables::clear64(masks);
-    tables::clear16(parents);
-    tables::clear8(node_priorities);
 }
 
 // The nodes of the forest, in tables of one length. Where they do not fit, every place is 0. This is an inner layer: its callers have asked whether the policy is legal.
@@ -178,12 +169,15 @@ pub fn fill_nodes<'a>(
     requires tables { ⌜ (legal p ≡ true) × (length (now parents) ≡ length (now masks)) × (length (now «node_priorities») ≡ length (now masks)) ⌝ }
     ensures { λ r. ⌜ Fills p (nodeTables (now (masks .entry)) (now (parents .entry)) (now («node_priorities» .entry))) r (nodeTables (now (masks .exit)) (now (parents .exit)) (now («node_priorities» .exit))) ⌝ }
 {
-    clear_nodes(masks, parents, node_priorities);
+    tables::clear64(masks);
+    tables::clear16(parents);
     let by = policy::by_colour(p, colours);
     let count = columns::fill_columns(p, heads, colours, &by, family, masks, parents);
     if tables::places(masks.len()) < count {
+        tables::clear8(node_priorities);
         return Filled::TooMany;
     }
+    tables::clear8_past(node_priorities, count);
     let transient = write_priorities(p, &by, family, masks, parents, node_priorities, count);
     Filled::Nodes(count, transient)
 }

@@ -2,12 +2,13 @@
 use Prim.Native.Nat.{ℕ, zero, suc, _+_, _-_, _≤_, _<_}
 use native.Mathlib.Omega.{arith}
 use native.Mathlib.Decide.{decLt}
-use mathlib.Core.Path.{_≡_, refl, sym, ap, _∙_}
+use mathlib.Core.Path.{_≡_, refl, sym, ap, _∙_, subst}
 use mathlib.Core.List.{List, [], _∷_, _++_, map}
-use lib.ListN.{length, getD, drop, replicate, length-map, List·getD-append}
-use lib.Seq.{sets, length-sets, sets-eq, getD-drop, getD-append-add, drop-append-seam, ext-getD}
+use lib.ListN.{length, getD, take, drop, set, replicate, length-map, List·getD-append}
+use lib.Seq.{sets, length-sets, sets-eq, length-take-le, getD-take, getD-drop, getD-append-add, drop-append-seam, ext-getD}
 use Rattle.tables.specs.Tables.{padded, Column}
 use Rattle.tables.proofs.Tables.{length-padded, getD-padded}
+use Rattle.tables.proofs.Copies.{Copying, copying-more}
 
 pub column-padded : (n : ℕ) (l : List ℕ) → length l ≤ n → Column l (padded n l)
 column-padded n l h = record { long = omega (arith, length-padded n l h); each = λ i q. getD-padded n l i q }
@@ -36,6 +37,16 @@ module _ (t l : List ℕ) (h : length l ≤ length t) where
       go : (i : ℕ) → Dec (i < length l) → getD u i 0 ≡ getD (sets t 0 l) i 0
       go i (yes k) = c .each i k ∙ sym (column-sets .each i k)
       go i (no k) = past i (omega arith) ∙ sym (sets-past i (omega arith))
+
+-- a copy from the front: a place more, and what was copied
+module _ {xs t₀ t : List ℕ} {j : ℕ} (v : Copying xs t₀ 0 t j) where
+  pub copying-next : j < length xs → (x : ℕ) → x ≡ getD xs j 0 → Copying xs t₀ 0 (set t j x) (j + 1)
+  copying-next h x e = let z : 0 + j ≡ j = omega arith in subst (λ (k : ℕ). Copying xs t₀ 0 (set t k x) (j + 1)) z (copying-more v h x e)
+
+  pub copying-at : length xs ≤ length t₀ → (i : ℕ) → i < j → getD t i 0 ≡ getD xs i 0
+  copying-at h i l =
+      let long = length-take-le j xs (v .at-most) in
+      ap (λ (u : List ℕ). getD u i 0) (v .is) ∙ column-sets t₀ (take j xs) (omega (arith, long, v .at-most)) .each i (omega (arith, long)) ∙ getD-take j xs i 0 l
 
 -- stored over another list of its length
 pub sets-over : (n : ℕ) (k l : List ℕ) → length l ≡ length k → length k ≤ n → sets (padded n k) 0 l ≡ padded n l

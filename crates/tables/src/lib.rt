@@ -1,10 +1,10 @@
-// Lent tables: how many places count; every place of one set to 0, at the three widths that tables have; a part of one copied to a later place; and an entry as a place.
+// Lent tables: how many places count; every place of one set to 0, at the three widths that tables have, or those past a beginning; a part of one copied to a later place; and an entry as a place.
 ghost use mathlib.Core.Path.{_≡_};
 ghost use mathlib.Core.List.{List·Memᴰ};
 ghost use Prim.Native.Nat.{ℕ, _+_, _-_, _<_, _≤_, min};
-ghost use lib.ListN.{length};
+ghost use lib.ListN.{length, take};
 ghost use lib.Seq.{sets};
-ghost use Rattle.tables.specs.Tables.{zeros};
+ghost use Rattle.tables.specs.Tables.{zeros, padded};
 ghost use Rattle.tables.specs.Copies.{part, moved};
 
 // How many places of a table of n places count.
@@ -37,6 +37,15 @@ pub fn clear8(t: &mut [u8])
     ensures { λ _. ⌜ now (t .exit) ≡ zeros (now (t .entry)) ⌝ }
 {
     for i in 0..t.len() {
+        t[i] = 0;
+    }
+}
+
+// 0 in every place from place `from` on.
+pub fn clear8_past(t: &mut [u8], from: usize)
+    ensures { λ _. ⌜ now (t .exit) ≡ padded (length (now (t .entry))) (take from (now (t .entry))) ⌝ }
+{
+    for i in from..t.len() {
         t[i] = 0;
     }
 }

@@ -4,7 +4,8 @@ use native.Mathlib.Nat.{le-antisymm}
 use mathlib.Core.Path.{_≡_, refl, ap, _∙_}
 use mathlib.Core.Logic.{⊎-elim, _≢_}
 use lib.ListN.{length, getD}
-use Rattle.decomposition.proofs.FromZero.{columns-long, topFrom, FromZero, from-zero-none, from-zero-long, root-few, from-zero-other, from-zero-alike, from-zero-parent, from-zero-child, from-zero-all, begins-alike, begins-by-height}
+use Rattle.tables.proofs.Copies.{copying-long}
+use Rattle.decomposition.proofs.FromZero.{columns-long, from-zero-le, topFrom, FromZero, from-zero-none, from-zero-long, root-few, from-zero-other, from-zero-alike, from-zero-parent, from-zero-child, from-zero-all, begins-alike, begins-by-height}
 use native.Mathlib.Omega.{arith}
 use borrow.Author.Needs.{needs}
 use Rattle.decomposition.proofs.number_from_zero.Statement.{statement}
@@ -35,10 +36,10 @@ whole : (c : tie.After-loop Inv-loop μ-loop)
 whole c =
     let s = start (c .before .before) in
     let v = c .before .loop .inv in
-    ap (λ (k : ℕ). topFrom (c .before .loop .first) k (c .before .loop .node-priorities)) (le-antisymm (c .loop-test .left) (omega (arith, v .at-most, s .pre .1 .1 .0 .all)))
+    ap (λ (k : ℕ). topFrom (c .before .loop .first) k (c .before .loop .node-priorities)) (le-antisymm (c .loop-test .left) (from-zero-le (s .pre .1 .1 .0) v))
 
 loop-holds : tie.Need-loop-holds Inv-loop μ-loop
-loop-holds c = let s = start c in from-zero-none (s .args .p) (s .args .node-priorities .now) (s .pre .1 .1 .1 .1)
+loop-holds c = let s = start c in from-zero-none (s .args .p) (s .args .node-priorities .now)
 
 mul-parent : tie.Need-mul-parent Inv-loop μ-loop
 mul-parent c = omega (arith, c .loop-test .taken, start (c .before .before) .pre .1 .1 .0 .few)
@@ -80,7 +81,7 @@ greater-requires : tie.Need-greater-requires Inv-loop μ-loop
 greater-requires c κs = search needs
 
 cast-priority : tie.Need-cast-priority Inv-loop μ-loop
-cast-priority c = omega (arith, parent-known (c .before .before) (c .if1 .left) .0)
+cast-priority c = omega (arith, parent-known (c .before .before) (c .if1 .left) .0, copying-long (c .before .before .before .loop .inv .are))
 
 slice-read-priority : tie.Need-slice-read-priority Inv-loop μ-loop
 slice-read-priority c = parent-known (c .before .before .before) (c .before .if1 .left) .0
@@ -108,20 +109,20 @@ loop-again c =
     (λ w. from-zero-child (s .pre .0) (s .pre .1 .1 .0) (l .loop .inv) (s .pre .1 .1 .1 .0) i (w .0 .left) (w .5) (w .2) (w .3) (w .4))) (c .if1 .came)
 
 same-length : tie.Need-same-length Inv-loop μ-loop
-same-length c = c .before .before .loop .inv .long
+same-length c = copying-long (c .before .before .loop .inv .are)
 
 returns : tie.Need-returns Inv-loop μ-loop
 returns c =
     let s = start (c .before .before .before) in
     let v = c .before .before .loop .inv in
     let h = c .before .loop-test .left in
-    (begins-alike (s .pre .0) (s .pre .1 .1 .0) v (s .pre .1 .1 .1 .0) h (c .if3 .taken) refl, from-zero-all (s .pre .0) (s .pre .1 .1 .0) v (s .pre .1 .1 .1 .0) h)
+    (begins-alike (s .pre .0) (s .pre .1 .1 .0) v (s .pre .1 .1 .1 .0) h (c .if3 .taken) refl, from-zero-all (s .pre .0) (s .pre .1 .1 .0) v (s .pre .1 .1 .1 .0) h (s .pre .1 .1 .1 .1))
 
 greatest-in-requires-2 : tie.Need-greatest-in-requires-2 Inv-loop μ-loop
 greatest-in-requires-2 c κs =
     let l = c .before .before .before in
     let s = start (l .before) in
-    (omega (arith, l .loop .inv .first-le, l .loop .inv .at-most, s .pre .1 .1 .0 .all), omega (arith, s .pre .1 .1 .1 .0, l .loop .inv .long))
+    (omega (arith, l .loop .inv .first-le, from-zero-le (s .pre .1 .1 .0) (l .loop .inv)), omega (arith, s .pre .1 .1 .1 .0, copying-long (l .loop .inv .are)))
 
 mul-greater-2 : tie.Need-mul-greater-2 Inv-loop μ-loop
 mul-greater-2 c = omega (arith, c .greatest-in2 .ensures, whole (c .before .before .before), c .before .before .before .before .loop .inv .top-few)
@@ -133,7 +134,7 @@ greater-requires-2 : tie.Need-greater-requires-2 Inv-loop μ-loop
 greater-requires-2 c κs = search needs
 
 same-length-2 : tie.Need-same-length-2 Inv-loop μ-loop
-same-length-2 c = c .before .before .before .before .before .loop .inv .long
+same-length-2 c = copying-long (c .before .before .before .before .before .loop .inv .are)
 
 returns-2 : tie.Need-returns-2 Inv-loop μ-loop
 returns-2 c =
@@ -141,7 +142,7 @@ returns-2 c =
     let s = start (l .before) in
     let h = c .before .before .before .before .loop-test .left in
     let height = c .greater2 .ensures ∙ ap (λ (k : ℕ). max (l .loop .most) (2 * k + l .loop .lift)) (c .before .greatest-in2 .ensures ∙ whole (c .before .before .before .before)) in
-    (begins-by-height (s .pre .0) (s .pre .1 .1 .0) (l .loop .inv) (s .pre .1 .1 .1 .0) h (c .before .before .before .if3 .left) height, from-zero-all (s .pre .0) (s .pre .1 .1 .0) (l .loop .inv) (s .pre .1 .1 .1 .0) h)
+    (begins-by-height (s .pre .0) (s .pre .1 .1 .0) (l .loop .inv) (s .pre .1 .1 .1 .0) h (c .before .before .before .if3 .left) height, from-zero-all (s .pre .0) (s .pre .1 .1 .0) (l .loop .inv) (s .pre .1 .1 .1 .0) h (s .pre .1 .1 .1 .1))
 
 pub number-from-zero-spec : {M : Type 1} → statement M
 number-from-zero-spec =
