@@ -60,8 +60,8 @@ struct Beginning {
 }
 
 // The priorities of all nodes as if they began at 0, in a table that is cleared past them: a child's is one more than its parent's. Trees in a row whose roots have
-// one verdict are looked at together, and only where another verdict follows: those at hand begin at node `first`, and in them twice a priority and `lift` make a
-// height; `most` is the greatest height before them.
+// one verdict are looked at together, and only if a root of the other verdict is met. Those at hand begin at node `first`; `lift` is 3 if they are accepting and
+// otherwise 0, and twice a priority with it is a height; `most` is the greatest height before them. Priorities begin at 0 exactly if the greatest height is odd.
 fn number_from_zero(
     p: Policy,
     by: &[u64; 8],
