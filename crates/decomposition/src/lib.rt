@@ -2,7 +2,7 @@
 // Beside a policy stand its arrays, lent: `heads` are the targets of its edges, `colours` their colours; `by` has the edges of each colour.
 ghost use mathlib.Core.Path.{_≡_};
 ghost use mathlib.Core.Bool.{true, false, cond};
-ghost use Prim.Native.Nat.{_-_, _≤_, max};
+ghost use Prim.Native.Nat.{_+_, _-_, _*_, _≤_, max};
 ghost use lib.ListN.{length, take};
 ghost use Rattle.policy.specs.Policies.{accepting, legal};
 ghost use Rattle.policy.specs.ByColour.{byColour};
@@ -53,6 +53,14 @@ fn greatest_in(t: &[u8], from: usize, to: usize) -> u8
     most
 }
 
+// Twice a node's level, and 3 more in an accepting tree or 2 in a rejecting one: by its priority as if they began at 0, and its root's.
+fn height(priority: u8, root: u8) -> u8
+    requires { ⌜ (priority ≤ 100) × (root ≤ 1) ⌝ }
+    ensures { λ r. ⌜ r ≡ 2 * priority + (3 - 3 * root) ⌝ }
+{
+    2 * priority + (3 - 3 * root)
+}
+
 // Whether priorities begin at 0, and whether some root is accepting.
 struct Beginning {
     from_zero: bool,
@@ -60,8 +68,8 @@ struct Beginning {
 }
 
 // The priorities of all nodes as if they began at 0, in a table that is cleared past them: a child's is one more than its parent's. Trees in a row whose roots have
-// one verdict are looked at together, and only if a root of the other verdict is met. Those at hand begin at node `first`; `lift` is 3 if they are accepting and
-// otherwise 0, and twice a priority with it is a height; `most` is the greatest height before them. Priorities begin at 0 exactly if the greatest height is odd.
+// one verdict are looked at together, and only if a root of the other verdict is met: those at hand begin at node `first`, their roots have priority `root`, and `most`
+// is the greatest height before them. Priorities begin at 0 exactly if the greatest height is odd.
 fn number_from_zero(
     p: Policy,
     by: &[u64; 8],
@@ -80,17 +88,16 @@ fn number_from_zero(
 {
     let mut most: u8 = 0;
     let mut first: usize = 0;
-    let mut lift: u8 = 0;
+    let mut root: u8 = 1;
     for n in 0..count {
         let parent = parents[n];
         let mut priority: u8 = 0;
         if parent == 65535 {
             priority = root_priority(p, by, family, masks[n]);
-            let own = 3 - 3 * priority;
-            if own != lift {
-                most = greater(most, 2 * greatest_in(node_priorities, first, n) + lift);
+            if priority != root {
+                most = greater(most, height(greatest_in(node_priorities, first, n), root));
                 first = n;
-                lift = own;
+                root = priority;
             }
         } else {
             priority = node_priorities[parent as usize] + 1;
@@ -99,13 +106,16 @@ fn number_from_zero(
     }
     if first == 0 {
         return Beginning {
-            from_zero: lift != 0,
-            accepting: lift != 0,
+            from_zero: root == 0,
+            accepting: root == 0,
         };
     }
-    let height = greater(most, 2 * greatest_in(node_priorities, first, count) + lift);
+    let top = greater(
+        most,
+        height(greatest_in(node_priorities, first, count), root),
+    );
     Beginning {
-        from_zero: height % 2 == 1,
+        from_zero: top % 2 == 1,
         accepting: true,
     }
 }

@@ -5,17 +5,17 @@ use mathlib.Core.Path.{_≡_, refl, ap, _∙_}
 use mathlib.Core.Logic.{⊎-elim, _≢_}
 use lib.ListN.{length, getD}
 use Rattle.tables.proofs.Copies.{copying-long}
-use Rattle.decomposition.proofs.FromZero.{columns-long, from-zero-le, topFrom, FromZero, from-zero-none, from-zero-long, root-few, from-zero-other, from-zero-alike, from-zero-parent, from-zero-child, from-zero-all, begins-alike, begins-by-height}
+use Rattle.decomposition.proofs.FromZero.{columns-long, from-zero-le, topFrom, FromZero, from-zero-none, from-zero-long, from-zero-other, from-zero-alike, from-zero-parent, from-zero-child, from-zero-all, begins-alike, begins-by-height}
 use native.Mathlib.Omega.{arith}
 use borrow.Author.Needs.{needs}
 use Rattle.decomposition.proofs.number_from_zero.Statement.{statement}
 use Rattle.decomposition.proofs.number_from_zero.Tie as tie
 
 abbrev Inv-loop : tie.InvT-loop
-Inv-loop p by family masks parents node-priorities₀ count most₀ first₀ lift₀ n₀ node-priorities most first lift n = FromZero p node-priorities₀ node-priorities n most first lift
+Inv-loop p by family masks parents node-priorities₀ count most₀ first₀ root₀ n₀ node-priorities most first root n = FromZero p node-priorities₀ node-priorities n most first root
 
 abbrev μ-loop : tie.MeasureT-loop
-μ-loop p by family masks parents node-priorities₀ count most₀ first₀ lift₀ n₀ node-priorities most first lift n = count - n
+μ-loop p by family masks parents node-priorities₀ count most₀ first₀ root₀ n₀ node-priorities most first root n = count - n
 
 -- ---- places
 abbrev start : tie.After-slice-known Inv-loop μ-loop → tie.Start Inv-loop μ-loop
@@ -56,26 +56,11 @@ shared-slice-read-root-priority c = omega (arith, c .before .before .before .loo
 root-priority-requires : tie.Need-root-priority-requires Inv-loop μ-loop
 root-priority-requires c κs = let s = start (c .before .before .before .before .before) in (s .pre .0, s .pre .1 .0)
 
-mul-own : tie.Need-mul-own Inv-loop μ-loop
-mul-own c =
-    let l = c .before .before .before .before .before in
-    let s = start (l .before) in
-    omega (arith, root-few (s .pre .0) (s .pre .1 .1 .0) (l .loop .inv) (s .pre .1 .1 .1 .0) (c .before .before .before .before .loop-test .taken) (c .before .before .if1 .taken) (c .root-priority .ensures))
-
-sub-own : tie.Need-sub-own Inv-loop μ-loop
-sub-own c =
-    let l = c .before .before .before .before .before in
-    let s = start (l .before) in
-    omega (arith, root-few (s .pre .0) (s .pre .1 .1 .0) (l .loop .inv) (s .pre .1 .1 .1 .0) (c .before .before .before .before .loop-test .taken) (c .before .before .if1 .taken) (c .root-priority .ensures))
-
 greatest-in-requires : tie.Need-greatest-in-requires Inv-loop μ-loop
 greatest-in-requires c κs = let l = c .before .before .before .before .before .before in (l .before .loop .inv .first-le, omega (arith, written l))
 
-mul-greater : tie.Need-mul-greater Inv-loop μ-loop
-mul-greater c = omega (arith, c .greatest-in .ensures, c .before .before .before .before .before .before .before .before .loop .inv .top-few)
-
-add-greater : tie.Need-add-greater Inv-loop μ-loop
-add-greater c = let v = c .before .before .before .before .before .before .before .before .loop .inv in omega (arith, c .greatest-in .ensures, v .top-few, v .lift-few)
+height-requires : tie.Need-height-requires Inv-loop μ-loop
+height-requires c κs = let v = c .before .before .before .before .before .before .before .before .loop .inv in (omega (arith, c .greatest-in .ensures, v .top-few), v .root-few)
 
 greater-requires : tie.Need-greater-requires Inv-loop μ-loop
 greater-requires c κs = search needs
@@ -104,7 +89,7 @@ loop-again c =
     let s = start (l .before) in
     let i = c .before .before .loop-test .taken in
     ⊎-elim
-    (λ w. from-zero-other (s .pre .0) (s .pre .1 .1 .0) (l .loop .inv) (s .pre .1 .1 .1 .0) i (w .0 .taken) (w .2 .ensures) (w .10) (w .3 .taken) (w .7 ∙ w .6 .ensures ∙ ap (λ (k : ℕ). max (l .loop .most) (2 * k + l .loop .lift)) (w .5 .ensures)) (w .8) (w .9))
+    (λ w. from-zero-other (s .pre .0) (s .pre .1 .1 .0) (l .loop .inv) (s .pre .1 .1 .1 .0) i (w .0 .taken) (w .2 .ensures) (w .11) (w .3 .taken) (w .8 ∙ w .7 .ensures ∙ ap (max (l .loop .most)) (w .6 .ensures ∙ ap (λ (k : ℕ). 2 * k + (3 - 3 * l .loop .root)) (w .5 .ensures))) (w .9) (w .10))
     (⊎-elim (λ w. from-zero-alike (s .pre .0) (s .pre .1 .1 .0) (l .loop .inv) (s .pre .1 .1 .1 .0) i (w .0 .taken) (w .2 .ensures) (w .7) (w .3 .left) (w .4) (w .5) (w .6))
     (λ w. from-zero-child (s .pre .0) (s .pre .1 .1 .0) (l .loop .inv) (s .pre .1 .1 .1 .0) i (w .0 .left) (w .5) (w .2) (w .3) (w .4))) (c .if1 .came)
 
@@ -124,25 +109,22 @@ greatest-in-requires-2 c κs =
     let s = start (l .before) in
     (omega (arith, l .loop .inv .first-le, from-zero-le (s .pre .1 .1 .0) (l .loop .inv)), omega (arith, s .pre .1 .1 .1 .0, copying-long (l .loop .inv .are)))
 
-mul-greater-2 : tie.Need-mul-greater-2 Inv-loop μ-loop
-mul-greater-2 c = omega (arith, c .greatest-in2 .ensures, whole (c .before .before .before), c .before .before .before .before .loop .inv .top-few)
-
-add-greater-2 : tie.Need-add-greater-2 Inv-loop μ-loop
-add-greater-2 c = let v = c .before .before .before .before .loop .inv in omega (arith, c .greatest-in2 .ensures, whole (c .before .before .before), v .top-few, v .lift-few)
+height-requires-2 : tie.Need-height-requires-2 Inv-loop μ-loop
+height-requires-2 c κs = let v = c .before .before .before .before .loop .inv in (omega (arith, c .greatest-in2 .ensures, whole (c .before .before .before), v .top-few), v .root-few)
 
 greater-requires-2 : tie.Need-greater-requires-2 Inv-loop μ-loop
 greater-requires-2 c κs = search needs
 
 same-length-2 : tie.Need-same-length-2 Inv-loop μ-loop
-same-length-2 c = copying-long (c .before .before .before .before .before .loop .inv .are)
+same-length-2 c = copying-long (c .before .before .before .before .before .before .loop .inv .are)
 
 returns-2 : tie.Need-returns-2 Inv-loop μ-loop
 returns-2 c =
-    let l = c .before .before .before .before .before in
+    let l = c .before .before .before .before .before .before in
     let s = start (l .before) in
-    let h = c .before .before .before .before .loop-test .left in
-    let height = c .greater2 .ensures ∙ ap (λ (k : ℕ). max (l .loop .most) (2 * k + l .loop .lift)) (c .before .greatest-in2 .ensures ∙ whole (c .before .before .before .before)) in
-    (begins-by-height (s .pre .0) (s .pre .1 .1 .0) (l .loop .inv) (s .pre .1 .1 .1 .0) h (c .before .before .before .if3 .left) height, from-zero-all (s .pre .0) (s .pre .1 .1 .0) (l .loop .inv) (s .pre .1 .1 .1 .0) h (s .pre .1 .1 .1 .1))
+    let h = c .before .before .before .before .before .loop-test .left in
+    let top = c .greater2 .ensures ∙ ap (max (l .loop .most)) (c .before .height2 .ensures ∙ ap (λ (k : ℕ). 2 * k + (3 - 3 * l .loop .root)) (c .before .before .greatest-in2 .ensures ∙ whole (c .before .before .before .before .before))) in
+    (begins-by-height (s .pre .0) (s .pre .1 .1 .0) (l .loop .inv) (s .pre .1 .1 .1 .0) h (c .before .before .before .before .if3 .left) top, from-zero-all (s .pre .0) (s .pre .1 .1 .0) (l .loop .inv) (s .pre .1 .1 .1 .0) h (s .pre .1 .1 .1 .1))
 
 pub number-from-zero-spec : {M : Type 1} → statement M
 number-from-zero-spec =
@@ -156,11 +138,8 @@ number-from-zero-spec =
     mul-root-priority
     shared-slice-read-root-priority
     root-priority-requires
-    mul-own
-    sub-own
     greatest-in-requires
-    mul-greater
-    add-greater
+    height-requires
     greater-requires
     cast-priority
     slice-read-priority
@@ -172,8 +151,7 @@ number-from-zero-spec =
     same-length
     returns
     greatest-in-requires-2
-    mul-greater-2
-    add-greater-2
+    height-requires-2
     greater-requires-2
     same-length-2
     returns-2)
