@@ -1,12 +1,12 @@
 -- The order by counting members: the sets of one size among the first masks, and the sizes from the largest down. Assumes nothing.
 use Prim.Native.Nat.{ℕ, zero, suc, _+_, _-_, _*_, _/_, _%_, _^_, _≤_, _<_}
 use native.Mathlib.Omega.{arith}
-use lib.Arith.{lt-one}
 use native.Mathlib.Decide.{decLt}
 use native.Mathlib.Numerals.{add-one}
 use mathlib.Core.Path.{_≡_, refl, sym, ap, _∙_, subst}
 use mathlib.Core.Bool.{Bool, true, false, _&&_, cond}
 use mathlib.Core.List.{List, [], _∷_, _++_}
+use lib.Arith.{lt-one}
 use lib.Dec.{eqb, leb}
 use lib.Count.{ones, onesIn, ones-step}
 use lib.ListN.{length, getD, length-append, List·getD-append}

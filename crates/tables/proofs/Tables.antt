@@ -1,19 +1,15 @@
--- The laws of a padded table: its length, its places, and one more entry. Assumes nothing.
+-- The laws of a padded table: its length, its places and its beginning. Assumes nothing.
 use Prim.Native.Nat.{ℕ, zero, suc, _+_, _-_, _≤_, _<_}
 use native.Mathlib.Omega.{arith}
-use mathlib.Core.Path.{_≡_, refl, sym, ap, _∙_}
-use mathlib.Core.List.{List, [], _∷_, _++_, append-assoc}
-use lib.ListN.{length, getD, take, set, replicate, length-append, length-replicate, List·getD-append}
-use lib.Seq.{length-take-le, take-at, getD-append-add, set-append-seam}
+use mathlib.Core.Path.{_≡_, refl, ap, _∙_}
+use mathlib.Core.List.{List, _++_}
+use lib.ListN.{length, getD, take, replicate, length-append, length-replicate, List·getD-append}
+use lib.Seq.{length-take-le, take-at, getD-append-add}
 use Rattle.tables.specs.Tables.{padded, zeros}
 
 pub length-zeros : (t : List ℕ) → length (zeros t) ≡ length t
 unfolding zeros
 length-zeros t = length-replicate (length t) 0
-
-pub zeros-padded : (t : List ℕ) → zeros t ≡ padded (length t) []
-unfolding zeros padded
-zeros-padded t = let e : length t ≡ length t - 0 = omega arith in ap (λ (n : ℕ). replicate n 0) e
 
 -- clearing looks at the length alone
 pub zeros-same : (t u : List ℕ) → length t ≡ length u → zeros t ≡ zeros u
@@ -43,10 +39,3 @@ padded-past n l i h =
 pub take-padded : (n k : ℕ) (t : List ℕ) → k ≤ length t → take k (padded n (take k t)) ≡ take k t
 unfolding padded
 take-padded n k t h = take-at (take k t) (replicate (n - length (take k t)) 0) k (length-take-le k t h)
-
--- one more entry, in the first place past the list
-pub padded-more : (n : ℕ) (l : List ℕ) (x : ℕ) → length l < n → set (padded n l) (length l) x ≡ padded n (l ++ (x ∷ []))
-unfolding padded
-padded-more n l x h =
-    let e : n - length l ≡ suc (n - (length l + 1)) = omega arith in
-    rw (length-append l (x ∷ []), e) (set-append-seam l 0 (replicate (n - (length l + 1)) 0) x ∙ sym (append-assoc l (x ∷ []) (replicate (n - (length l + 1)) 0)))

@@ -14,16 +14,28 @@ pub struct Policy {
     pub family: Vec<bool>,
 }
 
-/// The colour set at a position of document 01's order, with no table: sizes are passed by how many sets they have, and in the size the masks are passed in turn.
+/// The colour set at a position of document 01's order, with no table: sizes are passed by how many sets they have, and then the colours are gone through from the
+/// last, since of the sets of a size those without it come first.
 pub fn set_at(position: u8) -> u8 {
-    let (mut size, mut sets, mut left) = (8, 1, usize::from(position));
+    let (mut size, mut sets, mut left) = (8, 1, u32::from(position));
     while left >= sets {
         left -= sets;
         sets = sets * size / (9 - size);
         size -= 1;
     }
-    let mut alike = (0..=u8::MAX).filter(|set| set.count_ones() as usize == size);
-    alike.nth(left).unwrap()
+    let mut mask = 0;
+    for colours in (1..=8).rev() {
+        let without = sets * (colours - size) / colours;
+        if left < without {
+            sets = without;
+        } else {
+            mask |= 1 << (colours - 1);
+            left -= without;
+            sets -= without;
+            size -= 1;
+        }
+    }
+    mask
 }
 
 impl Policy {
