@@ -1,0 +1,13 @@
+pub mod Telling
+pub mod Examples
+pub mod Sample
+pub mod Digits
+pub mod Forth
+pub mod Back
+pub mod Taking
+pub mod Printing
+pub mod Keeping
+pub mod Ending
+pub mod Living
+pub mod Answering
+pub mod Prefixes

@@ -1,0 +1,10 @@
+pub mod Words
+pub mod Texts
+pub mod Documents
+pub mod Meaning
+pub mod Answers
+pub mod Offers
+pub mod Reader
+pub mod Reading
+pub mod Formulas
+pub mod Prefixes

@@ -1,0 +1,1 @@
+// Colours for mark sets.
