@@ -1,0 +1,3 @@
+pub mod Firsts
+pub mod Turns
+pub mod Unions
