@@ -8,7 +8,7 @@ use mathlib.Core.Bool.{Bool, true, false}
 use mathlib.Core.List.{List, [], _∷_, _++_, map, map-append, append-assoc, List·Memᴰ}
 use lib.Dec.{eqb}
 use lib.ListN.{length, getD, set, take, drop, replicate, length-append, length-map, length-take, take-append-drop}
-use lib.Seq.{take-suc, take-take, take-at, set-at, split-at, getD-take, length-take-le}
+use lib.Seq.{take-suc, take-take, take-add, take-at, set-at, split-at, getD-take, length-take-le}
 use Rattle.lists.specs.Lists.{any, position}
 use Rattle.lists.proofs.Bools.{≡eqb, neqb}
 use Rattle.lists.proofs.Lists.{map-same}
@@ -46,12 +46,6 @@ filled-more l x n k long h =
 pub coloured-none : Coloured [] (record { colour = replicate 64 0; sets = replicate 8 0; count = 0 })
 unfolding firsts
 coloured-none = record { count-is = refl; colours-are = λ h. refl; sets-are = λ h. refl }
-
--- a ninth mark set is too many whatever follows
-pub coloured-many : (l m : List ℕ) (r : Colouring) → r .count ≡ 9 → Coloured l r → Coloured (l ++ m) r
-coloured-many l m r e is =
-    let many : 9 ≤ length (firsts (l ++ m)) = omega (arith, is .count-is, firsts-grow l m) in
-    record { count-is = omega (arith, e); colours-are = λ h. absurd (omega arith); sets-are = λ h. absurd (omega arith) }
 
 module _ (l : List ℕ) (s : Colouring) (x c : ℕ) (is : Coloured l s) (few : s .count ≤ 8) (at : c ≡ position (eqb x) (take (s .count) (s .sets))) (e : ℕ) (long : length l ≡ e) (fits : e < 64) where
   counted : s .count ≡ length (firsts l)
@@ -127,3 +121,18 @@ module _ (l : List ℕ) (s : Colouring) (x c : ℕ) (is : Coloured l s) (few : s
   coloured-ninth r e n k =
       let many : length (firsts (l ++ (x ∷ []))) ≡ 9 = omega (arith, length-more (e ∙ counted), counted) in
       record { count-is = omega (arith, k, many); colours-are = λ h. absurd (omega (arith, many)); sets-are = λ h. absurd (omega (arith, many)) }
+
+-- ---- the edges in their order
+pub coloured-turn : (marks : List ℕ) (e : ℕ) (s r : Colouring) → e < length marks → ((l : List ℕ) → length l ≡ e → Coloured l s → Coloured (l ++ (getD marks e 0 ∷ [])) r)
+    → Coloured (take e marks) s → Coloured (take (e + 1) marks) r
+coloured-turn marks e s r h more is =
+    subst (λ (l : List ℕ). Coloured l r) (sym (ap (λ (k : ℕ). take k marks) (add-one e) ∙ take-suc marks e 0 h)) (more (take e marks) (length-take-le e marks (omega arith)) is)
+
+-- a ninth mark set is too many whatever follows
+pub coloured-many : (marks : List ℕ) (e n : ℕ) (r : Colouring) → e ≤ n → 8 < r .count → Coloured (take e marks) r → Coloured (take n marks) r
+coloured-many marks e n r h k is =
+    let rest = take (n - e) (drop e marks) in
+    let all : e + (n - e) ≡ n = omega arith in
+    let whole : take e marks ++ rest ≡ take n marks = sym (take-add e (n - e) marks) ∙ ap (λ (i : ℕ). take i marks) all in
+    let many : 9 ≤ length (firsts (take n marks)) = omega (arith, is .count-is, firsts-grow (take e marks) rest, ap (λ (l : List ℕ). length (firsts l)) whole) in
+    record { count-is = omega (arith, is .count-is, many); colours-are = λ h. absurd (omega (arith, many)); sets-are = λ h. absurd (omega (arith, many)) }

@@ -1,65 +1,55 @@
+-- `colours_of` meets its contract: the edges passed are coloured, with no more than 8 mark sets. Assumes nothing.
+use Prim.Native.Nat.{ℕ, _+_, _-_, _≤_}
 use native.Mathlib.Omega.{arith}
-use borrow.Author.Needs.{needs}
+use native.Mathlib.Nat.{le-antisymm}
+use mathlib.Core.Path.{_≡_, subst}
+use lib.ListN.{length, take}
+use lib.Seq.{length-take-le}
+use Rattle.mark_sets.specs.MarkSets.{Coloured}
+use Rattle.mark_sets.proofs.Turns.{coloured-none, coloured-turn, coloured-many}
 use Rattle.mark_sets.proofs.colours_of.Statement.{statement}
 use Rattle.mark_sets.proofs.colours_of.Tie as tie
-use Rattle.mark_sets.proofs.colours_of.Reads as reads
-use Rattle.mark_sets.proofs.colours_of.Lts as lts
-use Rattle.mark_sets.proofs.with_edge.Reads as with-edge-reads
 
 abbrev Inv-loop : tie.InvT-loop
-Inv-loop marks edges seen₀ e₀ seen e = ?
+Inv-loop marks edges seen₀ e₀ seen e = (e ≤ edges) × (seen .count ≤ 8) × Coloured (take e marks) seen
 
 abbrev μ-loop : tie.MeasureT-loop
-μ-loop marks edges seen₀ e₀ seen e = ?
+μ-loop marks edges seen₀ e₀ seen e = edges - e
 
--- src/lib.rt:61:5
 loop-holds : tie.Need-loop-holds Inv-loop μ-loop
-loop-holds c = ?
+loop-holds c = (omega arith, omega arith, coloured-none)
 
--- src/lib.rt:62:35
 mul-with-edge : tie.Need-mul-with-edge Inv-loop μ-loop
-mul-with-edge c = ?
+mul-with-edge c = omega arith
 
--- src/lib.rt:62:35
 element-copy-out-with-edge : tie.Need-element-copy-out-with-edge Inv-loop μ-loop
-element-copy-out-with-edge c = ?
+element-copy-out-with-edge c = omega arith
 
--- src/lib.rt:62:9
 with-edge-requires : tie.Need-with-edge-requires Inv-loop μ-loop
-with-edge-requires c κs = ?
+with-edge-requires c κs = (omega arith, omega arith)
 
--- src/lib.rt:64:13
+-- the edge of this turn is coloured with those before
+turned : (c : tie.After-with-edge Inv-loop μ-loop) → Coloured (take (c .before .before .before .loop .e + 1) (c .before .before .before .before .args .marks .now)) (c .with-edge .result)
+turned c =
+    let d = c .before .before .before in
+    coloured-turn (d .before .args .marks .now) (d .loop .e) _ _ (omega arith) (c .with-edge .ensures) (d .loop .inv .2)
+
 returns : tie.Need-returns Inv-loop μ-loop
-returns c = ?
+returns c =
+    let d = c .before .before .before .before .before in
+    coloured-many _ (d .loop .e + 1) (d .before .args .edges) _ (omega arith) (c .if1 .taken) (turned (c .before .before))
 
--- src/lib.rt:61:9
 add-e : tie.Need-add-e Inv-loop μ-loop
-add-e c = ?
+add-e c = omega arith
 
--- src/lib.rt:61:5
 loop-less : tie.Need-loop-less Inv-loop μ-loop
-loop-less c = ?
+loop-less c = omega arith
 
--- src/lib.rt:61:5
 loop-again : tie.Need-loop-again Inv-loop μ-loop
-loop-again c = ?
+loop-again c = (omega arith, omega arith, turned (c .before .before))
 
--- src/lib.rt:52:1
 returns-2 : tie.Need-returns-2 Inv-loop μ-loop
-returns-2 c = ?
+returns-2 c = subst (λ (n : ℕ). Coloured (take n (c .before .before .args .marks .now)) (c .before .loop .seen)) (le-antisymm (c .before .loop .inv .0) (c .loop-test .left)) (c .before .loop .inv .2)
 
 pub colours-of-spec : {M : Type 1} → statement M
-colours-of-spec =
-    tie.close
-    (tie.spec
-    Inv-loop
-    μ-loop
-    loop-holds
-    mul-with-edge
-    element-copy-out-with-edge
-    with-edge-requires
-    returns
-    add-e
-    loop-less
-    loop-again
-    returns-2)
+colours-of-spec = tie.close (tie.spec Inv-loop μ-loop loop-holds mul-with-edge element-copy-out-with-edge with-edge-requires returns add-e loop-less loop-again returns-2)
