@@ -49,9 +49,9 @@ fn with_edge(seen: Colouring, e: usize, x: u32) -> Colouring
 }
 
 // The colours of the mark sets of the edges.
-pub fn colours_of(marks: &[u32; 64], edges: usize) -> Colouring
-    requires { ⌜ (edges ≤ 64) × (length (now marks) ≡ 64) ⌝ }
-    ensures { λ r. ⌜ Coloured (take edges (now (marks .entry))) r ⌝ }
+pub fn colours_of(marks: [u32; 64], edges: usize) -> Colouring
+    requires { ⌜ edges ≤ 64 ⌝ }
+    ensures { λ r. ⌜ Coloured (take edges marks) r ⌝ }
 {
     let mut seen = Colouring {
         colour: [0; 64],
