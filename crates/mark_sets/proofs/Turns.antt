@@ -109,12 +109,12 @@ module _ (l : List ℕ) (s : Colouring) (x c : ℕ) (is : Coloured l s) (few : s
       record {
         count-is = omega (arith, length-more k, counted);
         colours-are = λ h.
-          stored
-          (ap (position (eqb x)) more ∙ position-missed (eqb x) (firsts l) (x ∷ []) (sym is-colour ∙ k) ∙ rw (≡eqb x x refl) (omega (arith, k)));
+            stored
+            (ap (position (eqb x)) more ∙ position-missed (eqb x) (firsts l) (x ∷ []) (sym is-colour ∙ k) ∙ rw (≡eqb x x refl) (omega (arith, k)));
         sets-are = λ h.
-          ap₂ (λ (a : List ℕ) (n : ℕ). set a n x) (is .sets-are few-sets) k
-          ∙ filled-more (firsts l) x 8 (length (firsts l)) refl (omega (arith, k))
-          ∙ ap₂ (λ (a : List ℕ) (n : ℕ). a ++ replicate (8 - n) 0) (sym more) (sym (length-more k));
+            ap₂ (λ (a : List ℕ) (n : ℕ). set a n x) (is .sets-are few-sets) k
+            ∙ filled-more (firsts l) x 8 (length (firsts l)) refl (omega (arith, k))
+            ∙ ap₂ (λ (a : List ℕ) (n : ℕ). a ++ replicate (8 - n) 0) (sym more) (sym (length-more k));
       }
 
   pub coloured-ninth : (r : Colouring) → c ≡ s .count → c ≡ 8 → r .count ≡ 9 → Coloured (l ++ (x ∷ [])) r
