@@ -1,13 +1,13 @@
--- One turn of the loops that number mark sets. Assumes nothing.
-use Prim.Native.Nat.{ℕ, zero, suc, _+_, _-_, _≤_, _<_, min}
+-- The loops that number mark sets: a search among those so far, and one edge more, whose mark set is new, a ninth, or one of those so far. Assumes nothing.
+use Prim.Native.Nat.{ℕ, suc, _+_, _-_, _≤_, _<_, min}
 use native.Mathlib.Omega.{arith}
 use native.Mathlib.Numerals.{add-one}
 use mathlib.Core.Path.{_≡_, refl, sym, ap, ap₂, _∙_, subst}
 use mathlib.Core.Logic.{_⊎_, inl, inr, _≢_}
-use mathlib.Core.Bool.{Bool, true, false}
+use mathlib.Core.Bool.{false}
 use mathlib.Core.List.{List, [], _∷_, _++_, map, map-append, append-assoc, List·Memᴰ}
 use lib.Dec.{eqb}
-use lib.ListN.{length, getD, set, take, drop, replicate, length-append, length-map, length-take, take-append-drop}
+use lib.ListN.{length, getD, set, take, drop, replicate, length-append, length-map}
 use lib.Seq.{take-suc, take-take, take-add, take-at, set-at, split-at, getD-take, length-take-le}
 use Rattle.lists.specs.Lists.{any, position}
 use Rattle.lists.proofs.Bools.{≡eqb, neqb}
@@ -35,8 +35,7 @@ place-here l x n i h g k e =
     ∙ position-missed (eqb x) (take i l) (x ∷ rest) (e ∙ sym long)
     ∙ rw (≡eqb x x refl) (omega (arith, long)))
 
--- ---- numbers, and the same past them
--- one number more
+-- ---- one number more in a list that is filled with 0
 filled-more : (l : List ℕ) (x n k : ℕ) → length l ≡ k → k < n → set (l ++ replicate (n - k) 0) k x ≡ (l ++ (x ∷ [])) ++ replicate (n - (k + 1)) 0
 filled-more l x n k long h =
     let e : n - k ≡ suc (n - (k + 1)) = omega arith in
@@ -70,7 +69,7 @@ module _ (l : List ℕ) (s : Colouring) (x c : ℕ) (is : Coloured l s) (few : s
       ∙ filled-more (map (colourIn l) l) c 64 (length l) (length-map l (colourIn l)) (omega (arith, long))
       ∙ ap₂ (λ (a : List ℕ) (n : ℕ). a ++ replicate (64 - n) 0) (sym (colours ∙ ap (λ (y : ℕ). map (colourIn l) l ++ (y ∷ [])) k)) (sym (length-append l (x ∷ [])))
 
-  -- it is one of those before exactly if it was found
+  -- one of those before exactly if it was found
   found : c ≢ length (firsts l) → List·Memᴰ x l
   found n = go (met l x)
     where
@@ -79,21 +78,21 @@ module _ (l : List ℕ) (s : Colouring) (x c : ℕ) (is : Coloured l s) (few : s
       go (inr f) = absurd (n (is-colour ∙ colour-none l x f))
 
   missed : c ≡ length (firsts l) → any (eqb x) l ≡ false
-  missed e = go (met l x)
+  missed k = go (met l x)
     where
       go : List·Memᴰ x l ⊎ (any (eqb x) l ≡ false) → any (eqb x) l ≡ false
       go (inl m) = absurd (omega (arith, colour-below l x m, is-colour))
       go (inr f) = f
 
   one-more : c ≡ length (firsts l) → firsts (l ++ (x ∷ [])) ≡ firsts l ++ (x ∷ [])
-  one-more e = firsts-new l x (missed e)
+  one-more k = firsts-new l x (missed k)
 
   length-more : c ≡ length (firsts l) → length (firsts (l ++ (x ∷ []))) ≡ length (firsts l) + 1
-  length-more e = ap length (one-more e) ∙ length-append (firsts l) (x ∷ [])
+  length-more k = ap length (one-more k) ∙ length-append (firsts l) (x ∷ [])
 
   pub coloured-old : c ≢ s .count → Coloured (l ++ (x ∷ [])) (record { colour = set (s .colour) e c; sets = s .sets; count = s .count })
   coloured-old n =
-      let m = found (λ e. n (e ∙ sym counted)) in
+      let m = found (λ k. n (k ∙ sym counted)) in
       let same = sym (firsts-old l x m) in
       record {
         count-is = is .count-is ∙ ap (λ (a : List ℕ). min (length a) 9) same;
@@ -103,8 +102,8 @@ module _ (l : List ℕ) (s : Colouring) (x c : ℕ) (is : Coloured l s) (few : s
 
   pub coloured-new : c ≡ s .count → c ≢ 8 → Coloured (l ++ (x ∷ [])) (record { colour = set (s .colour) e c; sets = set (s .sets) c x; count = s .count + 1 })
   unfolding colourIn
-  coloured-new e n =
-      let k : c ≡ length (firsts l) = e ∙ counted in
+  coloured-new last n =
+      let k : c ≡ length (firsts l) = last ∙ counted in
       let more = one-more k in
       record {
         count-is = omega (arith, length-more k, counted);
@@ -118,9 +117,9 @@ module _ (l : List ℕ) (s : Colouring) (x c : ℕ) (is : Coloured l s) (few : s
       }
 
   pub coloured-ninth : (r : Colouring) → c ≡ s .count → c ≡ 8 → r .count ≡ 9 → Coloured (l ++ (x ∷ [])) r
-  coloured-ninth r e n k =
-      let many : length (firsts (l ++ (x ∷ []))) ≡ 9 = omega (arith, length-more (e ∙ counted), counted) in
-      record { count-is = omega (arith, k, many); colours-are = λ h. absurd (omega (arith, many)); sets-are = λ h. absurd (omega (arith, many)) }
+  coloured-ninth r last n nine =
+      let many : length (firsts (l ++ (x ∷ []))) ≡ 9 = omega (arith, length-more (last ∙ counted), counted) in
+      record { count-is = omega (arith, nine, many); colours-are = λ h. absurd (omega (arith, many)); sets-are = λ h. absurd (omega (arith, many)) }
 
 -- ---- the edges in their order
 pub coloured-turn : (marks : List ℕ) (e : ℕ) (s r : Colouring) → e < length marks → ((l : List ℕ) → length l ≡ e → Coloured l s → Coloured (l ++ (getD marks e 0 ∷ [])) r)

@@ -37,6 +37,7 @@ fn with_edge(seen: Colouring, e: usize, x: u32) -> Colouring
     let count = r.count as usize;
     let c = place_of(sets, count, x);
     if c == 8 {
+        // A ninth mark set.
         r.count = 9;
         return r;
     }
@@ -48,7 +49,7 @@ fn with_edge(seen: Colouring, e: usize, x: u32) -> Colouring
     r
 }
 
-// The colours of the mark sets of the edges.
+// The colours of the edges by their mark sets; no edge is looked at past a ninth mark set.
 pub fn colours_of(marks: [u32; 64], edges: usize) -> Colouring
     requires { ⌜ edges ≤ 64 ⌝ }
     ensures { λ r. ⌜ Coloured (take edges marks) r ⌝ }

@@ -2,9 +2,8 @@
 use Prim.Native.Nat.{ℕ, _+_, _-_, _≤_}
 use native.Mathlib.Omega.{arith}
 use native.Mathlib.Nat.{le-antisymm}
-use mathlib.Core.Path.{_≡_, subst}
-use lib.ListN.{length, take}
-use lib.Seq.{length-take-le}
+use mathlib.Core.Path.{subst}
+use lib.ListN.{take}
 use Rattle.mark_sets.specs.MarkSets.{Coloured}
 use Rattle.mark_sets.proofs.Turns.{coloured-none, coloured-turn, coloured-many}
 use Rattle.mark_sets.proofs.colours_of.Statement.{statement}

@@ -1,10 +1,9 @@
 -- `with_edge` meets its contract: the mark set is a ninth one, a new one, or one of those before. Assumes nothing.
-use Prim.Native.Nat.{ℕ}
 use native.Mathlib.Omega.{arith}
-use mathlib.Core.Path.{_≡_, refl, sym, subst}
+use mathlib.Core.Path.{refl, sym, subst}
 use mathlib.Core.Logic.{⊎-elim}
-use mathlib.Core.List.{List, [], _∷_, _++_}
-use lib.ListN.{length, set}
+use mathlib.Core.List.{[], _∷_, _++_}
+use lib.ListN.{set}
 use borrow.Author.Needs.{needs}
 use Rattle.mark_sets.specs.declared.Colouring.{Colouring}
 use Rattle.mark_sets.specs.MarkSets.{Coloured}
