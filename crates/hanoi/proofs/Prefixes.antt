@@ -58,11 +58,11 @@ starts-more (x ∷ xs) [] zs h = absurd (false≢true h)
 starts-more (x ∷ xs) (y ∷ ys) zs h = both (eqb x y) (startsWith xs (ys ++ zs)) (and-l (eqb x y) (startsWith xs ys) h) (starts-more xs ys zs (and-r (eqb x y) (startsWith xs ys) h))
 
 -- ---- cutting
-cut-on : (i n k : ℕ) → n < k → cut (suc i) n k ≡ cut i n (k / 10)
+pub cut-on : (i n k : ℕ) → n < k → cut (suc i) n k ≡ cut i n (k / 10)
 unfolding cut
 cut-on i n k h = rw (lt-yes n k h) refl
 
-cut-stop : (i n k : ℕ) → k ≤ n → cut i n k ≡ k
+pub cut-stop : (i n k : ℕ) → k ≤ n → cut i n k ≡ k
 unfolding cut
 cut-stop zero n k h = refl
 cut-stop (suc i) n k h = rw (lt-no n k h) refl

@@ -1,0 +1,4 @@
+pub mod Moves
+pub mod Tokens
+pub mod Numbers
+pub mod Names

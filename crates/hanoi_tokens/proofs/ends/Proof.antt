@@ -1,0 +1,35 @@
+use native.Mathlib.Omega.{arith}
+use mathlib.Core.Path.{refl}
+use borrow.Author.Needs.{needs}
+use Rattle.hanoi_tokens.proofs.ends.Statement.{statement}
+use Rattle.hanoi_tokens.proofs.ends.Tie as tie
+use Rattle.hanoi_tokens.proofs.ends.Reads as reads
+use Rattle.hanoi_tokens.proofs.ends.Lts as lts
+
+-- src/lib.rt:182:29
+enum-told : tie.Need-enum-told
+enum-told c = search needs
+
+-- src/lib.rt:183:29
+enum-told-2 : tie.Need-enum-told-2
+enum-told-2 c = search needs
+
+-- src/lib.rt:184:25
+enum-known-wanted : tie.Need-enum-known-wanted
+enum-known-wanted c = search needs
+
+-- src/lib.rt:178:1
+returns : tie.Need-returns
+returns c = search needs
+
+-- src/lib.rt:178:1
+returns-2 : tie.Need-returns-2
+returns-2 c = search needs
+
+-- src/lib.rt:178:1
+returns-3 : tie.Need-returns-3
+returns-3 c = rw (c .before .wanted .given .1) refl
+
+pub ends-spec : {M : Type 1} → statement M
+ends-spec =
+    tie.close (tie.spec enum-told enum-told-2 enum-known-wanted returns returns-2 returns-3)
