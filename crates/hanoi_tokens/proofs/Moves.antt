@@ -34,10 +34,10 @@ alive-same b bs p q h = rw h refl
 
 module _ (text : List ℕ) where
   pub stay : (m : ℕ) (p : Spot At) → m ≤ length text → Moves text m p m p
-  stay m p h = record { within = h; runs = refl; alive = refl }
+  stay m p h = record { later = omega arith; within = h; runs = refl; alive = refl }
 
   pub moves-on : {m n k : ℕ} {p q r : Spot At} → Moves text m p n q → Moves text n q k r → Moves text m p k r
-  moves-on a b = record { within = b .within; runs = a .runs ∙ b .runs; alive = a .alive ∙ b .alive }
+  moves-on a b = record { later = omega (arith, a .later, b .later); within = b .within; runs = a .runs ∙ b .runs; alive = a .alive ∙ b .alive }
 
   pub moves-stops : {m n k : ℕ} {p q : Spot At} → Moves text m p n q → Stops text n q k → Stops text m p k
   moves-stops a b = record { unanswered = λ x. ap (answerAt x) (a .runs) ∙ b .unanswered x; alive = a .alive ∙ b .alive }
@@ -49,6 +49,7 @@ module _ (text : List ℕ) where
   one-on {m} {p} {q} h e a =
       let c = drop-cons text m 0 h in
       record {
+        later = omega arith;
         within = h;
         runs = ap (run offers p) c ∙ ap (λ (x : Spot At). run offers x (drop (suc m) text)) e;
         alive =
@@ -84,6 +85,7 @@ module _ (text : List ℕ) where
   alike {m} {p} {q} h e =
       let c = drop-cons text m 0 h in
       record {
+        later = omega arith;
         within = omega arith;
         runs = ap (run offers p) c ∙ ap (λ (x : Spot At). run offers x (drop (suc m) text)) e ∙ sym (ap (run offers q) c);
         alive = ap (λ (n : ℕ). m + n) (ap (λ (l : List ℕ). aliveFor l p) c ∙ alive-same (getD text m 0) (drop (suc m) text) p q e ∙ sym (ap (λ (l : List ℕ). aliveFor l q) c));

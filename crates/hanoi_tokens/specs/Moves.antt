@@ -13,6 +13,7 @@ use Rattle.hanoi.specs.Reading.{answerIn, answerAt}
 module _ (text : List ℕ) where
   -- from p before byte m the reader comes to q before byte n, or might as well
   pub record Moves (m : ℕ) (p : Spot At) (n : ℕ) (q : Spot At) : Type 0 where
+    pub later : m ≤ n
     pub within : n ≤ length text
     pub runs : run offers p (drop m text) ≡ run offers q (drop n text)
     pub alive : m + aliveFor (drop m text) p ≡ n + aliveFor (drop n text) q

@@ -78,6 +78,7 @@ module _ (text : List ℕ) where
   pub record ReadsDigits (m : ℕ) (w : Wanted) (r : Number) : Type 0 where
     pub reads : (s : At) (to : ℕ → At) → offers s .numbers ≡ numbersFor w to → (digit (getD text m 0) ≡ false → stepByte offers (between false s) (getD text m 0) ≡ dead)
         → Reads text m (between false s) (r .ok) (r .at) (between false (to (r .value)))
+    pub later : r .ok ≡ true → m < r .at
     pub taken : r .ok ≡ true → takesBy w (r .value) ≡ true
 
   pub record ReadsNumber (m : ℕ) (w : Wanted) (r : Number) : Type 0 where
