@@ -1,3 +1,5 @@
 pub mod Tells
 pub mod Marks
 pub mod Operands
+pub mod Events
+pub mod Formulas

@@ -64,6 +64,6 @@ module _ (text : List ℕ) (m sets : ℕ) (rest : List ℕ) (a : Taken) (k : Spe
   pub spelled-marked : a .ok ≡ true → (r : Mark) → ReadsMark text (a .at) sets r → ReadsMarked text m rest sets r
   spelled-marked ok r l = record {
     reads =
-    λ x p h hs o b e. moves-reads text (subst (λ (bar : Bool). Moves text m (wordOn x rest (opening h hs o b)) (a .at) (between bar (opening h hs o b))) p (k x (opening h hs o b) .moves ok)) (l .reads h hs o b e);
+        λ x p h hs o b e. moves-reads text (subst (λ (bar : Bool). Moves text m (wordOn x rest (opening h hs o b)) (a .at) (between bar (opening h hs o b))) p (k x (opening h hs o b) .moves ok)) (l .reads h hs o b e);
     below = l .below;
   }

@@ -286,3 +286,73 @@ fn read_sign(text: &[u8], at: usize, bar: bool, deep: bool) -> Sign
     }
     Sign::Body(end)
 }
+
+// The formula up to the words behind it, and its value where the marks of u recur and no others.
+pub fn read_formula(text: &[u8], at: usize, sets: u32, u: u32) -> Valued
+    requires { ⌜ (at ≤ length (now text)) × (sets ≤ 32) ⌝ }
+    ensures { λ r. ⌜ ReadsFormula (now (text .entry)) at sets u r ⌝ }
+{
+    let mut t = reading_on(true);
+    let mut depth: usize = 0;
+    let mut operand_next = true;
+    let mut bar = false;
+    let mut i = at;
+    loop {
+        if operand_next {
+            match read_operand(text, i, sets, u) {
+                Operand::Opens(n) => {
+                    t = tell_opens(t);
+                    depth = depth + 1;
+                    i = n;
+                    continue;
+                }
+                Operand::Value(n, value, bars) => {
+                    t = tell_operand(t, value);
+                    operand_next = false;
+                    bar = bars;
+                    i = n;
+                    continue;
+                }
+                Operand::Stops(n) => {
+                    return Valued {
+                        at: n,
+                        value: false,
+                        ok: false,
+                    };
+                }
+            }
+        }
+        match read_sign(text, i, bar, 0 < depth) {
+            Sign::And(n) => {
+                t = tell_and(t);
+                operand_next = true;
+                i = n;
+            }
+            Sign::Or(n) => {
+                t = tell_or(t);
+                operand_next = true;
+                i = n;
+            }
+            Sign::Closes(n) => {
+                t = tell_closes(t);
+                depth = depth - 1;
+                bar = false;
+                i = n;
+            }
+            Sign::Body(n) => {
+                return Valued {
+                    at: n,
+                    value: t.value,
+                    ok: true,
+                };
+            }
+            Sign::Stops(n) => {
+                return Valued {
+                    at: n,
+                    value: false,
+                    ok: false,
+                };
+            }
+        }
+    }
+}
