@@ -10,4 +10,5 @@ pub mod Keeping
 pub mod Ending
 pub mod Living
 pub mod Answering
+pub mod Carrying
 pub mod Prefixes

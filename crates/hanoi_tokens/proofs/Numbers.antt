@@ -124,12 +124,13 @@ module _ (text : List ℕ) (m : ℕ) (w : Wanted) (h : Within w) where
   }
 
   pub digits-none : m < length text → digit (getD text m 0) ≡ false → ReadsDigits text m w (record { at = m; value = 0; ok = false })
-  digits-none l d = record { reads = λ s to o x. reads-no text (between false (to 0)) (none text l (x d)); later = λ e. absurd (false≢true e); taken = λ e. absurd (false≢true e) }
+  digits-none l d = record { later = λ e. absurd (false≢true e); within = λ e. absurd (false≢true e); reads = λ s to o x. reads-no text (between false (to 0)) (none text l (x d)); taken = λ e. absurd (false≢true e) }
 
   pub digits-not-first : (n : ℕ) → m < length text → digit (getD text m 0) ≡ true → n ≡ getD text m 0 - 48 → takesBy w n ≡ false → ReadsDigits text m w (record { at = m; value = 0; ok = false })
   digits-not-first n l d e t = record {
-    reads = λ s to o x. reads-no text (between false (to 0)) (none text l (step-first s (getD text m 0) d ∙ (rw (sym e) (rw (by s to n false o t) refl))));
     later = λ e. absurd (false≢true e);
+    within = λ e. absurd (false≢true e);
+    reads = λ s to o x. reads-no text (between false (to 0)) (none text l (step-first s (getD text m 0) d ∙ (rw (sym e) (rw (by s to n false o t) refl))));
     taken = λ e. absurd (false≢true e);
   }
 
@@ -148,15 +149,17 @@ module _ (text : List ℕ) (m : ℕ) (w : Wanted) (h : Within w) where
 
     pub digits-zero : i < length text → digit (getD text i 0) ≡ true → n ≡ 0 → ReadsDigits text m w (record { at = i; value = 0; ok = false })
     digits-zero l d z = record {
-      reads = λ s to o x. stop s to o (none text l (step-on s n (getD text i 0) d ∙ (rw (lt-no 0 n (omega (arith, z))) refl)));
       later = λ e. absurd (false≢true e);
+      within = λ e. absurd (false≢true e);
+      reads = λ s to o x. stop s to o (none text l (step-on s n (getD text i 0) d ∙ (rw (lt-no 0 n (omega (arith, z))) refl)));
       taken = λ e. absurd (false≢true e);
     }
 
     pub digits-over : (c : ℕ) → i < length text → digit (getD text i 0) ≡ true → 0 < n → c ≡ n * 10 + (getD text i 0 - 48) → takesBy w c ≡ false → ReadsDigits text m w (record { at = i; value = 0; ok = false })
     digits-over c l d p e t = record {
-      reads = λ s to o x. stop s to o (none text l (step-on s n (getD text i 0) d ∙ (rw (sym e) (rw (lt-yes 0 n p, by s to c false o t) refl))));
       later = λ e. absurd (false≢true e);
+      within = λ e. absurd (false≢true e);
+      reads = λ s to o x. stop s to o (none text l (step-on s n (getD text i 0) d ∙ (rw (sym e) (rw (lt-yes 0 n p, by s to c false o t) refl))));
       taken = λ e. absurd (false≢true e);
     }
 
@@ -165,20 +168,22 @@ module _ (text : List ℕ) (m : ℕ) (w : Wanted) (h : Within w) where
 
     pub digits-short : i < length text → digit (getD text i 0) ≡ false → endsBy w n ≡ false → ReadsDigits text m w (record { at = i; value = 0; ok = false })
     digits-short l d e = record {
-      reads = λ s to o x. stop s to o (none text l (step-off s n (getD text i 0) d ∙ (rw (ends-by s to false o e) refl)));
       later = λ e. absurd (false≢true e);
+      within = λ e. absurd (false≢true e);
+      reads = λ s to o x. stop s to o (none text l (step-off s n (getD text i 0) d ∙ (rw (ends-by s to false o e) refl)));
       taken = λ e. absurd (false≢true e);
     }
 
     pub digits-break : length text ≤ i → ReadsDigits text m w (record { at = i; value = 0; ok = false })
-    digits-break l = record { reads = λ s to o x. stop s to o (breaks-off text l (λ y. refl)); later = λ e. absurd (false≢true e); taken = λ e. absurd (false≢true e) }
+    digits-break l = record { later = λ e. absurd (false≢true e); within = λ e. absurd (false≢true e); reads = λ s to o x. stop s to o (breaks-off text l (λ y. refl)); taken = λ e. absurd (false≢true e) }
 
     pub digits-all : i < length text → digit (getD text i 0) ≡ false → endsBy w n ≡ true → ReadsDigits text m w (record { at = i; value = n; ok = true })
     digits-all l d e = record {
+      later = λ e. k .later;
+      within = λ e. k .within;
       reads =
           λ s to o x. reads-yes text (moves-on text (k .moves s to o) (alike text l (step-off s n (getD text i 0) d ∙ (rw (ends-by s to true o e)
           (ap (λ (a : At). stepByte offers (between false a) (getD text i 0)) (ap (λ (z : Numbers At). numbered z n s) o ∙ numbered-for w to n s e))))));
-      later = λ e. k .later;
       taken = λ e. k .taken;
     }
 
@@ -193,6 +198,7 @@ number-alone s ns b e w d = rw (w, d, e) (none-of (eqb b 34))
 
 pub number-behind : (text : List ℕ) (m : ℕ) (w : Wanted) (b : Begun) (r : Number) → Begins text m false b → b .ok ≡ true → ReadsDigits text (b .at) w r → ReadsNumber text m w r
 number-behind text m w b r g ok k = record {
+  within = k .within;
   reads =
       λ s to o u. moves-reads text (g .reads s u .moves ok)
       (k .reads s to (ap (λ (x : Offer At). x .numbers) o) (λ d. number-alone s (numbersFor w to) (getD text (b .at) 0) o (ap white (sym (g .byte-is ok)) ∙ g .other ok) d));
@@ -200,4 +206,4 @@ number-behind text m w b r g ok k = record {
 }
 
 pub number-stopped : (text : List ℕ) (m : ℕ) (w : Wanted) (b : Begun) → Begins text m false b → b .ok ≡ false → ReadsNumber text m w (record { at = b .at; value = 0; ok = false })
-number-stopped text m w b g ok = record { reads = λ s to o u. reads-no text (between false (to 0)) (g .reads s u .stops ok); taken = λ e. absurd (false≢true e) }
+number-stopped text m w b g ok = record { within = λ e. absurd (false≢true e); reads = λ s to o u. reads-no text (between false (to 0)) (g .reads s u .stops ok); taken = λ e. absurd (false≢true e) }

@@ -70,6 +70,7 @@ module _ (text : List ℕ) where
   -- behind white space: the next token's first byte is there and not barred
   pub begins-free : (m i : ℕ) (bar : Bool) → Skips text m i → i < length text → (bar ≡ true → i ≡ m → goesOn (getD text i 0) ≡ true → ⊥) → Begins text m bar (record { at = i; byte = getD text i 0; ok = true })
   begins-free m i bar k h g = record {
+    later = k .later;
     reads =
         λ s u. reads-yes text (moves-on text (k .moves bar s)
         (alike text h (step-other (bar && eqb m i) s (getD text i 0) (k .other h) (unbarred bar (eqb m i) (goesOn (getD text i 0)) (λ t e. g t (sym (eqb≡ m i e)))) ∙ sym (step-other false s (getD text i 0) (k .other h) refl))));
@@ -80,6 +81,7 @@ module _ (text : List ℕ) where
 
   pub begins-barred : (m i b : ℕ) (bar : Bool) → Skips text m i → i < length text → bar ≡ true → i ≡ m → goesOn (getD text i 0) ≡ true → Begins text m bar (record { at = i; byte = b; ok = false })
   begins-barred m i b bar k h t e g = record {
+    later = k .later;
     reads =
         λ s u. reads-no text (between false s) (moves-stops text (k .moves bar s)
         (none text h (rw (t, ≡eqb m i (sym e)) (step-barred s (getD text i 0) (k .other h) g))));
@@ -90,6 +92,7 @@ module _ (text : List ℕ) where
 
   pub begins-end : (m i b : ℕ) (bar : Bool) → Skips text m i → length text ≤ i → Begins text m bar (record { at = i; byte = b; ok = false })
   begins-end m i b bar k h = record {
+    later = k .later;
     reads = λ s u. reads-no text (between false s) (moves-stops text (k .moves bar s) (breaks-off text h u));
     there = λ e. absurd (false≢true e);
     byte-is = λ e. absurd (false≢true e);

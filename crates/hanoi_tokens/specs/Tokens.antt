@@ -59,6 +59,7 @@ module _ (text : List ℕ) where
 
   -- the first byte of the next token, behind a token that bars bytes of names or not
   pub record Begins (m : ℕ) (bar : Bool) (r : Begun) : Type 0 where
+    pub later : m ≤ r .at
     pub reads : (s : At) → Unfinished s → Reads text m (between bar s) (r .ok) (r .at) (between false s)
     pub there : r .ok ≡ true → r .at < length text
     pub byte-is : r .ok ≡ true → r .byte ≡ getD text (r .at) 0
@@ -76,12 +77,14 @@ module _ (text : List ℕ) where
   -- ---- numbers
   -- from its first byte on
   pub record ReadsDigits (m : ℕ) (w : Wanted) (r : Number) : Type 0 where
+    pub later : r .ok ≡ true → m < r .at
+    pub within : r .ok ≡ true → r .at ≤ length text
     pub reads : (s : At) (to : ℕ → At) → offers s .numbers ≡ numbersFor w to → (digit (getD text m 0) ≡ false → stepByte offers (between false s) (getD text m 0) ≡ dead)
         → Reads text m (between false s) (r .ok) (r .at) (between false (to (r .value)))
-    pub later : r .ok ≡ true → m < r .at
     pub taken : r .ok ≡ true → takesBy w (r .value) ≡ true
 
   pub record ReadsNumber (m : ℕ) (w : Wanted) (r : Number) : Type 0 where
+    pub within : r .ok ≡ true → r .at ≤ length text
     pub reads : (s : At) (to : ℕ → At) → offers s ≡ offer [] (numbersFor w to) Rattle.hanoi.specs.Offers.noName → Unfinished s → Reads text m (between false s) (r .ok) (r .at) (between false (to (r .value)))
     pub taken : r .ok ≡ true → takesBy w (r .value) ≡ true
 
