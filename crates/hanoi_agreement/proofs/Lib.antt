@@ -1,0 +1,5 @@
+pub mod MarkSets
+pub mod Documents
+pub mod PolicyOf
+pub mod Legal
+pub mod Recurring
