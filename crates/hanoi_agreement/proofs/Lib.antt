@@ -3,3 +3,4 @@ pub mod Documents
 pub mod PolicyOf
 pub mod Legal
 pub mod Recurring
+pub mod Agreement
