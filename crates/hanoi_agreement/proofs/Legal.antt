@@ -24,7 +24,7 @@ use Rattle.hanoi_agreement.proofs.Documents.{colour-lt, start-lt, lette
 use Rattle.hanoi_agreement.proofs.PolicyOf.{edge, target-at, colour-at, past-target, past-colour, family-at}
 
 -- ---- the answer
-abbrev isRead : Outcome → Bool
+abbrev pub isRead : Outcome → Bool
 isRead Read = true
 isRead (Refused n k) = false
 

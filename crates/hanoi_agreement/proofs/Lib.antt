@@ -4,3 +4,5 @@ pub mod PolicyOf
 pub mod Legal
 pub mod Recurring
 pub mod Agreement
+pub mod Texts
+pub mod TextDemand3
