@@ -6,3 +6,4 @@ pub mod Recurring
 pub mod Agreement
 pub mod Texts
 pub mod TextDemand3
+pub mod Instances
