@@ -13,7 +13,7 @@ use lib.ListN.{length, getD}
 use Rattle.lists.specs.Lists.{any}
 use Rattle.lists.proofs.Bools.{test, lt-true}
 use Rattle.lists.proofs.Numbers.{set-byte}
-use Rattle.masks.specs.Masks.{has, setOf}
+use Rattle.masks.specs.Masks.{has}
 use Rattle.masks.proofs.Bits.{lt-of-bits}
 use Rattle.masks.proofs.Members.{some-nonzero}
 use Rattle.masks.proofs.SetOf.{set-has}
@@ -22,7 +22,7 @@ use Rattle.recurrence.specs.Runs.{after, met, window}
 use Rattle.recurrence.proofs.Periods.{rounds-mem}
 use Rattle.recurrence.proofs.Runs.{recurring-window}
 use Rattle.policy.specs.declared.Policy.{Policy}
-use Rattle.policy.specs.Policies.{legal, edgeOf, inFamily, edgeColours, colourOf}
+use Rattle.policy.specs.Policies.{legal, edgeOf, inFamily, colourOf}
 use Rattle.policy.proofs.Laws.{edge-colour-is, is-edge-colour, edge-coloured}
 use Rattle.running.specs.Running.{policyStep, policyMeets}
 use Rattle.running.proofs.Steps.{policy-moves, policy-stays, policy-within}
@@ -30,16 +30,16 @@ use Rattle.judging.specs.Judging.{recurringColours}
 use Rattle.judging.proofs.Meaning.{recurring-colours}
 use Rattle.mark_sets.specs.MarkSets.{unionAt}
 use Rattle.hanoi.specs.declared.Outcome.the-variants.{Read}
-use Rattle.hanoi.specs.Documents.{Edge, Document, marksOf, letters, lawful}
-use Rattle.hanoi.specs.Meaning.{holds, markSet, edgesOf, markSets, colourOf as edgeColour, named, policyOf, edgeAt, step, meets}
+use Rattle.hanoi.specs.Documents.{Document, marksOf, letters, lawful}
+use Rattle.hanoi.specs.Meaning.{holds, markSet, edgesOf, markSets, colourOf as edgeColour, policyOf, edgeAt, meets}
 use Rattle.hanoi.specs.Answers.{answerOf}
-use Rattle.correctness.specs.Demand3.{letterAt, InRound, Recurs, policyState, coloursMet}
+use Rattle.correctness.specs.Demand3.{letterAt, Recurs, policyState, coloursMet}
 use Rattle.correctness.proofs.Sequences.{recurs-along}
-use Rattle.hanoi_agreement.specs.Agreement.{textState, marksMet, Decided, Agreement}
+use Rattle.hanoi_agreement.specs.Agreement.{textState, marksMet, Agreement}
 use Rattle.hanoi_agreement.proofs.MarkSets.{union-some, some-union}
 use Rattle.hanoi_agreement.proofs.Documents.{colour-lt, colour-has, edges-long, edge-in}
-use Rattle.hanoi_agreement.proofs.PolicyOf.{colour-at, step-same, family-at, named-is}
-use Rattle.hanoi_agreement.proofs.Legal.{IsRead, read-parts, read-legal}
+use Rattle.hanoi_agreement.proofs.PolicyOf.{letters-are, colour-at, step-same, family-at, named-is}
+use Rattle.hanoi_agreement.proofs.Legal.{read-parts, read-legal}
 use Rattle.hanoi_agreement.proofs.Recurring.{recurs-with}
 
 -- ---- one letter
@@ -51,14 +51,6 @@ module _ (d : Document) where
   text-stays : (v a : ℕ) → ltb a (letters d) ≡ false → meets d v a ≡ []
   unfolding meets
   text-stays v a f = rw f refl
-
-  letters-are : policyOf d .letters ≡ letters d
-  unfolding policyOf
-  letters-are = refl
-
-  states-are : policyOf d .states ≡ d .states
-  unfolding policyOf
-  states-are = refl
 
 module _ (d : Document) (ok : lawful d ≡ true) where
   abbrev p : Policy

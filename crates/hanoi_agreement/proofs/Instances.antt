@@ -1,20 +1,16 @@
 -- Premises that are met: by computation, and by the calls that demand 3's own instances have. Assumes nothing.
-use Prim.Native.Nat.{ℕ}
-use Prim.Native.String.{String}
 use mathlib.Core.Path.{_≡_, refl, sym, ap, _∙_}
-use mathlib.Core.Bool.{true, false}
-use mathlib.Core.List.{List, [], _∷_}
+use mathlib.Core.Bool.{false}
 use Rattle.masks.specs.Masks.{has, insert, setOf}
 use Rattle.mark_sets.specs.MarkSets.{firsts, colourIn, unionAt}
 use Rattle.hanoi.specs.declared.Answer.{Answer}
 use Rattle.hanoi.specs.declared.Outcome.the-variants.{Read}
 use Rattle.hanoi.specs.Texts.{white, goesOn, decimalIn, decimal}
-use Rattle.hanoi.specs.Documents.{Document, letters, Says}
+use Rattle.hanoi.specs.Documents.{letters, Says}
 use Rattle.hanoi.specs.Meaning.{holds, markSet, edgesOf, markSets, colourOf, named, policyOf}
-use Rattle.hanoi.specs.Offers.{takes, ends, takesName, isNew, numbered, named as nameRead, wordOn, beginWord, begin, byteAt, Spot, between, stepByte, run}
-use Rattle.hanoi.specs.Reader.{At, finished, plug, whole, andThen, marking, documentOf, rowOver, edgeNext, rowNext, marksNext, close, namesNext, offers, first}
+use Rattle.hanoi.specs.Offers.{takes, ends, takesName, isNew, numbered, named as nameRead, wordOn, beginWord, begin, byteAt, between, stepByte, run}
+use Rattle.hanoi.specs.Reader.{finished, plug, whole, andThen, marking, documentOf, rowOver, edgeNext, rowNext, marksNext, close, namesNext, offers, first}
 use Rattle.hanoi.specs.Answers.{answerOf}
-use Rattle.hanoi.specs.Reading.{hanoiOf}
 use Rattle.hanoi.proofs.Answering.{said-back, answers}
 use Rattle.correctness.specs.Calls.{Function, Places, Translating, Running}
 use Rattle.correctness.specs.Known.{B}

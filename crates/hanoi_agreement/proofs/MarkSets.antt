@@ -3,9 +3,9 @@ use Prim.Native.Nat.{ℕ, zero, suc, _<_}
 use native.Mathlib.Omega.{arith}
 use native.Mathlib.Decide.{ℕ-discrete}
 use mathlib.Core.Path.{_≡_, refl, sym, ap, _∙_}
-use mathlib.Core.Logic.{_⊎_, inl, inr, _↔_}
-use mathlib.Core.Bool.{Bool, true, false, not, _||_, cond, false≢true}
-use mathlib.Core.List.{List, [], _∷_, List·Memᴰ, List·Memᴰ·head, List·Memᴰ·tail}
+use mathlib.Core.Logic.{_⊎_, inl, inr}
+use mathlib.Core.Bool.{true, false, not, cond, false≢true}
+use mathlib.Core.List.{List, _∷_, List·Memᴰ, List·Memᴰ·head, List·Memᴰ·tail}
 use lib.Bits.{bitOr}
 use lib.Dec.{eqb}
 use lib.ListN.{length, getD}
@@ -66,9 +66,6 @@ module _ (sets : List ℕ) (s m : ℕ) where
   some-union zero q = absurd (omega (arith, q .1))
   some-union (suc n) q = go (test (has s n)) (below-suc (q .0) n (q .1)) (λ l. some-union n (q .0, l, q .2, q .3))
     where
-      r : ℕ
-      r = unionAt sets s n
-
       go : (has s n ≡ true) ⊎ (has s n ≡ false) → (q .0 < n) ⊎ (q .0 ≡ n) → (q .0 < n → has (unionAt sets s n) m ≡ true) → has (cond (has s n) (bitOr (unionAt sets s n) (getD sets n 0)) (unionAt sets s n)) m ≡ true
       go (inl y) (inl l) ih = rw y (has-or m (unionAt sets s n) (getD sets n 0) ∙ or-left (has (unionAt sets s n) m) (has (getD sets n 0) m) (ih l))
       go (inl y) (inr e) ih = rw y (has-or m (unionAt sets s n) (getD sets n 0) ∙ or-right (has (unionAt sets s n) m) (has (getD sets n 0) m) (ap (λ (c : ℕ). has (getD sets c 0) m) (sym e) ∙ q .3))

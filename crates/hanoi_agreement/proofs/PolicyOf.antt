@@ -8,6 +8,7 @@ use lib.Dec.{ltb}
 use lib.ListN.{length, getD, replicate, length-map, List·getD-map, List·getD-eq-default}
 use borrow.Author.Tests.{lt-ltb}
 use Rattle.lists.proofs.Lists.{replicate-at, getD-map-below}
+use Rattle.tables.proofs.Columns.{map-at}
 use Rattle.policy.specs.declared.Policy.{Policy}
 use Rattle.policy.specs.Policies.{edgeOf, targetOf, colourOf, inFamily}
 use Rattle.running.specs.Running.{policyStep}
@@ -22,14 +23,17 @@ padded-at [] k i = replicate-at k i 0
 padded-at (x ∷ l) k zero = refl
 padded-at (x ∷ l) k (suc i) = padded-at l k i
 
-map-at : {A : Type 0} (f : A → ℕ) (l : List A) (i : ℕ) (a : A) → i < length l → getD (map f l) i 0 ≡ f (getD l i a)
-map-at f [] i a h = absurd (omega arith)
-map-at f (x ∷ l) zero a h = refl
-map-at f (x ∷ l) (suc i) a h = map-at f l i a (omega arith)
-
 module _ (d : Document) where
   abbrev p : Policy
   p = policyOf d
+
+  pub states-are : p .states ≡ d .states
+  unfolding policyOf
+  states-are = refl
+
+  pub letters-are : p .letters ≡ letters d
+  unfolding policyOf
+  letters-are = refl
 
   -- edge e of the document
   abbrev pub edge : ℕ → Edge
@@ -42,7 +46,7 @@ module _ (d : Document) where
 
   pub colour-at : (e : ℕ) → e < length (edgesOf d) → colourOf p e ≡ edgeColour d (edge e)
   unfolding colourOf policyOf
-  colour-at e h = padded-at (map (edgeColour d) (edgesOf d)) (64 - length (map (edgeColour d) (edgesOf d))) e ∙ map-at (edgeColour d) (edgesOf d) e (plain 0) h
+  colour-at e h = padded-at (map (edgeColour d) (edgesOf d)) (64 - length (map (edgeColour d) (edgesOf d))) e ∙ map-at (edgeColour d) (edgesOf d) (plain 0) e h
 
   pub past-target : (e : ℕ) → length (edgesOf d) ≤ e → targetOf p e ≡ 0
   past-target e h = target-at e ∙ ap edgeTarget (List·getD-eq-default (edgesOf d) (plain 0) h)

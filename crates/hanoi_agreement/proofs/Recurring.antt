@@ -1,7 +1,7 @@
 -- A run that meets things of two kinds, each of the one kind with some of the other: where one of the first kind recurs, some of the second recurs that it is met with. Among n states both
 -- are what the window holds. Assumes nothing.
 use Prim.Native.Nat.{ℕ, _+_, _≤_, _<_}
-use mathlib.Core.Path.{_≡_, sym, ap, _∙_, subst}
+use mathlib.Core.Path.{_≡_, ap, _∙_, subst}
 use mathlib.Core.Logic.{_⊎_, inl, inr}
 use mathlib.Core.List.{List, [], _∷_, List·Memᴰ, List·Memᴰ·not-nil, Memᴰ·append-left, Memᴰ·append-right, List·Memᴰ·append-cases}
 use Rattle.recurrence.specs.Iterates.{iter}

@@ -1,7 +1,6 @@
 -- Demand 3 for a policy that was read from a text: from demand 3 over the calls, and the agreement of the policy and the text. Assumes nothing.
 use Prim.Native.Nat.{ℕ, _<_}
 use mathlib.Core.Path.{_≡_, refl, sym, ap, _∙_, subst}
-use mathlib.Core.Bool.{true}
 use mathlib.Core.List.{List}
 use lib.Dec.{ltb}
 use lib.ListN.{getD}
@@ -11,17 +10,16 @@ use Rattle.masks.specs.Masks.{has}
 use Rattle.masks.proofs.Bits.{mask-ext}
 use Rattle.policy.specs.declared.Policy.{Policy}
 use Rattle.policy.specs.Policies.{inFamily}
-use Rattle.hanoi.specs.declared.Outcome.the-variants.{Read}
-use Rattle.hanoi.specs.Documents.{Document, letters, lawful}
+use Rattle.hanoi.specs.Documents.{Document, letters}
 use Rattle.hanoi.specs.Meaning.{policyOf}
-use Rattle.hanoi.specs.Answers.{answerOf}
 use Rattle.correctness.specs.Calls.{Function, Places, Call, Translating, Running, translate, translateShows, read, readShows, wulfrenda-translate, wulfrendaTranslateShows, wulfrenda-translate-bytes, wulfrendaTranslateBytesShows, wulfrenda-run, wulfrendaRunShows}
-use Rattle.correctness.specs.Demand3.{under, BuiltRun, Holds, Decided as CallsDecided, Agreement as CallsAgreement}
+use Rattle.correctness.specs.Demand3.{under, Holds, Decided as CallsDecided, Agreement as CallsAgreement}
 use Rattle.correctness.proofs.Joint.{in-good}
 use Rattle.correctness.proofs.Translated.{Success, success-legal, stands-over}
 use Rattle.correctness.proofs.Demand3.{translated, wulfrenda-translated, wulfrenda-translated-bytes, demand3}
 use Rattle.hanoi_agreement.specs.Agreement.{Decided, Agreement}
 use Rattle.hanoi_agreement.specs.TextDemand3.{TextDecided, TextAgreement, TextHolds, TextDemand3}
+use Rattle.hanoi_agreement.proofs.PolicyOf.{states-are, letters-are}
 use Rattle.hanoi_agreement.proofs.Legal.{read-policy}
 use Rattle.hanoi_agreement.proofs.Agreement.{agrees}
 
@@ -50,14 +48,6 @@ module _ (d : Document) (t : Translating) (stem loop : List ℕ) (calls : ℕ �
     over = λ i. b .over i ∙ sym (x .same-state i);
     decided = λ some. decided-both (b .decided (ap (λ (n : ℕ). any (λ a. ltb a n) loop) e ∙ some)) (x .decided some);
   }
-
-letters-are : (d : Document) → policyOf d .letters ≡ letters d
-unfolding policyOf
-letters-are d = refl
-
-states-are : (d : Document) → policyOf d .states ≡ d .states
-unfolding policyOf
-states-are d = refl
 
 -- the policy state under a built state is a state of the policy
 under-lt : (t : Translating) → Success t → (s : ℕ) → s < getD (t .counts) 1 0 → under t s < t .policy .states

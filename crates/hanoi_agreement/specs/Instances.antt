@@ -1,6 +1,5 @@
 -- Premises that are met: a text, the document that it says, that it is read and has the policy B of document 01, and calls of which demand 3 for a text speaks.
-use Prim.Native.Nat.{ℕ, _<_}
-use Prim.Native.String.{String}
+use Prim.Native.Nat.{ℕ}
 use mathlib.Core.Path.{_≡_}
 use mathlib.Core.Bool.{true}
 use mathlib.Core.List.{List, [], _∷_}
