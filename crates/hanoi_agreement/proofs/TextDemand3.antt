@@ -3,7 +3,6 @@ use Prim.Native.Nat.{ℕ, _<_}
 use mathlib.Core.Path.{_≡_, refl, sym, ap, _∙_, subst}
 use mathlib.Core.List.{List}
 use lib.Dec.{ltb}
-use lib.ListN.{getD}
 use Rattle.lists.specs.Lists.{any}
 use Rattle.lists.proofs.Bools.{bool-ext}
 use Rattle.masks.specs.Masks.{has}
@@ -13,7 +12,7 @@ use Rattle.policy.specs.Policies.{inFamily}
 use Rattle.hanoi.specs.Documents.{Document, letters}
 use Rattle.hanoi.specs.Meaning.{policyOf}
 use Rattle.correctness.specs.Calls.{Function, Places, Call, Translating, Running, translate, translateShows, read, readShows, wulfrenda-translate, wulfrendaTranslateShows, wulfrenda-translate-bytes, wulfrendaTranslateBytesShows, wulfrenda-run, wulfrendaRunShows}
-use Rattle.correctness.specs.Demand3.{under, Holds, Decided as CallsDecided, Agreement as CallsAgreement}
+use Rattle.correctness.specs.Demand3.{stateCount, under, Holds, Decided as CallsDecided, Agreement as CallsAgreement}
 use Rattle.correctness.proofs.Joint.{in-good}
 use Rattle.correctness.proofs.Translated.{Success, success-legal, stands-over}
 use Rattle.correctness.proofs.Demand3.{translated, wulfrenda-translated, wulfrenda-translated-bytes, demand3}
@@ -50,7 +49,7 @@ module _ (d : Document) (t : Translating) (stem loop : List ℕ) (calls : ℕ �
   }
 
 -- the policy state under a built state is a state of the policy
-under-lt : (t : Translating) → Success t → (s : ℕ) → s < getD (t .counts) 1 0 → under t s < t .policy .states
+under-lt : (t : Translating) → Success t → (s : ℕ) → s < stateCount t → under t s < t .policy .states
 under-lt t done s h =
     let o = stands-over t done (record { state = s }) h in
     in-good (t .policy) (success-legal t done) (record { state = s }) (under t s) _ (record { is-built = o .is-built; over = o .over; leaf-is = refl }) .0
