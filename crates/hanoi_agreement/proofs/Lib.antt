@@ -1,0 +1,9 @@
+pub mod MarkSets
+pub mod Documents
+pub mod PolicyOf
+pub mod Legal
+pub mod Recurring
+pub mod Agreement
+pub mod Texts
+pub mod TextDemand3
+pub mod Instances

@@ -1,0 +1,3 @@
+pub mod Agreement
+pub mod TextDemand3
+pub mod Instances
