@@ -11,4 +11,5 @@ pub mod Ending
 pub mod Living
 pub mod Answering
 pub mod Carrying
+pub mod Documents
 pub mod Prefixes

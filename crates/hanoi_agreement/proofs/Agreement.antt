@@ -36,8 +36,8 @@ use Rattle.hanoi.specs.Answers.{answerOf}
 use Rattle.correctness.specs.Demand3.{letterAt, Recurs, policyState, coloursMet}
 use Rattle.correctness.proofs.Sequences.{recurs-along}
 use Rattle.hanoi_agreement.specs.Agreement.{textState, marksMet, Agreement}
-use Rattle.hanoi_agreement.proofs.MarkSets.{union-some, some-union}
-use Rattle.hanoi_agreement.proofs.Documents.{colour-lt, colour-has, edges-long, edge-in}
+use Rattle.mark_sets.proofs.Unions.{union-has}
+use Rattle.hanoi.proofs.Documents.{colour-lt, colour-has, edges-long, edge-in}
 use Rattle.hanoi_agreement.proofs.PolicyOf.{letters-are, colour-at, step-same, family-at, named-is}
 use Rattle.hanoi_agreement.proofs.Legal.{read-parts, read-legal}
 use Rattle.hanoi_agreement.proofs.Recurring.{recurs-with}
@@ -187,8 +187,8 @@ module _ (d : Document) (ok : lawful d ≡ true) where
 
     marks-recur : (m : ℕ) → (has marks m ≡ true) ↔ Recurs stem loop (marksMet stem loop d v) m
     marks-recur m = (
-      λ t. let c = union-some (markSets d) colours m (length (markSets d)) t in colour-recurs (c .0) (c .2) .1 m (c .3),
-      λ r. let c = mark-recurs m r in some-union (markSets d) colours m (length (markSets d)) (c .0, colour-recurs (c .0) (c .1) .0, c .1, c .2),
+      λ t. let c = union-has (markSets d) colours (length (markSets d)) m .0 t in colour-recurs (c .0) (c .2) .1 m (c .3),
+      λ r. let c = mark-recurs m r in union-has (markSets d) colours (length (markSets d)) m .1 (c .0, colour-recurs (c .0) (c .1) .0, c .1, c .2),
     )
 
     colours-lt : colours < 2 ^ length (markSets d)

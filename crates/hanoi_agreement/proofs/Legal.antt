@@ -20,7 +20,7 @@ use Rattle.hanoi.specs.declared.Outcome.the-variants.{Read, Refused}
 use Rattle.hanoi.specs.Documents.{plain, Document, letters, lawful}
 use Rattle.hanoi.specs.Meaning.{holds, edgesOf, markSets, named, policyOf}
 use Rattle.hanoi.specs.Answers.{answerOf}
-use Rattle.hanoi_agreement.proofs.Documents.{colour-lt, start-lt, letters-some, letters-few, edges-long, edge-target, colours-some}
+use Rattle.hanoi.proofs.Documents.{colour-lt, start-lt, letters-some, letters-few, edges-long, edge-target, colours-some}
 use Rattle.hanoi_agreement.proofs.PolicyOf.{edge, target-at, colour-at, past-target, past-colour, family-at}
 
 -- ---- the answer

@@ -1,5 +1,3 @@
-pub mod MarkSets
-pub mod Documents
 pub mod PolicyOf
 pub mod Legal
 pub mod Recurring

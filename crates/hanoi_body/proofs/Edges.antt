@@ -1,20 +1,20 @@
 -- Laws of reading the marks of an edge, and an edge. Assumes nothing.
-use Prim.Native.Nat.{ℕ, suc, _+_, _-_, _*_, _%_, _^_, _≤_, _<_}
+use Prim.Native.Nat.{ℕ, _+_, _*_, _%_, _^_, _≤_, _<_}
 use native.Mathlib.Omega.{arith}
-use mathlib.Core.Path.{_≡_, refl, sym, ap, ap₂, _∙_, subst}
+use mathlib.Core.Path.{_≡_, refl, sym, ap, ap₂, _∙_}
 use mathlib.Core.Bool.{Bool, true, false, cond, false≢true, true≢false}
 use mathlib.Core.List.{List, [], _∷_, _++_}
 use lib.Bits.{bitOr, or-zero-l}
-use lib.Dec.{eqb, ltb}
+use lib.Dec.{eqb}
 use lib.ListN.{length, getD}
 use Rattle.lists.proofs.Bools.{neqb, lt-true}
 use Rattle.masks.specs.Masks.{insert, setOf}
 use Rattle.masks.proofs.Bits.{shl-one}
 use Rattle.masks.proofs.SetOf.{set-append}
 use Rattle.hanoi.specs.Texts.{white, digit}
-use Rattle.hanoi.specs.Documents.{Formula, Edge, plain, marked, targetOf}
+use Rattle.hanoi.specs.Documents.{Formula, Edge, plain, marked}
 use Rattle.hanoi.specs.Meaning.{markSet}
-use Rattle.hanoi.specs.Offers.{Numbers, below, takes, takesName, Spot, between, dead, wordOn, beginWord, begin, byteAt, stepByte}
+use Rattle.hanoi.specs.Offers.{below, takesName, Spot, between, dead, wordOn, beginWord, begin, byteAt, stepByte}
 use Rattle.hanoi.specs.Reader.{Head, At, edges, target, braces, rowOver, edgeNext, rowNext, offers}
 use Rattle.hanoi_tokens.specs.declared.Begun.{Begun}
 use Rattle.hanoi_tokens.specs.declared.Number.{Number}
@@ -23,8 +23,7 @@ use Rattle.hanoi_tokens.specs.Moves.{Moves, Stops, Reads}
 use Rattle.hanoi_tokens.specs.Tokens.{Begins, numbersFor, ReadsDigits}
 use Rattle.hanoi_tokens.proofs.Moves.{stay, moves-on, moves-stops, moves-reads, one}
 use Rattle.hanoi_body.specs.declared.Marks.{Marks}
-use Rattle.hanoi_body.specs.declared.Step.{Step}
-use Rattle.hanoi_body.specs.Edges.{stoppedAt, ReadsMarks, Behind, EdgeAt, Follows, ReadsEdge}
+use Rattle.hanoi_body.specs.Edges.{stoppedAt, ReadsMarks, EdgeAt, ReadsEdge}
 
 -- ---- bytes
 nothing : (x : Bool) → cond {A = Spot At} x dead dead ≡ dead

@@ -2,13 +2,12 @@
 use Prim.Native.Nat.{ℕ, suc, _+_, _-_, _*_, _^_, _≤_, _<_}
 use native.Mathlib.Omega.{arith}
 use native.Mathlib.Nat.{mul-le-mul-right, suc-mul}
-use native.Mathlib.Numerals.{add-one}
 use mathlib.Core.Path.{_≡_, refl, sym, ap, ap₂, _∙_, subst}
 use mathlib.Core.Logic.{_⊎_, inl, inr}
-use mathlib.Core.Bool.{Bool, true, false, cond, false≢true, true≢false}
+use mathlib.Core.Bool.{Bool, true, false, cond, true≢false}
 use mathlib.Core.List.{List, [], _∷_, _++_, map, map-append, append-assoc, append-nil}
 use lib.Dec.{eqb, ltb}
-use lib.ListN.{length, getD, set, replicate, drop, drop-of-length-le, length-append, length-map}
+use lib.ListN.{length, getD, set, replicate, drop-of-length-le, length-append, length-map}
 use lib.Seq.{set-at}
 use Rattle.lists.specs.Lists.{flat}
 use Rattle.lists.proofs.Bools.{test, ≡eqb, neqb}
@@ -16,9 +15,9 @@ use Rattle.hanoi.specs.Words as w
 use Rattle.hanoi.specs.Texts.{white, digit, spelling}
 use Rattle.hanoi.specs.Documents.{Formula, truth, Edge, plain, Document, targetOf}
 use Rattle.hanoi.specs.Meaning.{filled, markSet}
-use Rattle.hanoi.specs.Offers.{Offer, noNumber, exactly, noName, takes, takesName, Spot, between, digits, dead, beginWord, begin, byteAt, stepByte, run}
+use Rattle.hanoi.specs.Offers.{noNumber, exactly, noName, takes, takesName, Spot, between, dead, beginWord, begin, byteAt, stepByte, run}
 use Rattle.hanoi.specs.Reader.{Head, At, body, stateNumber, edges, finished, documentOf, on, offer, only, rowOver, edgeNext, rowNext, offers}
-use Rattle.hanoi.proofs.Digits.{lt-yes, lt-no}
+use Rattle.hanoi.proofs.Digits.{lt-yes}
 use Rattle.hanoi_tokens.specs.declared.Begun.{Begun}
 use Rattle.hanoi_tokens.specs.declared.Taken.{Taken}
 use Rattle.hanoi_tokens.specs.declared.Number.{Number}
@@ -28,9 +27,9 @@ use Rattle.hanoi_tokens.specs.Tokens.{Skips, Begins, ReadsWord, numbersFor, Rea
 use Rattle.hanoi_tokens.proofs.Moves.{moves-on, moves-stops, moves-reads, none, alike}
 use Rattle.hanoi_body.specs.declared.Step.{Step}
 use Rattle.hanoi_body.specs.declared.Body.{Body}
-use Rattle.hanoi_body.specs.Edges.{Behind, EdgeAt, Follows, ReadsEdge}
-use Rattle.hanoi_body.specs.Body.{Counts, Stored, ReadsBody}
-use Rattle.hanoi_body.specs.Rows.{WithEdge, RowsAt, ReadsState, RowFollows, ReadsRow, ReadsEnd}
+use Rattle.hanoi_body.specs.Edges.{Behind, EdgeAt, ReadsEdge}
+use Rattle.hanoi_body.specs.Body.{Stored}
+use Rattle.hanoi_body.specs.Rows.{WithEdge, RowsAt, ReadsState, ReadsRow, ReadsEnd}
 use Rattle.hanoi_body.proofs.Edges.{edges-numbers}
 
 -- ---- a word that was read

@@ -1,24 +1,24 @@
 -- Laws of reading all states, and the end. Assumes nothing.
-use Prim.Native.Nat.{ℕ, _+_, _*_, _≤_, _<_}
+use Prim.Native.Nat.{ℕ, _+_, _≤_, _<_}
 use native.Mathlib.Omega.{arith}
 use native.Mathlib.Nat.{zero-mul}
-use mathlib.Core.Path.{_≡_, refl, sym, ap, _∙_, subst}
+use mathlib.Core.Path.{_≡_, refl, sym, _∙_, subst}
 use mathlib.Core.Bool.{Bool, true, false, cond, true≢false}
 use mathlib.Core.List.{List, []}
 use lib.Dec.{ltb}
 use lib.ListN.{length, replicate}
 use Rattle.lists.specs.Lists.{flat}
 use Rattle.hanoi.specs.Words as w
-use Rattle.hanoi.specs.Documents.{Formula, Edge}
-use Rattle.hanoi.specs.Offers.{Offer, between}
-use Rattle.hanoi.specs.Reader.{Head, At, body, stateNumber, finished, documentOf, only, offers}
+use Rattle.hanoi.specs.Documents.{Formula}
+use Rattle.hanoi.specs.Offers.{between}
+use Rattle.hanoi.specs.Reader.{Head, body, stateNumber, finished, documentOf, only, offers}
 use Rattle.hanoi.proofs.Digits.{lt-yes, lt-no}
 use Rattle.hanoi_tokens.specs.declared.Taken.{Taken}
 use Rattle.hanoi_tokens.specs.Moves.{Moves, Stops}
 use Rattle.hanoi_tokens.proofs.Moves.{stay, moves-on, moves-stops}
 use Rattle.hanoi_body.specs.declared.Body.{Body}
 use Rattle.hanoi_body.specs.Body.{Counts, Stored, ReadsBody}
-use Rattle.hanoi_body.specs.Rows.{RowsAt, RowFollows, ReadsRow, ReadsEnd}
+use Rattle.hanoi_body.specs.Rows.{RowsAt, ReadsRow, ReadsEnd}
 
 body-offers : (h : Head) (f : Formula) (states : ℕ) → 0 < states → offers (body h f) ≡ cond (ltb 0 states) (only w.State (stateNumber h f [])) (only w.End (finished (documentOf h f [])))
 unfolding offers

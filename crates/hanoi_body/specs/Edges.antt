@@ -1,7 +1,7 @@
 -- What reading an edge promises, of whatever place the reader of documents is at.
 use Prim.Native.Nat.{ℕ, _≤_, _<_}
 use mathlib.Core.Path.{_≡_}
-use mathlib.Core.Bool.{Bool, true, false}
+use mathlib.Core.Bool.{true, false}
 use mathlib.Core.List.{List, [], _∷_, _++_}
 use lib.ListN.{length, getD}
 use Rattle.masks.specs.Masks.{setOf}
@@ -25,7 +25,8 @@ module _ (text : List ℕ) where
         → (ms : List ℕ) × (r .marks ≡ setOf ms) × Moves text m (between false (braces h f rs es t [])) (r .at) (between false (edges h f rs (es ++ (marked t ms ∷ []))))
     pub stops : (h : Head) (f : Formula) (rs : List (List Edge)) (es : List Edge) (t : ℕ) → h .sets ≡ sets → r .ok ≡ false → Stops text m (between false (braces h f rs es t [])) (r .at)
 
-  -- before byte n, which begins a token, s stands behind the edges es of a state: a number leads on as behind them, and so does any other byte
+  -- Before byte n, which begins a token, s stands behind the edges es of a state: it offers the same numbers, and any byte but a digit leads on as behind them. Behind a target with no marks the
+  -- reader stands so, but not at `edges`, since it still offers a brace; and a number keeps the state that it began in up to its last digit.
   pub record Behind (h : Head) (f : Formula) (rs : List (List Edge)) (es : List Edge) (n : ℕ) (s : At) : Type 0 where
     pub begins : white (getD text n 0) ≡ false
     pub numbers-are : offers s .numbers ≡ edgeNext h f rs es

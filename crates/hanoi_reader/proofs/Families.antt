@@ -104,8 +104,8 @@ pub family-more : (text : List ℕ) (m marks : ℕ) (sets : List ℕ) (n u : ℕ
     → IsFamily text m marks sets (n + 1) (set family n (r .value))
 family-more text m marks sets n u family r k p l e q = record {
   is =
-  λ h d bar s x w. ap (λ (t : List Bool). set t n (r .value)) (k .is h d bar s x w) ∙
-  named-set (d .formula) sets n (r .value) p l (value-is text m marks u r q h d bar s x w ∙ ap (λ (y : ℕ). holds y (d .formula)) e);
+      λ h d bar s x w. ap (λ (t : List Bool). set t n (r .value)) (k .is h d bar s x w) ∙
+      named-set (d .formula) sets n (r .value) p l (value-is text m marks u r q h d bar s x w ∙ ap (λ (y : ℕ). holds y (d .formula)) e);
 }
 
 -- ---- how many colour sets there are

@@ -1,7 +1,6 @@
 use native.Mathlib.Omega.{arith}
 use mathlib.Core.Path.{refl, sym, _∙_}
 use mathlib.Core.Bool.{true≢false}
-use borrow.Author.Needs.{needs}
 use Rattle.hanoi_body.proofs.with_edge.Statement.{statement}
 use Rattle.hanoi_body.proofs.with_edge.Tie as tie
 

@@ -12,10 +12,10 @@ use lib.Pow.{pow-pos, pow-mono}
 use Rattle.lists.specs.Lists.{all, flat}
 use Rattle.lists.proofs.Bools.{and-l, and-r, eqb≡, lt-true}
 use Rattle.lists.proofs.Lists.{all-each, flat-mem, mem-map, getD-mem}
 use Rattle.hanoi.specs.Documents.{Edge, plain, Document, targetOf, marksOf, letters, lawfulEdge, lawfulRow, lawful}
 use Rattle.hanoi.specs.Meaning.{markSet, edgesOf, markSets, colourOf, edgeAt}
 use Rattle.hanoi.proofs.Taking.{Lawful, lawful-parts}
-use Rattle.hanoi_agreement.proofs.MarkSets.{colour-below, colour-set}
+use Rattle.mark_sets.proofs.Firsts.{colour-below, colour-set}
 
 -- ---- lists one after the other
 module _ {A : Type 0} where
