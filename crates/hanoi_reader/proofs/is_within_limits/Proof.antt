@@ -8,7 +8,7 @@ returns : tie.Need-returns
 returns c = limits-over _ _ (c .if1 .taken)
 
 mul-result : tie.Need-mul-result
-mul-result c = limits-product (c .before .args .states) (c .before .args .letters) (omega (arith, c .if1 .left)) (c .before .pre)
+mul-result c = omega (arith, limits-product (c .before .args .states) (c .before .args .letters) (omega (arith, c .if1 .left)) (c .before .pre))
 
 returns-2 : tie.Need-returns-2
 returns-2 c = limits-within (c .before .args .states) (c .before .args .letters) (omega (arith, c .if1 .left))
