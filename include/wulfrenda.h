@@ -130,9 +130,9 @@ uint8_t wulfrenda_read(const uint8_t *bytes, size_t bytes_length, uint8_t *recor
  *   State: N edge.. ..
  *   --END--
  *
- * N is a number below 2^31 without leading zeros. States is 1 or more, AP at most 3 and Acceptance at most 32. There are as many names as AP says, all
- * different byte for byte; a name may be empty, and a backslash in it takes the next byte, which is no line feed, with it. A formula has Inf(N), Fin(N), t, f, &,
- * which binds closer, | and parentheses, nested as deep as you like. All states follow in ascending number from 0, each with an edge for every valuation of the
+ * N is a number below 2^31 without leading zeros. States is 1 or more, AP at most 3 and Acceptance at most 32. There are as many names as AP says, all different
+ * byte for byte; a name may be empty, and a backslash in it takes the next byte, which is no line feed, with it. A formula has Inf(N), Fin(N), t, f, parentheses,
+ * nested as deep as you like, and & and |, of which & binds closer. All states follow in ascending number from 0, each with an edge for every valuation of the
  * names: its target, and behind it in braces its marks; {} is the same as no braces. Start, targets and the numbers of states are below States, marks below
  * Acceptance. White space is space, tab, line feed and carriage return. It may stand before and behind every token, and has to where two would merge: between two
  * numbers, and behind v1, t and f before a letter, a digit, _ or -. After --END-- only white space follows. There is no comment and nothing else.
@@ -145,8 +145,8 @@ uint8_t wulfrenda_read(const uint8_t *bytes, size_t bytes_length, uint8_t *recor
  *   record, record_length the policy's record; the length is WULFRENDA_RECORD_BYTES
  *   shared                after 18, the length of the longest beginning that some text of the subset, of whatever length, shares; else 0
  *
- * 7 if record_length is another: record is unchanged. 18: the text is in the subset. 4: there are at most 16 states, and states times letters are at most 64. 19. After
- * 18, 4 and 19 all of record is 0. A text of the subset that only breaks off has text_length in *shared.
+ * 7 if record_length is another: record is unchanged. 18. 4: there are at most 16 states, and states times letters are at most 64. 19. After 18, 4 and 19 all of
+ * record is 0. A text that only breaks off has text_length in *shared.
  */
 uint8_t wulfrenda_read_hanoi(const uint8_t *text, size_t text_length, uint8_t *record, size_t record_length, size_t *shared);
 

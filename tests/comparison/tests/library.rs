@@ -125,7 +125,7 @@ fn known_texts() {
 #[test]
 fn texts_cut_at_every_length() {
     let mut random = random(32);
-    for i in 0..policies(500) {
+    for i in 0..policies(10_000) / 20 {
         let document = document(&mut random, i % 4);
         let tokens = random.tokens(&document);
         for text in [random.spaced(&tokens), random.damaged_text(&tokens)] {

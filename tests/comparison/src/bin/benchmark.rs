@@ -169,7 +169,7 @@ fn line(name: &str, steps: usize, (ours, theirs): (f64, f64)) {
     );
 }
 
-/// From texts in the Hanoi format to policies, the family included. Both sides go through all of a text, and put the formula once for each non-empty set of the colours.
+/// From texts in the Hanoi format to policies, the family included. Both sides go through all of a text, and evaluate the formula for each non-empty set of the colours.
 fn reading_texts(name: &str, texts: &[Vec<u8>]) {
     let colours = texts.iter().map(|t| hanoi::read(t).unwrap().colours);
     let sets: usize = colours.map(|c| (1 << c) - 1).sum();
