@@ -25,11 +25,11 @@ extern "C" {
 
 /* ---- version
  *
- * This file's: major times 1,000,000 plus minor times 1,000 plus patch, here 3.0.0. wulfrenda_version gives the archive's. A record of another length, a
+ * This file's: major times 1,000,000 plus minor times 1,000 plus patch, here 3.1.0. wulfrenda_version gives the archive's. A record of another length, a
  * call with other arguments and other tables for one policy are another major version; other macros and calls are another minor one. Since 3.0.0
- * priorities begin at 1 where no tree with the most levels has an accepting root (see wulfrenda_translate).
+ * priorities begin at 1 where no tree with the most levels has an accepting root (see wulfrenda_translate); since 3.1.0 there is wulfrenda_read_hanoi.
  */
-#define WULFRENDA_VERSION 3000000
+#define WULFRENDA_VERSION 3001000
 
 /* ---- limits */
 
@@ -67,7 +67,7 @@ extern "C" {
  *   bytes 68..131   the colour of each edge; 0 past the last edge
  *   bytes 132..387  for each colour set, an 8-bit mask: not 0 if the set is in the family
  *
- * wulfrenda_read writes 1 for a set in the family. A record may also be filled in by hand: one that is not legal is refused with 7 by the
+ * wulfrenda_read and wulfrenda_read_hanoi write 1 for a set in the family. A record may also be filled in by hand: one that is not legal is refused with 7 by the
  * calls that take it. Legal: the counts within their limits, states times letters at most 64, the initial state and every target a state,
  * every edge's colour a colour, 0 past the last edge, and no member of the family empty or with a bit at or above the number of colours.
  */
@@ -79,23 +79,25 @@ extern "C" {
 /* ---- answers: 0, or the number of the first question that was answered "no". The questions are put in the order that each call names. */
 
 #define WULFRENDA_OK 0
-#define WULFRENDA_TRUNCATED 1         /* Is there another byte? Are a command's operands all there? */
-#define WULFRENDA_UNKNOWN_COMMAND 2   /* Is the command's byte 0 to 3? */
-#define WULFRENDA_MISPLACED 3         /* Is it shape if first, and not shape if later? */
-#define WULFRENDA_OUT_OF_RANGE 4      /* Are the operands within the limits and the declared counts, and an accepted set non-empty? */
-#define WULFRENDA_REPEATED 5          /* Is this edge, or this set, given for the first time? */
-#define WULFRENDA_INCOMPLETE 6        /* At end: has every edge been given? */
-#define WULFRENDA_ILLEGAL_POLICY 7    /* Is the policy legal? */
-#define WULFRENDA_LENGTHS 8           /* Do the tables' lengths belong together? */
-#define WULFRENDA_TOO_MANY_NODES 9    /* Does the node count fit the node tables? */
-#define WULFRENDA_TOO_MANY_STATES 10  /* Does the built state count fit the state tables? */
-#define WULFRENDA_NO_SUCH_STATE 11    /* Is the state one of the policy's, or one that has rows? */
-#define WULFRENDA_NO_SUCH_LETTER 12   /* Is the letter below the number of letters? */
-#define WULFRENDA_NO_SUCH_TARGET 13   /* Is the row's target a state that has rows? */
-#define WULFRENDA_EMPTY_LOOP 14       /* Is the loop non-empty? */
-#define WULFRENDA_DIFFERENT_GRAPHS 15 /* Have both policies the same states, letters and targets? */
-#define WULFRENDA_OWNERS_LENGTH 16    /* Is there one owner for each policy state? */
-#define WULFRENDA_NO_SUCH_OWNER 17    /* Is each owner 0 or 1? */
+#define WULFRENDA_TRUNCATED 1           /* Is there another byte? Are a command's operands all there? */
+#define WULFRENDA_UNKNOWN_COMMAND 2     /* Is the command's byte 0 to 3? */
+#define WULFRENDA_MISPLACED 3           /* Is it shape if first, and not shape if later? */
+#define WULFRENDA_OUT_OF_RANGE 4        /* Are the operands within the limits and the declared counts, and an accepted set non-empty? Of a text: are its counts? */
+#define WULFRENDA_REPEATED 5            /* Is this edge, or this set, given for the first time? */
+#define WULFRENDA_INCOMPLETE 6          /* At end: has every edge been given? */
+#define WULFRENDA_ILLEGAL_POLICY 7      /* Is the policy legal? */
+#define WULFRENDA_LENGTHS 8             /* Do the tables' lengths belong together? */
+#define WULFRENDA_TOO_MANY_NODES 9      /* Does the node count fit the node tables? */
+#define WULFRENDA_TOO_MANY_STATES 10    /* Does the built state count fit the state tables? */
+#define WULFRENDA_NO_SUCH_STATE 11      /* Is the state one of the policy's, or one that has rows? */
+#define WULFRENDA_NO_SUCH_LETTER 12     /* Is the letter below the number of letters? */
+#define WULFRENDA_NO_SUCH_TARGET 13     /* Is the row's target a state that has rows? */
+#define WULFRENDA_EMPTY_LOOP 14         /* Is the loop non-empty? */
+#define WULFRENDA_DIFFERENT_GRAPHS 15   /* Have both policies the same states, letters and targets? */
+#define WULFRENDA_OWNERS_LENGTH 16      /* Is there one owner for each policy state? */
+#define WULFRENDA_NO_SUCH_OWNER 17      /* Is each owner 0 or 1? */
+#define WULFRENDA_NOT_HANOI 18          /* Is the text in the subset of the Hanoi format? */
+#define WULFRENDA_TOO_MANY_MARK_SETS 19 /* Are there at most 8 different mark sets on edges? */
 
 /* ---- the calls */
 
@@ -120,6 +122,33 @@ uint8_t wulfrenda_colour_set(uint8_t position);
  * these refusals all of record is 0, and *offset is where the refused command begins (bytes_length, if there is none).
  */
 uint8_t wulfrenda_read(const uint8_t *bytes, size_t bytes_length, uint8_t *record, size_t record_length, size_t *offset);
+
+/*
+ * Reads a policy from a text in the Hanoi Omega-Automata format, version 1, as far as this subset of it goes:
+ *
+ *   HOA: v1 States: N Start: N AP: N "name".. Acceptance: N formula --BODY--
+ *   State: N edge.. ..
+ *   --END--
+ *
+ * N is a number below 2^31 without leading zeros. States is 1 or more, AP at most 3 and Acceptance at most 32. There are as many names as AP says, all different
+ * byte for byte; a name may be empty, and a backslash in it takes the next byte, which is no line feed, with it. A formula has Inf(N), Fin(N), t, f, parentheses,
+ * nested as deep as you like, and & and |, of which & binds closer. All states follow in ascending number from 0, each with an edge for every valuation of the
+ * names: its target, and behind it in braces its marks; {} is the same as no braces. Start, targets and the numbers of states are below States, marks below
+ * Acceptance. White space is space, tab, line feed and carriage return. It may stand before and behind every token, and has to where two would merge: between two
+ * numbers, and behind v1, t and f before a letter, a digit, _ or -. After --END-- only white space follows. There is no comment and nothing else.
+ *
+ * Letter a of a state is its edge a; name i holds there if bit i of a is set. Each different mark set on an edge, the empty one included, is a colour, numbered by first
+ * appearance. A non-empty colour set is in the family exactly if the formula holds of the union of its mark sets: Inf(m) if m is in it, Fin(m) if not. So the
+ * policy accepts a stem and a loop exactly if the text does.
+ *
+ *   text, text_length     the text, of any length
+ *   record, record_length the policy's record; the length is WULFRENDA_RECORD_BYTES
+ *   shared                after 18, the length of the longest beginning that some text of the subset, of whatever length, shares; else 0
+ *
+ * 7 if record_length is another: record is unchanged. 18. 4: there are at most 16 states, and states times letters are at most 64. 19. After 18, 4 and 19 all of
+ * record is 0. A text that only breaks off has text_length in *shared.
+ */
+uint8_t wulfrenda_read_hanoi(const uint8_t *text, size_t text_length, uint8_t *record, size_t record_length, size_t *shared);
 
 /*
  * Translates a policy: the forest of its cycles, and the parity automaton. Row = built state times letters plus letter. Only the first

@@ -13,6 +13,14 @@ extern "C" {
         offset: *mut usize,
     ) -> u8;
 
+    pub fn wulfrenda_read_hanoi(
+        text: *const u8,
+        text_len: usize,
+        record: *mut u8,
+        record_len: usize,
+        shared: *mut usize,
+    ) -> u8;
+
     pub fn wulfrenda_translate(
         record: *const u8,
         record_len: usize,

@@ -1,6 +1,6 @@
 //! Muller policies into parity automata by the alternating cycle decomposition: a safe layer over the proved static library.
 //!
-//! A [`Policy`] is read from command bytes, [`translate`]d into tables that the caller lends, and the built automaton is run letter by letter with [`Run`]. With
+//! A [`Policy`] is read from command bytes or from a text in the Hanoi format, [`translate`]d into tables that the caller lends, and the built automaton is run letter by letter with [`Run`]. With
 //! [`solve`] the tables hold, beside the automaton, who wins the supervisor's game on it and by which letters.
 //! Nothing is allocated.
 //!
@@ -22,7 +22,7 @@ mod policy;
 mod refusal;
 
 pub use policy::{Policy, RECORD_LEN};
-pub use refusal::{ReadError, Refusal};
+pub use refusal::{HanoiError, ReadError, Refusal};
 
 /// What stands in the tables for no node: the parent of a root, the leaf of a state in no cycle.
 pub const NONE: u16 = 65_535;
@@ -37,7 +37,7 @@ pub const PLANT: u8 = 1;
 pub const NO_LETTER: u8 = 255;
 
 /// The version that this layer is built for: major times 1,000,000 plus minor times 1,000 plus patch. [`version`] gives the archive's.
-pub const VERSION: u32 = 3_000_000;
+pub const VERSION: u32 = 3_001_000;
 
 /// Stack enough for any call.
 pub const STACK_BYTES: usize = 262_144;

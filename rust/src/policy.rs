@@ -3,7 +3,7 @@
 use core::fmt;
 
 use crate::ffi;
-use crate::refusal::{ReadError, Refusal};
+use crate::refusal::{HanoiError, ReadError, Refusal};
 
 /// How many bytes a policy's record has: states, letters, colours, initial state; the targets of 64 edges; their colours; and for each of the 256 colour sets
 /// whether it is in the family.
@@ -38,6 +38,42 @@ impl Policy {
         match Refusal::check(number) {
             Ok(()) => Ok((Policy { record }, &bytes[offset..])),
             Err(refusal) => Err(ReadError { refusal, offset }),
+        }
+    }
+
+    /// The policy of a text in the Hanoi Omega-Automata format, version 1, as far as the subset goes that `include/wulfrenda.h` describes. Letters are the valuations of
+    /// the names, and each different mark set on an edge is a colour. Refused with 18, 4 or 19.
+    ///
+    /// ```
+    /// use wulfrenda::{judge_policy, Policy, Refusal};
+    ///
+    /// // one state, on which the event is seen or not; good if it is seen again and again
+    /// let text = r#"HOA: v1 States: 1 Start: 0 AP: 1 "event" Acceptance: 1 Inf(0) --BODY-- State: 0 0 0 {0} --END--"#;
+    /// let policy = Policy::read_hanoi(text.as_bytes())?;
+    /// assert_eq!((policy.letters(), policy.colours()), (2, 2));
+    /// assert!(judge_policy(&policy, 0, &[], &[0, 1])?.accepted);
+    /// assert!(!judge_policy(&policy, 0, &[1], &[0])?.accepted);
+    ///
+    /// let error = Policy::read_hanoi(b"HOA: v1 States: 0").unwrap_err();
+    /// assert_eq!((error.refusal, error.shared), (Refusal::NotHanoi, 16));
+    /// # Ok::<(), Box<dyn std::error::Error>>(())
+    /// ```
+    pub fn read_hanoi(text: &[u8]) -> Result<Policy, HanoiError> {
+        let mut record = [0; RECORD_LEN];
+        let mut shared = 0;
+        // SAFETY: each pointer is that of a slice or an array, with its length, or of a local.
+        let number = unsafe {
+            ffi::wulfrenda_read_hanoi(
+                text.as_ptr(),
+                text.len(),
+                record.as_mut_ptr(),
+                record.len(),
+                &mut shared,
+            )
+        };
+        match Refusal::check(number) {
+            Ok(()) => Ok(Policy { record }),
+            Err(refusal) => Err(HanoiError { refusal, shared }),
         }
     }
 

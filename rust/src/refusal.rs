@@ -13,7 +13,7 @@ pub enum Refusal {
     UnknownCommand = 2,
     /// 3: the first command is not shape, or a later one is.
     Misplaced = 3,
-    /// 4: an operand is outside the limits or the declared counts, or an accepted set is empty.
+    /// 4: an operand is outside the limits or the declared counts, or an accepted set is empty; a text has too many states, or states times letters.
     OutOfRange = 4,
     /// 5: an edge or a set is given again.
     Repeated = 5,
@@ -41,6 +41,10 @@ pub enum Refusal {
     OwnersLength = 16,
     /// 17: an owner is neither 0, the supervisor, nor 1, the plant.
     NoSuchOwner = 17,
+    /// 18: a text is not in the subset of the Hanoi format.
+    NotHanoi = 18,
+    /// 19: a text has more than 8 different mark sets.
+    TooManyMarkSets = 19,
 }
 
 impl Refusal {
@@ -72,7 +76,9 @@ impl Refusal {
             15 => DifferentGraphs,
             16 => OwnersLength,
             17 => NoSuchOwner,
-            _ => unreachable!("the library answers 0 to 17"),
+            18 => NotHanoi,
+            19 => TooManyMarkSets,
+            _ => unreachable!("the library answers 0 to 19"),
         })
     }
 
@@ -81,7 +87,7 @@ impl Refusal {
             Refusal::Truncated => "the command bytes end inside the policy",
             Refusal::UnknownCommand => "unknown command",
             Refusal::Misplaced => "the first command is not shape, or a later one is",
-            Refusal::OutOfRange => "an operand is outside the limits",
+            Refusal::OutOfRange => "an operand or a count is outside the limits",
             Refusal::Repeated => "an edge or a set is given again",
             Refusal::Incomplete => "an edge is missing at the end",
             Refusal::IllegalPolicy => "the policy is not legal",
@@ -95,6 +101,8 @@ impl Refusal {
             Refusal::DifferentGraphs => "the policies have different graphs",
             Refusal::OwnersLength => "there is not one owner for each policy state",
             Refusal::NoSuchOwner => "no such owner",
+            Refusal::NotHanoi => "the text is not in the subset of the Hanoi format",
+            Refusal::TooManyMarkSets => "there are more than 8 different mark sets",
         }
     }
 }
@@ -139,3 +147,37 @@ impl fmt::Display for ReadError {
 }
 
 impl Error for ReadError {}
+
+/// Why a text in the Hanoi format was not read, and how far it goes.
+#[derive(Clone, Copy, Debug, PartialEq, Eq, Hash)]
+pub struct HanoiError {
+    /// The question that was answered "no": [`Refusal::NotHanoi`], [`Refusal::OutOfRange`] or [`Refusal::TooManyMarkSets`].
+    pub refusal: Refusal,
+    /// After [`Refusal::NotHanoi`], the length of the longest beginning that some text of the subset shares: the byte there is the first that cannot stand where it
+    /// does, or the text breaks off. 0 otherwise.
+    pub shared: usize,
+}
+
+impl HanoiError {
+    /// The number of the question.
+    pub fn number(self) -> u8 {
+        self.refusal.number()
+    }
+}
+
+impl fmt::Display for HanoiError {
+    fn fmt(&self, f: &mut fmt::Formatter<'_>) -> fmt::Result {
+        if self.refusal != Refusal::NotHanoi {
+            return self.refusal.fmt(f);
+        }
+        write!(
+            f,
+            "refused {} {}: {}",
+            self.number(),
+            self.shared,
+            self.refusal.text()
+        )
+    }
+}
+
+impl Error for HanoiError {}

@@ -1,9 +1,9 @@
-//! The known policies, the edges of the limits, what the tables hold after each refusal, solutions, runs, judgings and comparings, through the safe layer.
+//! The known policies, texts, the edges of the limits, what the tables hold after each refusal, solutions, runs, judgings and comparings, through the safe layer.
 
 use wulfrenda::{
     colour_set_at, compare, judge_policy, judge_rows, solve, solve_bytes, translate,
-    translate_bytes, version, Counts, Policy, ReadError, Refusal, Rows, Run, Solution, Tables,
-    Verdict, NONE, NO_LETTER, PLANT, RECORD_LEN, STACK_BYTES, SUPERVISOR, VERSION,
+    translate_bytes, version, Counts, HanoiError, Policy, ReadError, Refusal, Rows, Run, Solution,
+    Tables, Verdict, NONE, NO_LETTER, PLANT, RECORD_LEN, STACK_BYTES, SUPERVISOR, VERSION,
 };
 
 const B: [u8; 30] = [
@@ -156,6 +156,11 @@ fn header_layer_and_archive_are_of_one_version() {
         ("WULFRENDA_NO_LETTER", NO_LETTER),
         ("WULFRENDA_OWNERS_LENGTH", Refusal::OwnersLength.number()),
         ("WULFRENDA_NO_SUCH_OWNER", Refusal::NoSuchOwner.number()),
+        ("WULFRENDA_NOT_HANOI", Refusal::NotHanoi.number()),
+        (
+            "WULFRENDA_TOO_MANY_MARK_SETS",
+            Refusal::TooManyMarkSets.number(),
+        ),
     ] {
         assert_eq!(in_header(name), usize::from(value), "{name}");
     }
@@ -228,6 +233,87 @@ fn a_record_gives_its_policy_back() {
 #[should_panic]
 fn there_are_64_edges() {
     policy(&B).target(64);
+}
+
+// ---- reading texts
+
+#[test]
+fn a_text_gives_its_policy() {
+    let text = include_bytes!("../../examples/b.hoa");
+    assert_eq!(Policy::read_hanoi(text), Ok(policy(&B)));
+    let p = Policy::read_hanoi(include_bytes!("../../examples/pump.hoa")).unwrap();
+    assert_eq!(
+        (p.states(), p.letters(), p.colours(), p.initial()),
+        (3, 2, 4, 1)
+    );
+    let edges: Vec<_> = (0..6).map(|e| (p.target(e), p.colour(e))).collect();
+    // {} and no braces are one colour
+    assert_eq!(edges, [(1, 0), (0, 1), (0, 1), (2, 2), (2, 2), (1, 3)]);
+    // mark 0, and mark 2 if there is mark 1
+    let family: Vec<u8> = (0..=255).filter(|&set| p.accepts(set)).collect();
+    assert_eq!(family, [1, 3, 9, 11, 13, 15]);
+}
+
+#[test]
+fn reading_texts_refuses_in_order() {
+    let refused = |text: &str, refusal, shared| {
+        let answer = Policy::read_hanoi(text.as_bytes());
+        assert_eq!(answer, Err(HanoiError { refusal, shared }), "{text}");
+    };
+    // so many states, each with a mark of its own, and so many names
+    let text = |states: usize, names: usize, end: &str| {
+        let named: String = (0..names).map(|name| format!(" \"{name}\"")).collect();
+        let mut text = format!("HOA: v1 States: {states} Start: 0 AP: {names}{named}");
+        text += " Acceptance: 32 t --BODY--";
+        for v in 0..states {
+            let edges = format!(" 0 {{{v}}}").repeat(1 << names);
+            text += &format!(" State: {v}{edges}");
+        }
+        text + end
+    };
+    let end = " --END--";
+    for (states, names) in [(8, 0), (8, 3)] {
+        let policy = Policy::read_hanoi(text(states, names, end).as_bytes()).unwrap();
+        assert_eq!((policy.states(), policy.letters()), (8, 1 << names));
+    }
+    refused(&text(9, 0, end), Refusal::TooManyMarkSets, 0);
+    refused(&text(16, 2, end), Refusal::TooManyMarkSets, 0);
+    // 4 is asked before 19, and 18 before both
+    refused(&text(17, 0, end), Refusal::OutOfRange, 0);
+    refused(&text(9, 3, end), Refusal::OutOfRange, 0);
+    let part = text(17, 0, " --E");
+    refused(&part, Refusal::NotHanoi, part.len());
+    refused(&text(17, 0, " --Ed"), Refusal::NotHanoi, part.len());
+    refused("", Refusal::NotHanoi, 0);
+    refused("HOA: v1 States: 2147483648", Refusal::NotHanoi, 25);
+    refused("HOA: v1 States: 2 Start: 2", Refusal::NotHanoi, 25);
+    let error = Policy::read_hanoi(b"HOA: v2").unwrap_err();
+    assert_eq!((error.number(), error.shared), (18, 6));
+    assert_eq!(
+        error.to_string(),
+        "refused 18 6: the text is not in the subset of the Hanoi format"
+    );
+    let error = Policy::read_hanoi(text(9, 0, end).as_bytes()).unwrap_err();
+    assert_eq!(
+        error.to_string(),
+        "refused 19: there are more than 8 different mark sets"
+    );
+}
+
+#[test]
+fn a_formula_nests_as_deep_as_it_likes() {
+    let text = |depth: usize| {
+        let (open, close) = ("(".repeat(depth), ")".repeat(depth));
+        format!("HOA: v1 States: 1 Start: 0 AP: 0 Acceptance: 1 {open}Inf(0) & f | t{close} --BODY-- State: 0 0 --END--")
+    };
+    let deep = text(1_000_000);
+    assert_eq!(
+        Policy::read_hanoi(deep.as_bytes()),
+        Policy::read_hanoi(text(0).as_bytes())
+    );
+    let part = &deep.as_bytes()[..1_500_000];
+    let error = Policy::read_hanoi(part).unwrap_err();
+    assert_eq!((error.number(), error.shared), (18, part.len()));
 }
 
 // ---- translating

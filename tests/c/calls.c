@@ -238,6 +238,70 @@ static void reading(void) {
     }
 }
 
+/* What reading a text refuses: the number, how much of it some text of the subset shares, and the text. */
+static const struct {
+    uint8_t number;
+    size_t shared;
+    const char *text;
+} not_read[] = {
+    {WULFRENDA_NOT_HANOI, 0, ""},
+    {WULFRENDA_NOT_HANOI, 0, "x"},
+    {WULFRENDA_NOT_HANOI, 3, "HOA"},
+    {WULFRENDA_NOT_HANOI, 6, "HOA:v1States:1"},
+    {WULFRENDA_NOT_HANOI, 16, "HOA: v1 States: 0"},
+    {WULFRENDA_NOT_HANOI, 26, "HOA: v1 States: 2147483647"},
+    {WULFRENDA_NOT_HANOI, 25, "HOA: v1 States: 2147483648"},
+    {WULFRENDA_NOT_HANOI, 26, "HOA: v1 States: 2 Start: 01"},
+    {WULFRENDA_NOT_HANOI, 34, "HOA: v1 States:1Start:0AP:2\"ab\"\"ab\""},
+    {WULFRENDA_NOT_HANOI, 40, "HOA: v1 States:1Start:0AP:0Acceptance:0 Inf(0)"},
+    {WULFRENDA_NOT_HANOI, 65, "HOA: v1 States: 2 Start: 0 AP: 0 Acceptance: 0 t --BODY-- State: 1"},
+    {WULFRENDA_NOT_HANOI, 75, "HOA: v1 States: 1 Start: 0 AP: 0 Acceptance: 1 t --BODY-- State: 0 0 {0} --ABORT--"},
+    {WULFRENDA_OUT_OF_RANGE, 0,
+     "HOA: v1 States: 17 Start: 16 AP: 0 Acceptance: 9 t --BODY-- State: 0 0 {0} State: 1 0 {1} State: 2 0 {2} State: 3 0 {3} State: 4 0 {4} State: 5 0 {5} "
+     "State: 6 0 {6} State: 7 0 {7} State: 8 0 {8} State: 9 0 State: 10 0 State: 11 0 State: 12 0 State: 13 0 State: 14 0 State: 15 0 State: 16 0 --END--"},
+    {WULFRENDA_TOO_MANY_MARK_SETS, 0,
+     "HOA: v1 States: 3 Start: 0 AP: 2 \"a\" \"b\" Acceptance: 8 t --BODY-- State: 0 0 0{0} 0{1} 0{2} State: 1 0{3} 0{4} 0{5} 0{6} State: 2 0{7} 0 0 0 --END--"},
+};
+
+static void reading_texts(void) {
+    static const char b[] = "HOA: v1 States: 2 Start: 0 AP: 1 \"one\" Acceptance: 2 Fin(0) | Fin(1) --BODY-- State: 0 0 {0} 1 {1} State: 1 0 {0} 1 {1} --END--\n";
+    static uint8_t read[RECORD];
+    size_t shared = 99;
+    read_b();
+    CHECK(wulfrenda_read_hanoi((const uint8_t *)b, sizeof b - 1, read, RECORD, &shared) == WULFRENDA_OK);
+    CHECK(shared == 0 && !memcmp(read, record, RECORD));
+
+    /* every beginning but the text without its line end; and with the zero byte behind it */
+    for (size_t length = 0; length < sizeof b - 2; length++) {
+        memset(read, 9, RECORD);
+        CHECK(wulfrenda_read_hanoi((const uint8_t *)b, length, read, RECORD, &shared) == WULFRENDA_NOT_HANOI);
+        CHECK(shared == length && all(read, RECORD, 0));
+    }
+    CHECK(wulfrenda_read_hanoi((const uint8_t *)b, sizeof b - 2, read, RECORD, &shared) == WULFRENDA_OK && shared == 0);
+    CHECK(wulfrenda_read_hanoi((const uint8_t *)b, sizeof b, read, RECORD, &shared) == WULFRENDA_NOT_HANOI && shared == sizeof b - 1);
+
+    for (size_t i = 0; i < LENGTH(not_read); i++) {
+        memset(read, 9, RECORD);
+        shared = 99;
+        CHECK(wulfrenda_read_hanoi((const uint8_t *)not_read[i].text, strlen(not_read[i].text), read, RECORD, &shared) == not_read[i].number);
+        CHECK(shared == not_read[i].shared);
+        CHECK(all(read, RECORD, 0));
+    }
+
+    /* another length than a record's is asked about first, whatever the text is */
+    static uint8_t longer[RECORD + 1];
+    static const size_t lengths[] = {0, 1, RECORD - 1, RECORD + 1};
+    for (size_t i = 0; i < LENGTH(lengths); i++) {
+        memset(longer, 9, sizeof longer);
+        shared = 99;
+        CHECK(wulfrenda_read_hanoi((const uint8_t *)b, sizeof b - 1, longer, lengths[i], &shared) == WULFRENDA_ILLEGAL_POLICY);
+        CHECK(shared == 0);
+        shared = 99;
+        CHECK(wulfrenda_read_hanoi((const uint8_t *)b, 9, longer, lengths[i], &shared) == WULFRENDA_ILLEGAL_POLICY);
+        CHECK(shared == 0 && all(longer, sizeof longer, 9));
+    }
+}
+
 static void translating(void) {
     read_b();
     CHECK(translate(RECORD, NODES, STATES, ROWS) == WULFRENDA_OK);
@@ -467,6 +531,7 @@ int main(void) {
     version();
     colour_set();
     reading();
+    reading_texts();
     translating();
     from_bytes();
     solving();

@@ -3,6 +3,7 @@
 
 #include <array>
 #include <cstdio>
+#include <string>
 
 int main() {
     if (wulfrenda_version() != WULFRENDA_VERSION) {
@@ -16,6 +17,15 @@ int main() {
     uint8_t number = wulfrenda_read(bytes.data(), bytes.size(), record.data(), record.size(), &offset);
     if (number != WULFRENDA_OK || offset != bytes.size()) {
         std::fprintf(stderr, "tests/c/header.cpp: reading answers %u at %zu\n", number, offset);
+        return 1;
+    }
+    // the same policy as a text
+    const std::string text = "HOA: v1 States: 1 Start: 0 AP: 0 Acceptance: 0 t --BODY-- State: 0 0 --END--";
+    std::array<uint8_t, WULFRENDA_RECORD_BYTES> read;
+    size_t shared;
+    number = wulfrenda_read_hanoi(reinterpret_cast<const uint8_t *>(text.data()), text.size(), read.data(), read.size(), &shared);
+    if (number != WULFRENDA_OK || read != record) {
+        std::fprintf(stderr, "tests/c/header.cpp: reading the text answers %u after %zu\n", number, shared);
         return 1;
     }
     // its one play meets priority 0 for ever: the supervisor wins it, with no letter where the plant picks

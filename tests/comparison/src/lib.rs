@@ -291,18 +291,19 @@ pub fn root() -> PathBuf {
     PathBuf::from(concat!(env!("CARGO_MANIFEST_DIR"), "/../.."))
 }
 
-/// What the proved program writes when it is given bytes. TRANSLATE names the program, which is target/bin/translate otherwise.
+/// What a proved program writes when it is given bytes: that of target/bin with this name, or the one that an environment variable names, TRANSLATE for `translate`.
 ///
 /// # Panics
 /// If there is no program, or it fails.
-pub fn program(bytes: &[u8]) -> String {
+pub fn program(name: &str, bytes: &[u8]) -> String {
     use std::io::Write;
     use std::process::{Command, Stdio};
-    let path = std::env::var_os("TRANSLATE")
-        .map_or_else(|| root().join("target/bin/translate"), PathBuf::from);
+    let variable = name.to_uppercase();
+    let path = std::env::var_os(&variable)
+        .map_or_else(|| root().join("target/bin").join(name), PathBuf::from);
     assert!(
         path.is_file(),
-        "{} is missing: run `rt check translate` in the repository's root, or set TRANSLATE to the program's path",
+        "{} is missing: run `rt check {name}` in the repository's root, or set {variable} to the program's path",
         path.display()
     );
     let mut child = Command::new(&path)
@@ -310,7 +311,7 @@ pub fn program(bytes: &[u8]) -> String {
         .stdout(Stdio::piped())
         .spawn()
         .unwrap_or_else(|e| panic!("{}: {e}", path.display()));
-    // the program reads 4,096 bytes: it may have ended before all are written
+    // a program reads so many bytes: it may have ended before all are written
     child.stdin.take().unwrap().write_all(bytes).ok();
     let output = child.wait_with_output().unwrap();
     assert!(

@@ -319,7 +319,7 @@ impl Definitions {
                 answers.push(("independent", listing(answer, &t, letters)));
                 if usual {
                     // the program says nothing of its tables
-                    let mut text = program(&bytes).trim_end().to_string();
+                    let mut text = program("translate", &bytes).trim_end().to_string();
                     if let Err((number, _)) = answer {
                         text += after(number);
                     }

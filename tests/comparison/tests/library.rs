@@ -1,4 +1,5 @@
-//! The proved library answers what the independent translator does, on policies of every shape, valid and damaged, and in tables too short, just right and longer.
+//! The proved library answers what the independent translator, solver and reader do, on policies and texts of every shape, valid and damaged, and in tables too short,
+//! just right and longer.
 //! SEED and POLICIES change the fixed seed and the number of policies, for a longer run by hand.
 
 use comparison::{counts, damaged, hex, policies, random, root, unhex, OwnedTables, SolvedTables};
@@ -6,7 +7,8 @@ use independent::fast::{self, Translator};
 use independent::policy::{from_record, Policy};
 use independent::random::{kind, Random, Shape};
 use independent::solve::Solver;
-use independent::{alike, judge, policy};
+use independent::texts::{READ, REFUSED};
+use independent::{alike, hanoi, judge, policy};
 use std::fs;
 use wulfrenda::{Counts, ReadError, Refusal, Rows, Run, PLANT, SUPERVISOR};
 
@@ -47,6 +49,177 @@ fn reading() {
         read_alike(&damaged(&mut random, bytes));
     }
     read_alike(&[]);
+}
+
+// ---- reading texts
+
+type TextRead = Result<[u8; 388], (u8, usize)>;
+
+/// What the library answers to a text: the policy's record, or the number and how much of the text some text of the subset shares.
+fn text_read(text: &[u8]) -> TextRead {
+    let answer = wulfrenda::Policy::read_hanoi(text).map(|p| *p.record());
+    answer.map_err(|e| (e.number(), e.shared))
+}
+
+/// Reads a text on both sides: the number, or 0.
+fn text_read_alike(text: &[u8]) -> u8 {
+    let ours = text_read(text);
+    let theirs = hanoi::read(text).map(|p| p.record());
+    alike(ours, theirs, text.escape_ascii());
+    ours.map_or_else(|e| e.0, |_| 0)
+}
+
+/// A document of few states, of as many as may be, or of more.
+fn document(random: &mut Random, i: u64) -> hanoi::Document {
+    let states = 1 + random.below([3, 8, 18, 18, 130][i as usize % 5]);
+    random.document(states, 3)
+}
+
+#[test]
+fn reading_texts() {
+    let mut random = random(31);
+    let mut answers = [0; 20];
+    for i in 0..policies(10_000) {
+        let document = document(&mut random, i);
+        let tokens = random.tokens(&document);
+        let text = random.spaced(&tokens);
+        let number = document.policy().map_or_else(|number| number, |_| 0);
+        alike(text_read_alike(&text), number, text.escape_ascii());
+        answers[usize::from(number)] += 1;
+        for _ in 0..3 {
+            let text = random.damaged_text(&tokens);
+            answers[usize::from(text_read_alike(&text))] += 1;
+        }
+    }
+    let all = policies(10_000);
+    assert!(
+        [0, 4, 18, 19].iter().all(|&n| answers[n] > all / 50),
+        "{answers:?}"
+    );
+}
+
+#[test]
+fn known_texts() {
+    for (shared, rest) in REFUSED {
+        let text = format!("{shared}{rest}");
+        alike(text_read(text.as_bytes()), Err((18, shared.len())), text);
+    }
+    for (text, ..) in READ {
+        assert_eq!(text_read_alike(text.as_bytes()), 0);
+    }
+    // any byte in any place of a short text, and any byte put in there
+    let text = READ[1].0.as_bytes();
+    for at in 0..=text.len() {
+        for byte in 0..=255 {
+            let mut other = text.to_vec();
+            other.insert(at, byte);
+            text_read_alike(&other);
+            if at < text.len() {
+                other.remove(at + 1);
+                text_read_alike(&other);
+            }
+        }
+    }
+}
+
+#[test]
+fn texts_cut_at_every_length() {
+    let mut random = random(32);
+    for i in 0..policies(10_000) / 20 {
+        let document = document(&mut random, i % 4);
+        let tokens = random.tokens(&document);
+        for text in [random.spaced(&tokens), random.damaged_text(&tokens)] {
+            // a part shares what the whole does, as far as it goes
+            let shared = hanoi::longest(&text);
+            for n in 0..=text.len() {
+                let part = &text[..n];
+                let theirs = match hanoi::parse(part) {
+                    Some(document) => document.policy().map_err(|number| (number, 0)),
+                    None => Err((18, n.min(shared))),
+                };
+                let theirs = theirs.map(|p| p.record());
+                alike(text_read(part), theirs, part.escape_ascii());
+            }
+        }
+    }
+}
+
+#[test]
+fn texts_and_their_policies_agree() {
+    let mut random = random(33);
+    let mut verdicts = [0; 2];
+    for i in 0..policies(6_000) {
+        let document = document(&mut random, i % 4);
+        let tokens = random.tokens(&document);
+        let text = random.spaced(&tokens);
+        let Ok(policy) = wulfrenda::Policy::read_hanoi(&text) else {
+            continue;
+        };
+        for _ in 0..8 {
+            let letters = document.letters();
+            let (stem, mut period) = (random.letters(letters, 9), random.letters(letters, 12));
+            period.push(random.below(letters) as u8);
+            let v = random.below(document.states);
+            let verdict = wulfrenda::judge_policy(&policy, v as u8, &stem, &period);
+            let (_, holds) = document.judge(v, &stem, &period);
+            let to = format!("{} {v} {stem:?} {period:?}", text.escape_ascii());
+            alike(refusal(verdict).map(|x| x.accepted), Ok(holds), to);
+            verdicts[usize::from(holds)] += 1;
+        }
+    }
+    assert!(
+        verdicts.iter().all(|&n| n > policies(6_000)),
+        "{verdicts:?}"
+    );
+}
+
+/// Many bytes of names and of white space.
+fn long_text(states: usize, names: [&str; 2], edges: &str) -> Vec<u8> {
+    let [first, second] = names.map(|name| name.repeat(200_000));
+    let white = " \t\r\n".repeat(20_000);
+    let head = format!("HOA: v1{white}States: {states} Start: 0");
+    let names = format!("AP: 2 \"{first}\"{white}\"{second}\"");
+    let text = format!("{head} {names} Acceptance: 1{white}Inf(0) --BODY--{edges}");
+    format!("{text}{white}--END--{white}").into_bytes()
+}
+
+#[test]
+fn long_texts() {
+    let mut random = random(34);
+    let mut edges = String::new();
+    for v in 0..5_000 {
+        let other = 4_999 - v;
+        edges += &format!("State: {v} {other}{{0}}{other} {v}{{}}{v}");
+    }
+    let one = "State: 0 0 0 0 0";
+    // the same name twice: all of it is shared but the closing quote
+    assert_eq!(text_read_alike(&long_text(1, ["a"; 2], one)), 18);
+    let texts = [
+        (4, long_text(5_000, ["a", "b"], &edges)),
+        (0, long_text(1, ["a", "b"], one)),
+    ];
+    for (number, text) in texts {
+        assert_eq!(text_read_alike(&text), number);
+        for _ in 0..5 {
+            let mut other = text.clone();
+            let at = random.below(other.len());
+            other[at] = b'"';
+            text_read_alike(&other);
+            other.truncate(at);
+            text_read_alike(&other);
+        }
+    }
+}
+
+#[test]
+fn a_long_formula() {
+    let part = "(Inf(0) & Fin(1) | Inf(2) & (Fin(3) | Inf(4))) & (Inf(5) | f) | ";
+    let formula = part.repeat(5_000) + "Fin(7) & t";
+    let edges = "State: 0 0 0{1} 0{2} 0{3} 0{4} 0{5} 0{6} 0{7}";
+    let names = r#"AP: 3 "a" "b" "c""#;
+    let head = format!("HOA: v1 States: 1 Start: 0 {names} Acceptance: 8");
+    let text = format!("{head} {formula} --BODY-- {edges} --END--");
+    assert_eq!(text_read_alike(text.as_bytes()), 0);
 }
 
 /// Translates in tables with so many places for nodes and states on both sides, from the record and from the command bytes.

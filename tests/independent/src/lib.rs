@@ -1,14 +1,16 @@
 //! A translator of Muller policies into parity automata, written from the papers alone: `brute` follows the definitions by listing edge sets,
 //! `fast` works on strongly connected components. A solver of the supervisor's game on the rows, `solve`, and a check of its solutions by the definitions, `check`.
-//! They share nothing with the proved translator and solver.
+//! A reader of the Hanoi format, `hanoi`. They share nothing with what is proved. `random` and `texts` make policies and texts to try them on.
 
 pub mod brute;
 pub mod check;
 pub mod fast;
+pub mod hanoi;
 pub mod judge;
 pub mod policy;
 pub mod random;
 pub mod solve;
+pub mod texts;
 
 /// No node: what a root's parent and a missing leaf look like.
 pub const NONE: u16 = 65_535;

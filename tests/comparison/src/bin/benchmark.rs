@@ -1,11 +1,12 @@
-//! The proved library and the fast independent translator and solver side by side: the same policies, the same work, the best of several rounds. Prints tables.
+//! The proved library and the fast independent translator, solver and reader side by side: the same policies, the same work, the best of several rounds. Prints tables.
 
 use comparison::{unhex, OwnedTables, SolvedTables};
 use independent::policy::{self, Policy};
 use independent::random::{Family, Random, Shape, Targets};
 use independent::solve::Solver;
-use independent::{fast, judge};
+use independent::{fast, hanoi, judge};
 use std::hint::black_box;
+use std::ops::RangeInclusive;
 use std::time::{Duration, Instant};
 use wulfrenda::Run;
 
@@ -166,6 +167,73 @@ fn line(name: &str, steps: usize, (ours, theirs): (f64, f64)) {
         ours / steps as f64,
         ours / theirs
     );
+}
+
+/// From texts in the Hanoi format to policies, the family included. Both sides go through all of a text, and evaluate the formula for each non-empty set of the colours.
+fn reading_texts(name: &str, texts: &[Vec<u8>]) {
+    let colours = texts.iter().map(|t| hanoi::read(t).unwrap().colours);
+    let sets: usize = colours.map(|c| (1 << c) - 1).sum();
+    let bytes: usize = texts.iter().map(Vec::len).sum();
+    let rounds = (100_000 / bytes).max(1);
+    let (ours, theirs) = best(
+        || {
+            for _ in 0..rounds {
+                for text in texts {
+                    black_box(wulfrenda::Policy::read_hanoi(black_box(text))).unwrap();
+                }
+            }
+        },
+        || {
+            for _ in 0..rounds {
+                for text in texts {
+                    let document = hanoi::parse(black_box(text)).unwrap();
+                    black_box(document.policy()).unwrap();
+                }
+            }
+        },
+    );
+    let all = (rounds * bytes) as f64;
+    println!(
+        "| {name} | {} | {} | {} | {} | {:.0} | {:.0} | {:.2} |",
+        bytes / texts.len(),
+        sets / texts.len(),
+        time(ours / (rounds * texts.len()) as f64),
+        time(theirs / (rounds * texts.len()) as f64),
+        1e3 * all / ours,
+        1e3 * all / theirs,
+        ours / theirs
+    );
+}
+
+/// So many random texts that give policies, of up to so many states and names.
+fn texts(
+    random: &mut Random,
+    many: usize,
+    states: RangeInclusive<usize>,
+    names: usize,
+) -> Vec<Vec<u8>> {
+    let mut all = Vec::new();
+    while all.len() < many {
+        let states = random.within(&states);
+        let document = random.document(states, names);
+        if document.policy().is_ok() {
+            let tokens = random.tokens(&document);
+            all.push(random.spaced(&tokens));
+        }
+    }
+    all
+}
+
+/// A text of 1 MB: half of it names, the other half a formula, with so many colours.
+fn long_text(colours: usize) -> Vec<u8> {
+    let names: String = ["a", "b", "c"]
+        .map(|x| format!(" \"{}\"", x.repeat(170_000)))
+        .concat();
+    let part = "(Inf(0) & Fin(1) | Inf(2) & (Fin(3) | Inf(4))) & (Inf(5) | Fin(6)) & Fin(7) | ";
+    let formula = part.repeat(500_000 / part.len()) + "Inf(7)";
+    let edges: String = (0..8).map(|a| format!(" 0 {{{}}}", a % colours)).collect();
+    let head = format!("HOA: v1 States: 1 Start: 0 AP: 3{names} Acceptance: 8 {formula}");
+    format!("{head} --BODY-- State: 0{edges} --END--").into_bytes()
 }
 
 /// How much stack a call uses, in bytes: what lies below is filled with a pattern before it, and read afterwards.
@@ -414,6 +482,21 @@ fn main() {
         ),
     );
 
+    println!("\n| texts in the Hanoi format | bytes | colour sets | ours | independent | ours, MB/s | independent, MB/s | ratio |");
+    println!("|---|---:|---:|---:|---:|---:|---:|---:|");
+    let mut random = Random::new(4);
+    reading_texts(
+        "100 small: 1 to 3 states, up to 1 name",
+        &texts(&mut random, 100, 1..=3, 1),
+    );
+    reading_texts(
+        "100 sites: 4 to 8 states, up to 2 names",
+        &texts(&mut random, 100, 4..=8, 2),
+    );
+    let long = long_text(8);
+    reading_texts("1 MB of names and formula, 2 colours", &[long_text(2)]);
+    reading_texts("the same, 8 colours", std::slice::from_ref(&long));
+
     println!("\n| call | stack in bytes, 4,096 or more |");
     println!("|---|---:|");
     for (name, p) in [
@@ -444,6 +527,10 @@ fn main() {
     println!(
         "| reading | {} |",
         stack(|| black_box(ignore(wulfrenda::Policy::read(&bytes))))
+    );
+    println!(
+        "| reading a text | {} |",
+        stack(|| black_box(ignore(wulfrenda::Policy::read_hanoi(&long))))
     );
     println!(
         "| judging a policy | {} |",
