@@ -1,10 +1,11 @@
-// Document 01's number and values for each case of a reading and of a translation, as the definitions beside the answers give them.
+// The number of a refusal and the values beside it for each case of a reading, of commands or of a text, and of a translation, as the definitions beside the answers give them.
 use builder::Translation;
 use reading::Outcome;
 ghost use mathlib.Core.Path.{_≡_};
 ghost use mathlib.Core.Bool.{cond};
 ghost use lib.Dec.{eqb};
 ghost use Rattle.reading.specs.Reading.{offsetOf, numberOf as readNumberOf};
+ghost use Rattle.hanoi.specs.Answers.{sharedOf, numberOf as textNumberOf};
 ghost use Rattle.builder.specs.Tables.{countsOf, numberOf as translateNumberOf};
 
 // ---- reading
@@ -22,6 +23,24 @@ pub fn of_reading(o: Outcome) -> ReadingValues
             offset: end,
         },
         Outcome::Refused(number, at) => ReadingValues { number, offset: at },
+    }
+}
+
+// ---- reading a text
+pub struct TextValues {
+    pub number: u8,
+    pub shared: usize,
+}
+
+pub fn of_text(o: hanoi::Outcome) -> TextValues
+    ensures { λ r. ⌜ (r .number ≡ textNumberOf o) × (r .shared ≡ sharedOf o) ⌝ }
+{
+    match o {
+        hanoi::Outcome::Read => TextValues {
+            number: 0,
+            shared: 0,
+        },
+        hanoi::Outcome::Refused(number, at) => TextValues { number, shared: at },
     }
 }
 

@@ -7,12 +7,22 @@ use lib.Dec.{leb}
 use lib.ListN.{length}
 use Rattle.policy.specs.Making.{zeroPolicy}
 use Rattle.hanoi.specs.declared.Answer.{Answer}
+use Rattle.hanoi.specs.declared.Outcome.{Outcome}
 use Rattle.hanoi.specs.declared.Outcome.the-variants.{Read, Refused}
 use Rattle.hanoi.specs.Documents.{Document, letters, Says, Longest}
 use Rattle.hanoi.specs.Meaning.{markSets, policyOf}
 
 abbrev pub refused : ℕ → ℕ → Answer
 refused number at = record { outcome = Refused number at; policy = zeroPolicy }
+
+-- the number of a refusal, 0 where there is none; and the length beside 18, 0 elsewhere
+abbrev pub numberOf : Outcome → ℕ
+numberOf Read = 0
+numberOf (Refused number at) = number
+
+abbrev pub sharedOf : Outcome → ℕ
+sharedOf Read = 0
+sharedOf (Refused number at) = at
 
 -- questions 4 and 19
 module _ (d : Document) where

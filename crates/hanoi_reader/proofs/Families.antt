@@ -15,11 +15,9 @@ use Rattle.lists.proofs.Bools.{test, lt-true, lt-false}
 use Rattle.lists.proofs.Lists.{length-map-below, getD-map-below}
 use Rattle.mark_sets.specs.MarkSets.{unionAt}
 use Rattle.hanoi.specs.declared.Answer.{Answer}
-use Rattle.hanoi.specs.declared.Outcome.{Outcome}
-use Rattle.hanoi.specs.declared.Outcome.the-variants.{Read, Refused}
 use Rattle.hanoi.specs.Documents.{Formula, Document, formed}
 use Rattle.hanoi.specs.Meaning.{holds}
-use Rattle.hanoi.specs.Answers.{refused, answerOf}
+use Rattle.hanoi.specs.Answers.{refused, sharedOf, answerOf}
 use Rattle.hanoi.specs.Offers.{Spot, between, run}
 use Rattle.hanoi.specs.Reader.{Head, fresh, At, operand, body, finished, offers}
 use Rattle.hanoi.specs.Reading.{answerAt}
@@ -31,15 +29,10 @@ use Rattle.hanoi_formula.specs.Formula.{ReadsFormula}
 use Rattle.hanoi_reader.specs.Family.{namedBelow, IsFamily}
 
 -- ---- a text that comes to a document does not stop
-lengthOf : Outcome → ℕ
-lengthOf Read = 0
-lengthOf (Refused n k) = k
-
 pub never-stops : (text : List ℕ) (m n : ℕ) (p : Spot At) (bar : Bool) (d : Document) → run offers p (drop m text) ≡ between bar (finished d) → Stops text m p n → ⊥
-unfolding lengthOf
 never-stops text m n p bar d e s =
     let x : (k : ℕ) → answerOf d ≡ refused 18 k = λ k. sym (ap (answerAt (refused 18 k)) e) ∙ s .unanswered (refused 18 k) in
-    let y : _≡_ {A = ℕ} 0 1 = ap (λ (a : Answer). lengthOf (a .outcome)) (sym (x 0) ∙ x 1) in
+    let y : _≡_ {A = ℕ} 0 1 = ap (λ (a : Answer). sharedOf (a .outcome)) (sym (x 0) ∙ x 1) in
     absurd (omega (arith, y))
 
 -- ---- the formula's value

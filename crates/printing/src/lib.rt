@@ -179,3 +179,20 @@ pub fn show_policy(bytes: &[u8]) {
         }
     }
 }
+
+// The listing of the policy in a text of the Hanoi format; beside 18 the length of the longest beginning that some text of the subset shares.
+pub fn show_text(text: &[u8]) {
+    let a = hanoi_reader::read(text);
+    let outcome = a.outcome;
+    let p = a.policy;
+    match outcome {
+        hanoi::Outcome::Read => show_translation(p),
+        hanoi::Outcome::Refused(number, at) => {
+            show_refusal(number);
+            if number == 18 {
+                show(b" ", at as u64);
+            }
+            end_line();
+        }
+    }
+}

@@ -11,6 +11,8 @@ ghost use mathlib.Core.Bool.{cond};
 ghost use Rattle.lists.specs.Questions.{ask};
 ghost use Rattle.colour_sets.specs.Order.{setAt};
 ghost use Rattle.reading.specs.Reading.{offsetOf, readingOf, numberOf as readNumberOf};
+ghost use Rattle.hanoi.specs.Answers.{sharedOf, Answers, numberOf as textNumberOf};
+ghost use Rattle.hanoi.specs.Reading.{hanoiOf};
 ghost use Rattle.builder.specs.Tables.{countsOf, translationOf, tablesAfter, Hold, tables, numberOf as translateNumberOf};
 ghost use Rattle.solving.specs.Solving.{solvingOf, sevenAfter, winnersAfter, LettersAfter};
 ghost use Rattle.running.specs.Running.{runAfter, priorityOf, numberOf as runNumberOf, readingOf as runReadingOf};
@@ -25,7 +27,7 @@ ghost use Rattle.wulfrenda.specs.Library.{version};
 pub extern "C" fn wulfrenda_version() -> u32
     ensures { λ r. ⌜ r ≡ version ⌝ }
 {
-    3000000
+    3001000
 }
 
 // The colour set at a position of the fixed order.
@@ -54,6 +56,28 @@ pub extern "C" fn wulfrenda_read(bytes: &[u8], packed: &mut [u8], offset: &mut u
     records::put_record(packed, p);
     let values = answers::of_reading(outcome);
     *offset = values.offset;
+    values.number
+}
+
+// The record of the policy of a text of the Hanoi format; after a refused reading a record of zeros, and beside 18 the length of the longest beginning that some text of the subset
+// shares. The record's length is asked first: another one is 7, the record as it was, the length 0. The last clause says what the answer means, by documents alone.
+#[no_mangle]
+pub extern "C" fn wulfrenda_read_hanoi(text: &[u8], packed: &mut [u8], shared: &mut usize) -> u8
+    ensures number { λ r. ⌜ r ≡ ask (isRecord (now (packed .entry))) 7 (textNumberOf (hanoiOf (now (text .entry)) .outcome)) ⌝ }
+    ensures policy { λ _. ⌜ now (packed .exit) ≡ cond (isRecord (now (packed .entry))) (recordOf (hanoiOf (now (text .entry)) .policy)) (now (packed .entry)) ⌝ }
+    ensures shared { λ _. ⌜ now (shared .exit) ≡ cond (isRecord (now (packed .entry))) (sharedOf (hanoiOf (now (text .entry)) .outcome)) 0 ⌝ }
+    ensures meaning { λ _. ⌜ Answers (now (text .entry)) (hanoiOf (now (text .entry))) ⌝ }
+{
+    if packed.len() != records::LENGTH {
+        *shared = 0;
+        return 7;
+    }
+    let answer = hanoi_reader::read(text);
+    let p = answer.policy;
+    let outcome = answer.outcome;
+    records::put_record(packed, p);
+    let values = answers::of_text(outcome);
+    *shared = values.shared;
     values.number
 }
 
