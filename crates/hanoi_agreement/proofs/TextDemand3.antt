@@ -10,17 +10,15 @@ use Rattle.masks.proofs.Bits.{mask-ext}
 use Rattle.policy.specs.declared.Policy.{Policy}
 use Rattle.policy.specs.Policies.{inFamily}
 use Rattle.hanoi.specs.Documents.{Document, letters}
-use Rattle.hanoi.specs.Meaning.{policyOf}
-use Rattle.correctness.specs.Calls.{Function, Places, Call, Translating, Running, translate, translateShows, read, readShows, wulfrenda-translate, wulfrendaTranslateShows, wulfrenda-translate-bytes, wulfrendaTranslateBytesShows, wulfrenda-run, wulfrendaRunShows}
+use Rattle.correctness.specs.Calls.{Function, Places, Call, Translating, Running, translate, translateShows, read, readShows, wulfrenda-translate, wulfrendaTranslateShows, wulfrenda-run, wulfrendaRunShows}
 use Rattle.correctness.specs.Demand3.{stateCount, under, Holds, Decided as CallsDecided, Agreement as CallsAgreement}
 use Rattle.correctness.proofs.Joint.{in-good}
 use Rattle.correctness.proofs.Translated.{Success, success-legal, stands-over}
-use Rattle.correctness.proofs.Demand3.{translated, wulfrenda-translated, wulfrenda-translated-bytes, demand3}
-use Rattle.hanoi_agreement.specs.Agreement.{Decided, Agreement}
+use Rattle.correctness.proofs.Demand3.{translated, wulfrenda-translated, demand3}
+use Rattle.hanoi_agreement.specs.TextCalls.{ReadingText, read-text, readTextShows, wulfrenda-read-hanoi, wulfrendaReadHanoiShows}
+use Rattle.hanoi_agreement.specs.Agreement.{Decided, Agreement, Reads}
 use Rattle.hanoi_agreement.specs.TextDemand3.{TextDecided, TextAgreement, TextHolds, TextDemand3}
-use Rattle.hanoi_agreement.proofs.PolicyOf.{states-are, letters-are}
-use Rattle.hanoi_agreement.proofs.Legal.{read-policy}
-use Rattle.hanoi_agreement.proofs.Agreement.{agrees}
+use Rattle.hanoi_agreement.proofs.Texts.{texts-agree}
 
 -- ---- both agreements, over one policy
 module _ (d : Document) (t : Translating) (stem loop : List ℕ) (calls : ℕ → Running) where
@@ -54,20 +52,22 @@ under-lt t done s h =
     let o = stands-over t done (record { state = s }) h in
     in-good (t .policy) (success-legal t done) (record { state = s }) (under t s) _ (record { is-built = o .is-built; over = o .over; leaf-is = refl }) .0
 
--- ---- of a function that translates, by what a call of it that succeeded has said, and one that runs
-text-holds : (f : Function) (shows : Places f → Translating) (g : Function) (shows′ : Places g → Running)
-    → ((t : Call f) → shows (t .at) .number ≡ 0 → Success (shows (t .at))) → Holds f shows g shows′ → TextHolds f shows g shows′
-text-holds f shows g shows′ success holds d ok is-read t given returned stem loop calls run =
+-- ---- of a function that reads, one that translates, by what a call of it that succeeded has said, and one that runs
+text-holds : (e : Function) (shown : Places e → ReadingText) (f : Function) (shows : Places f → Translating) (g : Function) (shows′ : Places g → Running)
+    → Reads e shown → ((t : Call f) → shows (t .at) .number ≡ 0 → Success (shows (t .at))) → Holds f shows g shows′ → TextHolds e shown f shows g shows′
+text-holds e shown f shows g shows′ reads success holds r done t given returned stem loop calls run d says =
     let x = shows (t .at) in
     let cs : ℕ → Running = λ (i : ℕ). shows′ (calls i .at) in
-    let is : x .policy ≡ policyOf d = given ∙ read-policy d is-read in
-    let lt : under x (cs 0 .state) < d .states = subst (λ (n : ℕ). under x (cs 0 .state) < n) (ap (λ (p : Policy). p .states) is ∙ states-are d) (under-lt x (success t returned) (cs 0 .state) (run .begins)) in
-    agree-both d x stem loop cs (ap (λ (p : Policy). p .letters) is ∙ letters-are d) (holds t returned stem loop calls run)
-    (subst (λ (p : Policy). Agreement d p (under x (cs 0 .state)) stem loop) (sym is) (agrees d ok is-read (under x (cs 0 .state)) lt stem loop))
+    let a = reads r done in
+    let v = under x (cs 0 .state) in
+    let same : a .document ≡ d = sym (a .only d says) in
+    let lt : v < x .policy .states = under-lt x (success t returned) (cs 0 .state) (run .begins) in
+    subst (λ (y : Document). TextAgreement stem loop y x cs) same
+    (agree-both (a .document) x stem loop cs (ap (λ (p : Policy). p .letters) given ∙ a .letters-are) (holds t returned stem loop calls run)
+    (subst (λ (p : Policy). Agreement (a .document) p v stem loop) (sym given) (a .agrees v (subst (λ (n : ℕ). v < n) (ap (λ (p : Policy). p .states) given ∙ a .states-are) lt) stem loop)))
 
 pub text-demand3 : TextDemand3
 text-demand3 = record {
-  of-the-core = text-holds translate translateShows read readShows translated (demand3 .of-the-core);
-  of-the-library = text-holds wulfrenda-translate wulfrendaTranslateShows wulfrenda-run wulfrendaRunShows wulfrenda-translated (demand3 .of-the-library);
-  of-the-library-from-bytes = text-holds wulfrenda-translate-bytes wulfrendaTranslateBytesShows wulfrenda-run wulfrendaRunShows wulfrenda-translated-bytes (demand3 .of-the-library-from-bytes);
+  of-the-core = text-holds read-text readTextShows translate translateShows read readShows (texts-agree .of-the-core) translated (demand3 .of-the-core);
+  of-the-library = text-holds wulfrenda-read-hanoi wulfrendaReadHanoiShows wulfrenda-translate wulfrendaTranslateShows wulfrenda-run wulfrendaRunShows (texts-agree .of-the-library) wulfrenda-translated (demand3 .of-the-library);
 }

@@ -8,13 +8,12 @@ use lib.Dec.{ltb}
 use Rattle.lists.specs.Lists.{any}
 use Rattle.masks.specs.Masks.{has}
 use Rattle.policy.specs.declared.Policy.{Policy}
-use Rattle.policy.specs.Policies.{inFamily}
-use Rattle.hanoi.specs.declared.Answer.{Answer}
-use Rattle.hanoi.specs.declared.Outcome.the-variants.{Read}
+use Rattle.policy.specs.Policies.{inFamily, legal}
 use Rattle.hanoi.specs.Documents.{Document, letters, Says}
 use Rattle.hanoi.specs.Meaning.{holds, step, meets}
-use Rattle.hanoi.specs.Answers.{Answers}
+use Rattle.correctness.specs.Calls.{Function, Places, Call}
 use Rattle.correctness.specs.Demand3.{letterAt, Recurs, policyState, coloursMet}
+use Rattle.hanoi_agreement.specs.TextCalls.{ReadingText, read-text, readTextShows, wulfrenda-read-hanoi, wulfrendaReadHanoiShows}
 
 -- ---- the text's run, begun in v: its state before letter i, and the marks that letter i meets, none where it is refused
 module _ (stem loop : List ℕ) (d : Document) (v : ℕ) where
@@ -40,13 +39,21 @@ module _ (d : Document) (p : Policy) (v : ℕ) (stem loop : List ℕ) where
     pub same-state : (i : ℕ) → textState stem loop d v i ≡ policyState stem loop p v i
     pub decided : any (λ a. ltb a (letters d)) loop ≡ true → Decided
 
--- ---- S-4: wherever a text is read, the policy and the text agree, from every state
-pub record TextAgrees (text : List ℕ) (r : Answer) : Type 0 where
+-- ---- S-4: a text that is read says one document, and the policy agrees with it from every state
+pub record TextAgrees (text : List ℕ) (p : Policy) : Type 0 where
   pub document : Document
   pub says : Says text document
   -- the only one that the text says
   pub only : (x : Document) → Says text x → x ≡ document
-  pub agrees : (v : ℕ) → v < document .states → (stem loop : List ℕ) → Agreement document (r .policy) v stem loop
+  pub legal-is : legal p ≡ true
+  pub states-are : p .states ≡ document .states
+  pub letters-are : p .letters ≡ letters document
+  pub agrees : (v : ℕ) → v < document .states → (stem loop : List ℕ) → Agreement document p v stem loop
 
-abbrev pub TextsAgree : Type 0
-TextsAgree = (text : List ℕ) (r : Answer) → Answers text r → r .outcome ≡ Read → TextAgrees text r
+-- of a function that reads a text
+abbrev pub Reads : (e : Function) → (Places e → ReadingText) → Type 0
+Reads e shows = (r : Call e) → shows (r .at) .number ≡ 0 → TextAgrees (shows (r .at) .text) (shows (r .at) .policy)
+
+pub record TextsAgree : Type 0 where
+  pub of-the-core : Reads read-text readTextShows
+  pub of-the-library : Reads wulfrenda-read-hanoi wulfrendaReadHanoiShows

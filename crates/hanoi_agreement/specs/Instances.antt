@@ -8,10 +8,10 @@ use Rattle.lists.specs.Lists.{any}
 use Rattle.hanoi.specs.declared.Outcome.the-variants.{Read}
 use Rattle.hanoi.specs.Texts.{ascii}
 use Rattle.hanoi.specs.Documents.{fin, either, marked, Document, letters, Says}
-use Rattle.hanoi.specs.Answers.{answerOf}
 use Rattle.hanoi.specs.Reading.{hanoiOf}
-use Rattle.correctness.specs.Calls.{Function, Places, Call, Translating, Running, translate, translateShows, read, readShows, wulfrenda-translate, wulfrendaTranslateShows, wulfrenda-translate-bytes, wulfrendaTranslateBytesShows, wulfrenda-run, wulfrendaRunShows}
+use Rattle.correctness.specs.Calls.{Function, Places, Call, Translating, Running, translate, translateShows, read, readShows, wulfrenda-translate, wulfrendaTranslateShows, wulfrenda-run, wulfrendaRunShows}
 use Rattle.correctness.specs.Demand3.{BuiltRun}
+use Rattle.hanoi_agreement.specs.TextCalls.{ReadingText, read-text, readTextShows, wulfrenda-read-hanoi, wulfrendaReadHanoiShows}
 use Rattle.correctness.specs.Known.{B}
 use Rattle.correctness.specs.Instances.{stem, loop}
 
@@ -28,10 +28,13 @@ document = record {
   rows = (marked 0 (0 ∷ []) ∷ marked 1 (1 ∷ []) ∷ []) ∷ (marked 0 (0 ∷ []) ∷ marked 1 (1 ∷ []) ∷ []) ∷ [];
 }
 
--- a call that was given the text's policy and succeeded, and calls of running from the start that are a run over a stem and a loop with a letter of the text
-pub record PremisesMet (f : Function) (shows : Places f → Translating) (g : Function) (shows′ : Places g → Running) : Type 0 where
+-- a call that read the text, one that was given its policy and succeeded, and calls of running from the start that are a run over a stem and a loop with a letter of the text
+pub record PremisesMet (e : Function) (shown : Places e → ReadingText) (f : Function) (shows : Places f → Translating) (g : Function) (shows′ : Places g → Running) : Type 0 where
+  pub reading : Call e
+  pub text-is : shown (reading .at) .text ≡ text
+  pub read : shown (reading .at) .number ≡ 0
   pub call : Call f
-  pub policy-is : shows (call .at) .policy ≡ answerOf document .policy
+  pub policy-is : shows (call .at) .policy ≡ shown (reading .at) .policy
   pub succeeded : shows (call .at) .number ≡ 0
   pub calls : ℕ → Call g
   pub run : BuiltRun stem loop (shows (call .at)) (λ i. shows′ (calls i .at))
@@ -40,7 +43,5 @@ pub record PremisesMet (f : Function) (shows : Places f → Translating) (g : Fu
 pub record Instances : Type 0 where
   pub says : Says text document
   pub read-is : hanoiOf text ≡ record { outcome = Read; policy = B }
-  pub document-read : answerOf document ≡ record { outcome = Read; policy = B }
-  pub of-the-core : PremisesMet translate translateShows read readShows
-  pub of-the-library : PremisesMet wulfrenda-translate wulfrendaTranslateShows wulfrenda-run wulfrendaRunShows
-  pub of-the-library-from-bytes : PremisesMet wulfrenda-translate-bytes wulfrendaTranslateBytesShows wulfrenda-run wulfrendaRunShows
+  pub of-the-core : PremisesMet read-text readTextShows translate translateShows read readShows
+  pub of-the-library : PremisesMet wulfrenda-read-hanoi wulfrendaReadHanoiShows wulfrenda-translate wulfrendaTranslateShows wulfrenda-run wulfrendaRunShows

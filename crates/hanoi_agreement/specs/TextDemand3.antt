@@ -9,12 +9,11 @@ use lib.Dec.{ltb}
 use Rattle.lists.specs.Lists.{any}
 use Rattle.masks.specs.Masks.{has}
 use Rattle.forest.specs.Forest.{even}
-use Rattle.hanoi.specs.declared.Outcome.the-variants.{Read}
-use Rattle.hanoi.specs.Documents.{Document, letters, lawful}
+use Rattle.hanoi.specs.Documents.{Document, letters, Says}
 use Rattle.hanoi.specs.Meaning.{holds}
-use Rattle.hanoi.specs.Answers.{answerOf}
-use Rattle.correctness.specs.Calls.{Function, Places, Call, Translating, Running, translate, translateShows, read, readShows, wulfrenda-translate, wulfrendaTranslateShows, wulfrenda-translate-bytes, wulfrendaTranslateBytesShows, wulfrenda-run, wulfrendaRunShows}
+use Rattle.correctness.specs.Calls.{Function, Places, Call, Translating, Running, translate, translateShows, read, readShows, wulfrenda-translate, wulfrendaTranslateShows, wulfrenda-run, wulfrendaRunShows}
 use Rattle.correctness.specs.Demand3.{stateCount, under, prioritiesMet, Recurs, BuiltRun}
+use Rattle.hanoi_agreement.specs.TextCalls.{ReadingText, read-text, readTextShows, wulfrenda-read-hanoi, wulfrendaReadHanoiShows}
 use Rattle.hanoi_agreement.specs.Agreement.{textState, marksMet}
 
 -- ---- the claim, of a document, a call of translating and the calls of running after it; the text's run begins in the policy state under the first built state
@@ -34,13 +33,14 @@ module _ (stem loop : List ℕ) (d : Document) (t : Translating) (calls : ℕ �
     pub over : (i : ℕ) → under t (calls i .state) ≡ textState stem loop d (under t (calls 0 .state)) i
     pub decided : any (λ a. ltb a (letters d)) loop ≡ true → TextDecided
 
--- ---- of a function that translates and a function that runs: after a call of the one that was given the policy of a document that is read, and succeeded
-abbrev pub TextHolds : (f : Function) → (Places f → Translating) → (g : Function) → (Places g → Running) → Type 0
-TextHolds f shows g shows′ =
-    (d : Document) → lawful d ≡ true → answerOf d .outcome ≡ Read → (t : Call f) → shows (t .at) .policy ≡ answerOf d .policy → shows (t .at) .number ≡ 0
-    → (stem loop : List ℕ) (calls : ℕ → Call g) → BuiltRun stem loop (shows (t .at)) (λ i. shows′ (calls i .at)) → TextAgreement stem loop d (shows (t .at)) (λ i. shows′ (calls i .at))
+-- ---- of a function that reads, one that translates and one that runs: after a call of the first that read a text, and one of the second that was given its policy and succeeded. There is
+-- a document that the text says (specs/Agreement), and the claim is of any such
+abbrev pub TextHolds : (e : Function) → (Places e → ReadingText) → (f : Function) → (Places f → Translating) → (g : Function) → (Places g → Running) → Type 0
+TextHolds e shown f shows g shows′ =
+    (r : Call e) → shown (r .at) .number ≡ 0 → (t : Call f) → shows (t .at) .policy ≡ shown (r .at) .policy → shows (t .at) .number ≡ 0
+    → (stem loop : List ℕ) (calls : ℕ → Call g) → BuiltRun stem loop (shows (t .at)) (λ i. shows′ (calls i .at))
+    → (d : Document) → Says (shown (r .at) .text) d → TextAgreement stem loop d (shows (t .at)) (λ i. shows′ (calls i .at))
 
 pub record TextDemand3 : Type 0 where
-  pub of-the-core : TextHolds translate translateShows read readShows
-  pub of-the-library : TextHolds wulfrenda-translate wulfrendaTranslateShows wulfrenda-run wulfrendaRunShows
-  pub of-the-library-from-bytes : TextHolds wulfrenda-translate-bytes wulfrendaTranslateBytesShows wulfrenda-run wulfrendaRunShows
+  pub of-the-core : TextHolds read-text readTextShows translate translateShows read readShows
+  pub of-the-library : TextHolds wulfrenda-read-hanoi wulfrendaReadHanoiShows wulfrenda-translate wulfrendaTranslateShows wulfrenda-run wulfrendaRunShows
