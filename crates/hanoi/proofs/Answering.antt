@@ -1,29 +1,29 @@
 -- The reader takes exactly the texts of the subset, ends with their document, and dies where no text of the subset goes on; so what it answers is the answer.
-use Prim.Native.Nat.{ℕ, zero, suc, _+_, _-_, _*_, _^_, _≤_, _<_}
+use Prim.Native.Nat.{ℕ, zero, suc, _+_, _-_, _^_, _≤_, _<_}
 use native.Mathlib.Omega.{arith}
-use mathlib.Core.Path.{_≡_, refl, sym, ap, ap₂, _∙_, subst}
+use mathlib.Core.Path.{_≡_, refl, sym, ap, _∙_, subst}
 use mathlib.Core.Logic.{_⊎_, inl, inr}
-use mathlib.Core.Bool.{Bool, true, false, not, _&&_, _||_, cond, false≢true, true≢false}
-use mathlib.Core.List.{List, [], _∷_, _++_, map, append-assoc, append-nil}
+use mathlib.Core.Bool.{Bool, true, false, _&&_, cond, false≢true, true≢false}
+use mathlib.Core.List.{List, [], _∷_, _++_, map}
 use lib.Dec.{eqb, ltb, leb}
 use lib.ListN.{length, take}
 use Rattle.lists.specs.Lists.{all}
-use Rattle.lists.proofs.Bools.{test, and-l, and-r, both, ≡eqb}
+use Rattle.lists.proofs.Bools.{test, both, ≡eqb}
 use Rattle.hanoi.specs.declared.Answer.{Answer}
-use Rattle.hanoi.specs.Texts.{white, goesOn, Token, bytesOf, quotable, sticks, Spaced, apart, none, written}
-use Rattle.hanoi.specs.Documents.{Formula, Edge, plain, Document, tokensOf, formed, different, letters, lawfulRow, lawful, Says, Begins, Longest}
-use Rattle.hanoi.specs.Offers.{Numbers, noNumber, below, Offer, ends, numbered, Leads, Goes, Spot, between, inWord, digits, inName, dead, stepByte, run}
+use Rattle.hanoi.specs.Texts.{white, Token, quotable, sticks, Spaced, apart, none, written}
+use Rattle.hanoi.specs.Documents.{Formula, Edge, plain, Document, formed, different, letters, lawfulRow, lawful, Says, Begins, Longest}
+use Rattle.hanoi.specs.Offers.{noNumber, below, ends, numbered, Goes, Spot, between, inWord, digits, inName, dead, stepByte, run}
 use Rattle.hanoi.specs.Reader.{Head, At, hoa, v1, statesWord, statesNumber, startWord, startNumber, apWord, apNumber, naming, setsNumber, operand, opening, mark, closing, after, body, stateNumber, edges, target, braces, finished, rowOver, edgeNext, namesNext, offers, first, isDead, aliveFor}
-use Rattle.hanoi.specs.Answers.{refused, answerOf, Answers}
+use Rattle.hanoi.specs.Answers.{refused, Answers}
 use Rattle.hanoi.specs.Reading.{answerIn, answerAt, hanoiOf}
 use Rattle.hanoi.proofs.Digits.{lt-yes, le-yes}
 use Rattle.hanoi.proofs.Forth.{run-append, dead-stays, Lands, free, barred, counted, forth}
-use Rattle.hanoi.proofs.Back.{Tail, back}
+use Rattle.hanoi.proofs.Back.{back}
 use Rattle.hanoi.proofs.Taking.{fine, Lawful, lawful-parts, taken-tokens}
 use Rattle.hanoi.proofs.Printing.{printed, told-back}
 use Rattle.hanoi.proofs.Keeping.{Sound, keeps, keeps-all}
-use Rattle.hanoi.proofs.Ending.{Ends, finish}
-use Rattle.hanoi.proofs.Living.{Live, Fine, step-fine, Leaves, leaves}
+use Rattle.hanoi.proofs.Ending.{finish}
+use Rattle.hanoi.proofs.Living.{Live, step-fine, leaves}
 
 -- ---- the end is between tokens
 abbrev isFinished : At → Bool

@@ -1,18 +1,18 @@
 -- A text that is taken by bytes is a text of tokens that the reader takes. By induction on the bytes that are still to come.
-use Prim.Native.Nat.{ℕ, zero, suc, _+_, _-_, _*_, _/_, _%_, _^_, _≤_, _<_}
+use Prim.Native.Nat.{ℕ, _+_, _-_, _*_, _<_}
 use native.Mathlib.Omega.{arith}
 use mathlib.Core.Path.{_≡_, refl, sym, ap, ap₂, _∙_, subst}
 use mathlib.Core.Logic.{_⊎_, inl, inr}
-use mathlib.Core.Bool.{Bool, true, false, not, _&&_, _||_, cond, false≢true, true≢false}
+use mathlib.Core.Bool.{Bool, true, false, not, _&&_, cond, false≢true}
 use mathlib.Core.List.{List, [], _∷_, _++_, map, append-assoc, append-nil, List·Memᴰ, List·Memᴰ·head, List·Memᴰ·tail}
-use lib.Dec.{eqb, ltb, leb}
-use Rattle.lists.specs.Lists.{all, any, firstOr}
-use Rattle.lists.proofs.Bools.{test, and-l, and-r, both, not-true, not-false, or-cases, or-left, or-right, eqb≡, ≡eqb, neqb, lt-true, lt-false, le-true, le-false}
-use Rattle.hanoi.specs.Texts.{white, digit, goesOn, spelling, openEnded, Token, word, number, quoted, decimalIn, decimal, bytesOf, quotableIn, quotable, sticks, Spaced, isEmpty, apart, none, written}
+use lib.Dec.{eqb, ltb}
+use Rattle.lists.specs.Lists.{all, firstOr}
+use Rattle.lists.proofs.Bools.{test, and-l, and-r, both, eqb≡, lt-true}
+use Rattle.hanoi.specs.Texts.{white, digit, goesOn, spelling, Token, word, number, quoted, decimal, bytesOf, quotableIn, quotable, sticks, Spaced, isEmpty, apart, none, written}
 use Rattle.hanoi.specs.Words.{Word}
-use Rattle.hanoi.specs.Offers.{Choice, Numbers, noNumber, below, exactly, Names, noName, newName, Offer, startsWith, takes, ends, takesName, isNew, numbered, named, Leads, byWord, byNumber, byName, Goes, stop, go, Spot, between, inWord, digits, inName, dead, tailOf, wordOn, beginWord, begin, byteAt, stepByte, run}
-use Rattle.hanoi.proofs.Digits.{lt-yes, lt-no, word-first, white-digit, digit-white, digit-byte, byte-digit, small, decimal-on, bytes-some}
-use Rattle.hanoi.proofs.Forth.{firstOf, takes-small, dead-stays, at-white, at-other}
+use Rattle.hanoi.specs.Offers.{Choice, Offer, takes, ends, takesName, isNew, numbered, named, Leads, byWord, byNumber, byName, Goes, stop, go, Spot, between, inWord, digits, inName, dead, tailOf, wordOn, beginWord, begin, byteAt, stepByte, run}
+use Rattle.hanoi.proofs.Digits.{word-first, byte-digit, small, decimal-on}
+use Rattle.hanoi.proofs.Forth.{firstOf, takes-small, dead-stays}
 
 quotable-in : (m : List ℕ) → quotableIn false m ≡ true → quotable m ≡ true
 unfolding quotable

@@ -1,17 +1,16 @@
 -- Behind the formula the reader keeps it: the document at the end has the formula that was read. Assumes nothing.
-use Prim.Native.Nat.{ℕ, _+_, _^_}
-use mathlib.Core.Path.{_≡_, refl, sym, _∙_, subst}
-use mathlib.Core.Logic.{_⊎_, inl, inr}
+use Prim.Native.Nat.{ℕ, _+_}
+use mathlib.Core.Path.{_≡_, refl, sym, subst}
 use mathlib.Core.Bool.{Bool, true, false, cond, false≢true}
 use mathlib.Core.List.{List, [], _∷_, _++_, List·Memᴰ, List·Memᴰ·head, List·Memᴰ·tail, List·Memᴰ·not-nil}
-use lib.Dec.{eqb, ltb}
+use lib.Dec.{ltb}
 use lib.ListN.{length}
 use Rattle.hanoi.specs.Texts.{Token}
 use Rattle.hanoi.specs.Words as w
 use Rattle.hanoi.specs.Documents.{Formula, Edge, plain, marked, Document}
-use Rattle.hanoi.specs.Offers.{Choice, Numbers, noNumber, below, exactly, takes, takesName, numbered, Leads, byWord, byNumber, byName, Goes, stop, go, Spot, between, run}
+use Rattle.hanoi.specs.Offers.{Choice, noNumber, below, takes, takesName, numbered, Leads, byWord, byNumber, byName, Goes, stop, go, between, run}
 use Rattle.hanoi.specs.Reader.{Head, At, on, body, stateNumber, edges, target, braces, finished, documentOf, rowOver, edgeNext, rowNext, offers}
-use Rattle.hanoi.proofs.Back.{Tail, back}
+use Rattle.hanoi.proofs.Back.{back}
 
 pub data Carries (f : Formula) : At → Type 0 where
   at-body : (h : Head) → Carries f (body h f)

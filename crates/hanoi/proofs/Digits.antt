@@ -2,14 +2,14 @@
 use Prim.Native.Nat.{ℕ, zero, suc, _+_, _-_, _*_, _/_, _%_, _^_, _≤_, _<_}
 use native.Mathlib.Omega.{arith}
 use native.Mathlib.Nat.{pow-suc}
-use mathlib.Core.Path.{_≡_, refl, sym, ap, ap₂, _∙_, subst}
+use mathlib.Core.Path.{_≡_, refl, sym, ap, ap₂, _∙_}
 use mathlib.Core.Logic.{_⊎_, inl, inr}
-use mathlib.Core.Bool.{Bool, true, false, not, _&&_, _||_, cond, false≢true}
-use mathlib.Core.List.{List, [], _∷_, _++_, append-assoc}
+use mathlib.Core.Bool.{true, false, _||_, false≢true}
+use mathlib.Core.List.{List, [], _∷_, _++_}
 use lib.Dec.{eqb, ltb, leb}
 use Rattle.lists.specs.Lists.{firstOr}
-use Rattle.lists.proofs.Bools.{test, and-l, and-r, both, not-true, or-cases, eqb≡, ≡eqb, neqb, lt-true, lt-false, le-true, le-false}
-use Rattle.hanoi.specs.Texts.{white, digit, goesOn, spelling, openEnded, Token, word, number, quoted, decimalIn, decimal, bytesOf}
+use Rattle.lists.proofs.Bools.{test, and-l, and-r, both, or-cases, eqb≡, ≡eqb, lt-true, lt-false, le-true, le-false}
+use Rattle.hanoi.specs.Texts.{white, digit, spelling, Token, word, number, quoted, decimalIn, decimal, bytesOf}
 use Rattle.hanoi.specs.Words.{Word}
 use Rattle.hanoi.specs.Words as w
 use Rattle.hanoi.specs.Offers.{tailOf, startsWith}

@@ -1,24 +1,23 @@
 -- From each state of the reader some tokens lead to the end: targets 0, `t`, closing parentheses, names longer than all before.
-use Prim.Native.Nat.{ℕ, zero, suc, _+_, _-_, _*_, _^_, _≤_, _<_}
+use Prim.Native.Nat.{ℕ, zero, suc, _+_, _-_, _^_, _≤_, _<_}
 use native.Mathlib.Omega.{arith}
-use mathlib.Core.Path.{_≡_, refl, sym, ap, ap₂, _∙_, subst}
+use mathlib.Core.Path.{_≡_, refl, ap}
 use mathlib.Core.Logic.{_⊎_, inl, inr, _≢_}
-use mathlib.Core.Bool.{Bool, true, false, not, _&&_, _||_, cond, false≢true, true≢false}
-use mathlib.Core.List.{List, [], _∷_, _++_, map, append-assoc, append-nil, List·Memᴰ, List·Memᴰ·head, List·Memᴰ·tail, List·Memᴰ·not-nil}
-use lib.Dec.{eqb, ltb, leb}
+use mathlib.Core.Bool.{Bool, true, false, not, false≢true}
+use mathlib.Core.List.{List, [], _∷_, _++_, List·Memᴰ·head, List·Memᴰ·tail}
+use lib.Dec.{eqb, ltb}
 use lib.ListN.{length, length-append, replicate, length-replicate}
-use Rattle.lists.specs.Lists.{all, any, flat}
-use Rattle.lists.proofs.Bools.{test, and-l, and-r, both, not-true, not-false, or-right, eqb≡, ≡eqb, neqb, lt-true, lt-false, le-true, le-false}
-use Rattle.hanoi.specs.Texts.{Token, word, number, quoted, decimal, quotableIn, quotable}
+use Rattle.lists.specs.Lists.{all, any}
+use Rattle.lists.proofs.Bools.{test, and-r, both, ≡eqb}
+use Rattle.hanoi.specs.Texts.{Token, word, quoted, quotableIn, quotable}
 use Rattle.hanoi.specs.Words as w
 use Rattle.hanoi.specs.Documents as d
-use Rattle.hanoi.specs.Documents.{Formula, truth, inf, fin, group, either, Edge, plain, marked, Document, formulaTokens, edgeTokens, rowTokens, tokensOf, isEither, isBoth, formed, different, letters, lawfulEdge, lawfulRow, lawful}
-use Rattle.hanoi.specs.Offers.{Choice, Numbers, noNumber, below, exactly, Names, noName, newName, Offer, startsWith, takes, ends, takesName, isNew, numbered, named, Leads, byWord, byNumber, byName, Goes, stop, go}
-use Rattle.hanoi.specs.Reader.{Hole, fresh, orElse, andAlso, orAnd, Level, alone, beside, Head, At, hoa, v1, statesWord, statesNumber, startWord, startNumber, apWord, apNumber, naming, setsNumber, operand, opening, mark, closing, after, body, stateNumber, edges, target, braces, finished, plug, whole, andThen, marking, documentOf, on, rowOver, edgeNext, rowNext, marksNext, close, namesNext, offers}
-use Rattle.hanoi.proofs.Digits.{lt-yes, lt-no, le-yes, starts-all}
-use Rattle.hanoi.proofs.Forth.{distinct}
-use Rattle.hanoi.proofs.Taking.{Lawful, goes-append, goes-one, by-below, by-exactly, Stands, edges-stand, target-stands, edges-read, Ready, row-ready, body-ready, rows-read}
-use Rattle.hanoi.proofs.Keeping.{SoundNames, SoundHead, SoundHole, SoundHoles, SoundLevel, SoundPlace, SoundRows, SoundRow, Sound, keeps}
+use Rattle.hanoi.specs.Documents.{Formula, truth, group, Edge, plain, marked, Document, rowTokens, lawfulEdge, lawfulRow}
+use Rattle.hanoi.specs.Offers.{takesName, isNew, named, Leads, byWord, byName, Goes, stop, go}
+use Rattle.hanoi.specs.Reader.{Hole, fresh, Level, Head, At, hoa, v1, statesWord, statesNumber, startWord, startNumber, apWord, apNumber, naming, setsNumber, operand, opening, mark, closing, after, body, stateNumber, edges, target, braces, finished, plug, whole, marking, documentOf, on, close, namesNext, offers}
+use Rattle.hanoi.proofs.Digits.{lt-yes}
+use Rattle.hanoi.proofs.Taking.{goes-append, by-below, by-exactly, Stands, edges-stand, target-stands, edges-read, Ready, row-ready, body-ready, rows-read}
+use Rattle.hanoi.proofs.Keeping.{SoundNames, SoundHead, SoundRows, SoundRow, Sound, keeps}
 
 -- some tokens lead from s to the end
 pub record Ends (s : At) : Type 0 where

@@ -1,18 +1,18 @@
 -- Tokens that a reader takes are taken by bytes: each token by itself, and then a text of them.
 use Prim.Native.Nat.{ℕ, zero, suc, _+_, _-_, _*_, _/_, _%_, _^_, _≤_, _<_}
 use native.Mathlib.Omega.{arith}
-use mathlib.Core.Path.{_≡_, refl, sym, ap, ap₂, _∙_, subst}
+use mathlib.Core.Path.{_≡_, refl, sym, ap, _∙_, subst}
 use mathlib.Core.Logic.{_⊎_, inl, inr}
-use mathlib.Core.Bool.{Bool, true, false, not, _&&_, _||_, cond, false≢true}
+use mathlib.Core.Bool.{Bool, true, false, not, _&&_, _||_, false≢true}
 use mathlib.Core.List.{List, [], _∷_, _++_, map, append-assoc, append-nil, List·Memᴰ, List·Memᴰ·head, List·Memᴰ·tail}
-use lib.Dec.{eqb, ltb, leb}
+use lib.Dec.{eqb, ltb}
 use Rattle.lists.specs.Lists.{all, any, firstOr}
-use Rattle.lists.proofs.Bools.{test, and-l, and-r, both, not-true, or-cases, or-left, or-right, eqb≡, ≡eqb, neqb, lt-true, lt-false, le-true, le-false}
+use Rattle.lists.proofs.Bools.{test, and-l, and-r, both, not-true, or-right, ≡eqb, lt-true}
 use Rattle.lists.proofs.Lists.{some-any}
 use Rattle.hanoi.specs.Texts.{white, digit, goesOn, spelling, openEnded, Token, word, number, quoted, decimalIn, decimal, bytesOf, quotableIn, quotable, sticks, Spaced, isEmpty, apart, written}
 use Rattle.hanoi.specs.Words.{Word}
-use Rattle.hanoi.specs.Offers.{Choice, Numbers, noNumber, below, exactly, Names, noName, newName, Offer, startsWith, takes, ends, takesName, isNew, numbered, named, Leads, byWord, byNumber, byName, Goes, stop, go, Spot, between, inWord, digits, inName, dead, tailOf, wordOn, beginWord, begin, byteAt, stepByte, run}
-use Rattle.hanoi.proofs.Digits.{lt-yes, lt-no, word-first, white-digit, digit-white, digit-byte, small, large, under-ten, decimal-off, bytes-some, starts-part}
+use Rattle.hanoi.specs.Offers.{Choice, Numbers, noNumber, below, exactly, Offer, startsWith, takes, ends, takesName, isNew, numbered, named, Leads, byWord, byNumber, byName, Goes, stop, go, Spot, between, digits, inName, dead, tailOf, wordOn, beginWord, begin, byteAt, stepByte, run}
+use Rattle.hanoi.proofs.Digits.{lt-yes, word-first, white-digit, digit-white, digit-byte, small, large, under-ten, decimal-off, bytes-some, starts-part}
 
 module _ {A : Type 0} where
   abbrev pub firstOf : Choice A → ℕ

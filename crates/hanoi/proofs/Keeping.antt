@@ -1,24 +1,24 @@
 -- What holds of the document so far, in each state that the reader reaches; at its end the document is lawful.
-use Prim.Native.Nat.{ℕ, zero, suc, _+_, _-_, _*_, _^_, _≤_, _<_}
+use Prim.Native.Nat.{ℕ, zero, suc, _+_, _-_, _^_, _≤_, _<_}
 use native.Mathlib.Omega.{arith}
-use mathlib.Core.Path.{_≡_, refl, sym, ap, ap₂, _∙_, subst}
+use mathlib.Core.Path.{_≡_, refl, sym, _∙_, subst}
 use mathlib.Core.Logic.{_⊎_, inl, inr, _≢_}
 use mathlib.Core.Bool.{Bool, true, false, not, _&&_, _||_, cond, false≢true, true≢false}
-use mathlib.Core.List.{List, [], _∷_, _++_, map, append-assoc, append-nil, List·Memᴰ, List·Memᴰ·head, List·Memᴰ·tail, List·Memᴰ·not-nil}
-use lib.Dec.{eqb, ltb, leb}
+use mathlib.Core.List.{List, [], _∷_, _++_, append-assoc, append-nil, List·Memᴰ, List·Memᴰ·head, List·Memᴰ·tail, List·Memᴰ·not-nil}
+use lib.Dec.{eqb, ltb}
 use lib.ListN.{length, length-append}
-use Rattle.lists.specs.Lists.{all, any, flat}
-use Rattle.lists.proofs.Bools.{test, and-l, and-r, both, not-true, not-false, or-right, eqb≡, ≡eqb, neqb, lt-true, lt-false, le-true, le-false}
-use Rattle.hanoi.specs.Texts.{Token, word, number, quoted, decimal, quotable}
+use Rattle.lists.specs.Lists.{all, any}
+use Rattle.lists.proofs.Bools.{test, and-l, and-r, both, eqb≡, ≡eqb, lt-true, lt-false}
+use Rattle.hanoi.specs.Texts.{Token, quotable}
 use Rattle.hanoi.specs.Words.{Word}
 use Rattle.hanoi.specs.Words as w
 use Rattle.hanoi.specs.Documents as d
-use Rattle.hanoi.specs.Documents.{Formula, truth, inf, fin, group, either, Edge, plain, marked, Document, formulaTokens, edgeTokens, rowTokens, tokensOf, isEither, isBoth, formed, different, letters, lawfulEdge, lawfulRow, lawful}
-use Rattle.hanoi.specs.Offers.{Choice, Numbers, noNumber, below, exactly, Names, noName, newName, Offer, startsWith, takes, ends, takesName, isNew, numbered, named, Leads, byWord, byNumber, byName, Goes, stop, go}
+use Rattle.hanoi.specs.Documents.{Formula, truth, group, Edge, plain, marked, isEither, isBoth, formed, different, lawfulEdge, lawfulRow}
+use Rattle.hanoi.specs.Offers.{Choice, noNumber, below, takes, takesName, isNew, numbered, named, Leads, byWord, byNumber, byName, Goes, stop, go}
 use Rattle.hanoi.specs.Reader.{Hole, fresh, orElse, andAlso, orAnd, Level, alone, beside, Head, At, hoa, v1, statesWord, statesNumber, startWord, startNumber, apWord, apNumber, naming, setsNumber, operand, opening, mark, closing, after, body, stateNumber, edges, target, braces, finished, plug, whole, andThen, marking, documentOf, on, rowOver, edgeNext, rowNext, marksNext, close, namesNext, offers}
-use Rattle.hanoi.proofs.Digits.{lt-yes, lt-no, le-yes, starts-all}
-use Rattle.hanoi.proofs.Forth.{distinct}
-use Rattle.hanoi.proofs.Taking.{formed-both, formed-either, Lawful}
+use Rattle.hanoi.proofs.Digits.{lt-yes}
+use Rattle.hanoi.proofs.Printing.{no-choice}
+use Rattle.hanoi.proofs.Taking.{Lawful}
 
 module _ {B : Type 0} where
   pub all-snoc : (p : B → Bool) (l : List B) (x : B) → all p l ≡ true → p x ≡ true → all p (l ++ (x ∷ [])) ≡ true
@@ -233,9 +233,6 @@ only-next (List·Memᴰ·head e) s = subst (λ (y : Choice At). Sound (y .next))
 head-next : {c e : Choice At} → c ≡ e → Sound (e .next) → Sound (c .next)
 head-next q s = subst (λ (y : Choice At). Sound (y .next)) (sym q) s
 
-no-next : {B : Type 0} {c : Choice At} → List·Memᴰ c [] → B
-no-next m = absurd (List·Memᴰ·not-nil m)
-
 marks-sound : (h : Head) (hs : List Hole) (o : Hole) (c : Choice At) → SoundPlace h hs o → List·Memᴰ c (marksNext h hs o) → Sound (c .next)
 unfolding marksNext
 marks-sound h hs o c s m = step (test (ltb 0 (h .sets))) m
@@ -246,7 +243,7 @@ marks-sound h hs o c s m = step (test (ltb 0 (h .sets))) m
 
     step : (ltb 0 (h .sets) ≡ true) ⊎ (ltb 0 (h .sets) ≡ false) → List·Memᴰ c (cond (ltb 0 (h .sets)) (on w.Inf (opening h hs o true) ∷ on w.Fin (opening h hs o false) ∷ []) []) → Sound (c .next)
     step (inl t) n = both-marks (lt-true 0 (h .sets) t) (rw t at n)
-    step (inr f) n = no-next (rw f at n)
+    step (inr f) n = no-choice (rw f at n)
 
 mark-edge : (h : Head) (f : Formula) (rs : List (List Edge)) (r : List Edge) (a b : Edge) → lawfulEdge (h .states) (h .sets) b ≡ true → SoundRow h f rs (r ++ (a ∷ [])) → SoundRow h f rs (r ++ (b ∷ []))
 mark-edge h f rs r a b l s =
@@ -276,14 +273,14 @@ unfolding offers namesNext close
 word-keeps hoa c m s = only-next m s
 word-keeps v1 c m s = only-next m s
 word-keeps statesWord c m s = only-next m s
-word-keeps statesNumber c m s = no-next m
+word-keeps statesNumber c m s = no-choice m
 word-keeps (startWord n) c m s = only-next m s
-word-keeps (startNumber n) c m s = no-next m
+word-keeps (startNumber n) c m s = no-choice m
 word-keeps (apWord n i) c m s = only-next m s
-word-keeps (apNumber n i) c m s = no-next m
+word-keeps (apNumber n i) c m s = no-choice m
 word-keeps (naming n i zero ns) c m s = only-next m s
-word-keeps (naming n i (suc left) ns) c m s = no-next m
-word-keeps (setsNumber n i ns) c m s = no-next m
+word-keeps (naming n i (suc left) ns) c m s = no-choice m
+word-keeps (setsNumber n i ns) c m s = no-choice m
 word-keeps (operand h hs o) c (List·Memᴰ·head e) s = head-next e (record { head-is = s .head-is; holes-are = (s .hole-is, s .holes-are); hole-is = tt })
 word-keeps (operand h hs o) c (List·Memᴰ·tail (List·Memᴰ·head e)) s =
     head-next e (s .head-is, s .holes-are, plug-sound (h .sets) o (truth true) (s .hole-is) (truth-formed (h .sets) true) refl refl)
@@ -291,7 +288,7 @@ word-keeps (operand h hs o) c (List·Memᴰ·tail (List·Memᴰ·tail (List·Mem
     head-next e (s .head-is, s .holes-are, plug-sound (h .sets) o (truth false) (s .hole-is) (truth-formed (h .sets) false) refl refl)
 word-keeps (operand h hs o) c (List·Memᴰ·tail (List·Memᴰ·tail (List·Memᴰ·tail m))) s = marks-sound h hs o c s m
 word-keeps (opening h hs o b) c m s = only-next m s
-word-keeps (mark h hs o b) c m s = no-next m
+word-keeps (mark h hs o b) c m s = no-choice m
 word-keeps (closing h hs o b k) c m s =
     let x = marking-sound (h .sets) b k (s .1) in
     only-next m (s .0 .head-is, s .0 .holes-are, plug-sound (h .sets) o (marking b k) (s .0 .hole-is) (x .0) (x .1) (x .2))
@@ -301,12 +298,12 @@ word-keeps (after h [] l) c (List·Memᴰ·tail (List·Memᴰ·tail m)) s = only
 word-keeps (after h (o ∷ hs) l) c (List·Memᴰ·tail (List·Memᴰ·tail m)) s =
     only-next m (s .0, s .1 .1, plug-sound (h .sets) o (group (whole l)) (s .1 .0) (group-formed (h .sets) (whole l) (whole-sound (h .sets) l (s .2))) refl refl)
 word-keeps (body h f) c m s = only-next m (record { head-is = s .0; formed-is = s .1; rows-are = refl; more-is = omega (arith, s .0 .names-are .start-is) })
-word-keeps (stateNumber h f rs) c m s = no-next m
+word-keeps (stateNumber h f rs) c m s = no-choice m
 word-keeps (edges h f rs r) c m s = row-sound h f rs r c s m
 word-keeps (target h f rs r t) c (List·Memᴰ·head e) s = head-next e (mark-edge h f rs r (plain t) (marked t []) (no-marks (h .states) (h .sets) t (last-edge h f rs r (plain t) s)) s)
 word-keeps (target h f rs r t) c (List·Memᴰ·tail m) s = row-sound h f rs (r ++ (plain t ∷ [])) c s m
 word-keeps (braces h f rs r t ms) c m s = only-next m s
-word-keeps (finished x) c m s = no-next m
+word-keeps (finished x) c m s = no-choice m
 
 number-keeps : (s : At) (n : ℕ) → takes (offers s .numbers) n ≡ true → Sound s → Sound (numbered (offers s .numbers) n s)
 unfolding offers namesNext takes numbered

@@ -1,20 +1,18 @@
 -- Where the reader of bytes is alive, its state is a sound one, and some bytes lead to a state between tokens.
-use Prim.Native.Nat.{ℕ, zero, suc, _+_, _-_, _*_, _/_, _%_, _^_, _≤_, _<_}
+use Prim.Native.Nat.{ℕ, suc, _+_, _-_, _*_}
 use native.Mathlib.Omega.{arith}
-use mathlib.Core.Path.{_≡_, refl, sym, ap, ap₂, _∙_, subst}
+use mathlib.Core.Path.{_≡_, refl, sym, ap, _∙_, subst}
 use mathlib.Core.Logic.{_⊎_, inl, inr}
-use mathlib.Core.Bool.{Bool, true, false, not, _&&_, _||_, cond, false≢true, true≢false}
-use mathlib.Core.List.{List, [], _∷_, _++_, map, append-assoc, append-nil, List·Memᴰ}
-use lib.Dec.{eqb, ltb, leb}
+use mathlib.Core.Bool.{Bool, true, false, not, _&&_, cond, false≢true}
+use mathlib.Core.List.{List, [], _∷_, _++_, append-assoc, append-nil, List·Memᴰ}
+use lib.Dec.{eqb, ltb}
 use lib.ListN.{length, replicate, length-append, length-replicate}
-use Rattle.lists.specs.Lists.{all, any, firstOr}
-use Rattle.lists.proofs.Bools.{test, and-l, and-r, both, not-true, eqb≡, ≡eqb, lt-true}
-use Rattle.hanoi.specs.Texts.{white, digit, goesOn, spelling, openEnded, Token, word, number, quoted, decimal, bytesOf, quotableIn, quotable, sticks, Spaced, isEmpty, apart, none, written}
+use Rattle.lists.proofs.Bools.{test, and-l, and-r, both, ≡eqb}
+use Rattle.hanoi.specs.Texts.{white, digit, goesOn, spelling, openEnded, Token, word, decimal, quotableIn, quotable, none}
 use Rattle.hanoi.specs.Words.{Word}
-use Rattle.hanoi.specs.Documents.{sameBytes}
-use Rattle.hanoi.specs.Offers.{Choice, Numbers, noNumber, below, exactly, Names, noName, newName, Offer, startsWith, takes, ends, takesName, isNew, numbered, named, Leads, byWord, byNumber, byName, Goes, stop, go, Spot, between, inWord, digits, inName, dead, tailOf, wordOn, beginWord, begin, byteAt, stepByte, run}
-use Rattle.hanoi.proofs.Digits.{lt-yes, starts-all, starts-rest}
-use Rattle.hanoi.proofs.Forth.{firstOf, distinct, takes-small, run-append, word-rest, number-read, name-rest, name-behind, Lands, free, barred, counted, let-white, forth}
+use Rattle.hanoi.specs.Offers.{Choice, Numbers, noNumber, below, exactly, Names, noName, newName, Offer, startsWith, takes, ends, takesName, isNew, numbered, named, Leads, byWord, byNumber, byName, Spot, between, inWord, digits, inName, dead, tailOf, wordOn, beginWord, begin, byteAt, stepByte, run}
+use Rattle.hanoi.proofs.Digits.{starts-all, starts-rest}
+use Rattle.hanoi.proofs.Forth.{firstOf, run-append, word-rest, number-read, name-rest, Lands, free, barred, counted}
 use Rattle.hanoi.proofs.Back.{picked}
 use Rattle.hanoi.proofs.Ending.{total, longer-new, letters-quotable}
 

@@ -1,23 +1,20 @@
 -- What the reader has read is what its state prints: told back, the tokens of the document so far.
-use Prim.Native.Nat.{ℕ, zero, suc, _+_, _-_, _*_, _^_, _≤_, _<_}
+use Prim.Native.Nat.{ℕ, zero, suc, _+_, _-_}
 use native.Mathlib.Omega.{arith}
 use mathlib.Core.Path.{_≡_, refl, sym, ap, ap₂, _∙_, subst}
-use mathlib.Core.Logic.{_⊎_, inl, inr}
-use mathlib.Core.Bool.{Bool, true, false, not, _&&_, _||_, cond, false≢true, true≢false}
+use mathlib.Core.Bool.{Bool, true, false, cond, false≢true}
 use mathlib.Core.List.{List, [], _∷_, _++_, map, append-assoc, append-nil, List·Memᴰ, List·Memᴰ·head, List·Memᴰ·tail, List·Memᴰ·not-nil}
-use lib.Dec.{eqb, ltb, leb}
+use lib.Dec.{ltb}
 use lib.ListN.{length, length-append}
-use Rattle.lists.specs.Lists.{all, any, flat}
-use Rattle.lists.proofs.Bools.{test, and-l, and-r, both, not-true, not-false, or-right, eqb≡, ≡eqb, neqb, lt-true, lt-false, le-true, le-false}
-use Rattle.hanoi.specs.Texts.{Token, word, number, quoted, decimal, quotable}
+use Rattle.lists.specs.Lists.{flat}
+use Rattle.lists.proofs.Bools.{eqb≡}
+use Rattle.hanoi.specs.Texts.{Token, word, number, quoted}
 use Rattle.hanoi.specs.Words.{Word}
 use Rattle.hanoi.specs.Words as w
 use Rattle.hanoi.specs.Documents as d
-use Rattle.hanoi.specs.Documents.{Formula, truth, inf, fin, group, either, Edge, plain, marked, Document, formulaTokens, edgeTokens, rowTokens, tokensOf, isEither, isBoth, formed, different, letters, lawfulEdge, lawfulRow, lawful}
-use Rattle.hanoi.specs.Offers.{Choice, Numbers, noNumber, below, exactly, Names, noName, newName, Offer, startsWith, takes, ends, takesName, isNew, numbered, named, Leads, byWord, byNumber, byName, Goes, stop, go}
+use Rattle.hanoi.specs.Documents.{Formula, truth, group, Edge, plain, marked, formulaTokens, edgeTokens, rowTokens, tokensOf}
+use Rattle.hanoi.specs.Offers.{Choice, noNumber, below, takes, ends, takesName, numbered, named, Leads, byWord, byNumber, byName, Goes, stop, go}
 use Rattle.hanoi.specs.Reader.{Hole, fresh, orElse, andAlso, orAnd, Level, alone, beside, Head, At, hoa, v1, statesWord, statesNumber, startWord, startNumber, apWord, apNumber, naming, setsNumber, operand, opening, mark, closing, after, body, stateNumber, edges, target, braces, finished, plug, whole, andThen, marking, documentOf, on, rowOver, edgeNext, rowNext, marksNext, close, namesNext, offers}
-use Rattle.hanoi.proofs.Digits.{lt-yes, lt-no, le-yes, starts-all}
-use Rattle.hanoi.proofs.Forth.{distinct}
 
 -- ---- what a state prints
 abbrev pub holeTokens : Hole → List Token
@@ -156,7 +153,7 @@ edge-number h f rs r n s t = step (rowOver h r) t
     step true t = absurd (false≢true t)
     step false t = refl
 
-no-choice : {B : Type 0} {c : Choice At} → List·Memᴰ c [] → B
+pub no-choice : {B : Type 0} {c : Choice At} → List·Memᴰ c [] → B
 no-choice m = absurd (List·Memᴰ·not-nil m)
 
 marks-open : (h : Head) (hs : List Hole) (o : Hole) (c : Choice At) → List·Memᴰ c (marksNext h hs o) → List·Memᴰ c (cond (ltb 0 (h .sets)) (on w.Inf (opening h hs o true) ∷ on w.Fin (opening h hs o false) ∷ []) [])

@@ -1,15 +1,12 @@
 -- A text, the document that it says, and its policy, by computation.
-use Prim.Native.Nat.{ℕ}
-use Prim.Native.String.{String}
 use mathlib.Core.Path.{_≡_, refl}
-use mathlib.Core.Bool.{Bool, true, false}
-use mathlib.Core.List.{List, [], _∷_, _++_, map}
-use lib.ListN.{length, replicate}
+use mathlib.Core.Bool.{true, false}
+use mathlib.Core.List.{List, [], _∷_, _++_}
+use lib.ListN.{replicate}
 use Rattle.masks.specs.Masks.{has, insert, setOf}
-use Rattle.policy.specs.declared.Policy.{Policy}
 use Rattle.mark_sets.specs.MarkSets.{firsts, colourIn, unionAt}
-use Rattle.hanoi.specs.Texts.{ascii, white, goesOn, Token, word, number, quoted, decimalIn, decimal, bytesOf, quotable, quotableIn, Spaced, apart, written}
-use Rattle.hanoi.specs.Documents.{Formula, truth, inf, fin, group, both, either, Edge, plain, marked, Document, tokensOf, formed, different, letters, lawfulEdge, lawfulRow, lawful, Says}
+use Rattle.hanoi.specs.Texts.{ascii, white, goesOn, Token, decimalIn, decimal, quotable, quotableIn, Spaced, apart, written}
+use Rattle.hanoi.specs.Documents.{truth, inf, fin, group, both, either, plain, marked, Document, tokensOf, formed, different, letters, lawfulEdge, lawfulRow, lawful, Says}
 use Rattle.hanoi.specs.Meaning.{holds, markSet, edgesOf, markSets, colourOf, named, policyOf}
 
 abbrev d : Document

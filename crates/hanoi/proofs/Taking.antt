@@ -1,19 +1,18 @@
 -- The reader takes the tokens of each lawful document, and ends with that document.
-use Prim.Native.Nat.{ℕ, zero, suc, _+_, _-_, _*_, _^_, _≤_, _<_}
+use Prim.Native.Nat.{ℕ, zero, suc, _+_, _-_, _^_, _≤_, _<_}
 use native.Mathlib.Omega.{arith}
-use mathlib.Core.Path.{_≡_, refl, sym, ap, ap₂, _∙_, subst}
-use mathlib.Core.Logic.{_⊎_, inl, inr}
-use mathlib.Core.Bool.{Bool, true, false, not, _&&_, _||_, cond, false≢true, true≢false}
+use mathlib.Core.Path.{_≡_, refl, sym, _∙_, subst}
+use mathlib.Core.Bool.{Bool, true, false, not, _&&_, _||_, cond, true≢false}
 use mathlib.Core.List.{List, [], _∷_, _++_, map, append-assoc, append-nil, List·Memᴰ, List·Memᴰ·head, List·Memᴰ·tail}
 use lib.Dec.{eqb, ltb, leb}
 use lib.ListN.{length, length-append}
 use Rattle.lists.specs.Lists.{all, any, flat}
-use Rattle.lists.proofs.Bools.{test, and-l, and-r, both, not-true, not-false, or-right, eqb≡, ≡eqb, neqb, lt-true, lt-false, le-true, le-false}
+use Rattle.lists.proofs.Bools.{and-l, and-r, both, not-true, eqb≡, ≡eqb, neqb, lt-true, le-true}
 use Rattle.hanoi.specs.Texts.{Token, word, number, quoted, decimal, quotable}
 use Rattle.hanoi.specs.Words as w
 use Rattle.hanoi.specs.Documents as d
 use Rattle.hanoi.specs.Documents.{Formula, truth, inf, fin, group, either, Edge, plain, marked, Document, formulaTokens, edgeTokens, rowTokens, tokensOf, isEither, isBoth, formed, different, letters, lawfulEdge, lawfulRow, lawful}
-use Rattle.hanoi.specs.Offers.{Choice, Numbers, noNumber, below, exactly, Names, noName, newName, Offer, startsWith, takes, ends, takesName, isNew, numbered, named, Leads, byWord, byNumber, byName, Goes, stop, go}
+use Rattle.hanoi.specs.Offers.{Choice, Numbers, below, exactly, startsWith, takes, ends, takesName, isNew, numbered, named, Leads, byWord, byNumber, byName, Goes, stop, go}
 use Rattle.hanoi.specs.Reader.{Hole, fresh, orElse, andAlso, orAnd, Level, alone, beside, Head, At, hoa, v1, statesWord, statesNumber, startWord, startNumber, apWord, apNumber, naming, setsNumber, operand, opening, mark, closing, after, body, stateNumber, edges, target, braces, finished, plug, whole, andThen, marking, documentOf, on, rowOver, edgeNext, rowNext, marksNext, close, namesNext, offers}
 use Rattle.hanoi.proofs.Digits.{lt-yes, lt-no, starts-all}
 use Rattle.hanoi.proofs.Forth.{distinct}

@@ -1,14 +1,13 @@
 -- What is told of a formula from left to right is its value. Assumes nothing.
-use Prim.Native.Nat.{ℕ, zero, suc}
+use Prim.Native.Nat.{ℕ, suc}
 use mathlib.Core.Path.{_≡_, refl, sym, ap, _∙_, subst}
 use mathlib.Core.Logic.{_⊎_, inl, inr}
-use mathlib.Core.Bool.{Bool, true, false, not, _&&_, _||_, cond, false≢true}
+use mathlib.Core.Bool.{Bool, true, false, not, _&&_, _||_, false≢true}
 use mathlib.Core.List.{List, [], _∷_, _++_}
-use Rattle.lists.proofs.Bools.{test, and-l, and-r, not-true}
-use Rattle.masks.specs.Masks.{has}
+use Rattle.lists.proofs.Bools.{and-l, and-r, not-true}
 use Rattle.hanoi.specs.Documents.{Formula, truth, inf, fin, group, both, either, isEither, isBoth, formed}
 use Rattle.hanoi.specs.Meaning.{holds}
-use Rattle.hanoi.specs.Formulas.{Event, operand, opens, closes, and, or, eventsOf, told, tellIn, tell, tellAll}
+use Rattle.hanoi.specs.Formulas.{Event, closes, and, or, eventsOf, told, tellIn, tell, tellAll}
 use Rattle.hanoi.specs.declared.Told.{Told}
 use Rattle.hanoi.specs.declared.Mode.the-variants.{Reading, PastAnd, PastOr}
 

@@ -3,7 +3,7 @@
 -- what is read is the value of the whole so far. After `&` behind what does not hold, the rest of the conjunction is passed by; after `|` behind what holds, the
 -- rest of the disjunction, up to its closing parenthesis.
 use Prim.Native.Nat.{ℕ, zero, suc}
-use mathlib.Core.Bool.{Bool, true, false, not, cond}
+use mathlib.Core.Bool.{Bool, not, cond}
 use mathlib.Core.List.{List, [], _∷_, _++_}
 use Rattle.masks.specs.Masks.{has}
 use Rattle.hanoi.specs.declared.Told.{Told}

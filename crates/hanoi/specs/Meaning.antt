@@ -1,8 +1,8 @@
 -- What a document means (document 02, S-4): the formula on a set of marks, the colours of its mark sets, its policy, and its own runs.
-use Prim.Native.Nat.{ℕ, zero, suc, _+_, _-_, _*_, _^_}
-use mathlib.Core.Bool.{Bool, true, false, not, _&&_, _||_, cond}
-use mathlib.Core.List.{List, [], _∷_, _++_, map}
-use lib.Dec.{eqb, ltb, leb}
+use Prim.Native.Nat.{ℕ, _+_, _-_, _*_, _^_}
+use mathlib.Core.Bool.{Bool, not, _&&_, _||_, cond}
+use mathlib.Core.List.{List, [], _++_, map}
+use lib.Dec.{ltb}
 use lib.ListN.{length, getD, replicate}
 use Rattle.lists.specs.Lists.{flat, below}
 use Rattle.masks.specs.Masks.{has, setOf}

@@ -1,10 +1,10 @@
 -- Reading by bytes what is offered by tokens. At each state of a reader some words may come, a number of some kind, or a name; each says which state is next.
 -- What a state offers is all that is known of it here.
-use Prim.Native.Nat.{ℕ, zero, suc, _+_, _-_, _*_}
+use Prim.Native.Nat.{ℕ, _+_, _-_, _*_}
 use mathlib.Core.Path.{_≡_}
 use mathlib.Core.Bool.{Bool, true, false, not, _&&_, _||_, cond}
 use mathlib.Core.List.{List, [], _∷_, _++_, List·Memᴰ}
-use lib.Dec.{eqb, ltb, leb}
+use lib.Dec.{eqb, ltb}
 use Rattle.lists.specs.Lists.{any, firstOr}
 use Rattle.hanoi.specs.Texts.{white, digit, goesOn, spelling, openEnded, Token, word, number, quoted, decimal, quotable}
 use Rattle.hanoi.specs.Words.{Word}
@@ -127,31 +127,3 @@ module _ {A : Type 0} (offers : A → Offer A) where
   abbrev pub run : Spot A → List ℕ → Spot A
   run p [] = p
   run p (b ∷ bs) = run (stepByte p b) bs
-
--- ---- the same reader with less in its states
-module _ {A B : Type 0} (g : A → B) where
-  abbrev pub mapChoice : Choice A → Choice B
-  mapChoice c = record { word = c .word; next = g (c .next) }
-
-  abbrev pub mapChoices : List (Choice A) → List (Choice B)
-  mapChoices [] = []
-  mapChoices (c ∷ cs) = mapChoice c ∷ mapChoices cs
-
-  abbrev pub mapNumbers : Numbers A → Numbers B
-  mapNumbers noNumber = noNumber
-  mapNumbers (below some k f) = below some k (λ n. g (f n))
-  mapNumbers (exactly k a) = exactly k (g a)
-
-  abbrev pub mapNames : Names A → Names B
-  mapNames noName = noName
-  mapNames (newName ns f) = newName ns (λ q. g (f q))
-
-  abbrev pub mapOffer : Offer A → Offer B
-  mapOffer o = record { choices = mapChoices (o .choices); numbers = mapNumbers (o .numbers); names = mapNames (o .names) }
-
-  abbrev pub mapSpot : Spot A → Spot B
-  mapSpot (between b s) = between b (g s)
-  mapSpot (inWord x r a) = inWord x r (g a)
-  mapSpot (digits s n) = digits (g s) n
-  mapSpot (inName s q b) = inName (g s) q b
-  mapSpot dead = dead

@@ -1,14 +1,13 @@
 -- The reader of the subset. Its state is the document so far, and says what may come; a text is taken by it exactly if it says a document.
-use Prim.Native.Nat.{ℕ, zero, suc, _+_, _-_, _*_, _^_}
-use mathlib.Core.Path.{_≡_}
-use mathlib.Core.Bool.{Bool, true, false, not, _&&_, _||_, cond}
+use Prim.Native.Nat.{ℕ, zero, suc, _+_, _^_}
+use mathlib.Core.Bool.{Bool, true, false, cond}
 use mathlib.Core.List.{List, [], _∷_, _++_}
-use lib.Dec.{eqb, ltb, leb}
+use lib.Dec.{eqb, ltb}
 use lib.ListN.{length}
 use Rattle.hanoi.specs.Words.{Word}
 use Rattle.hanoi.specs.Words as w
 use Rattle.hanoi.specs.Documents.{Formula, truth, inf, fin, group, both, either, Edge, plain, marked, Document}
-use Rattle.hanoi.specs.Offers.{Choice, Numbers, noNumber, below, exactly, Names, noName, newName, Offer, Spot, between, inWord, digits, inName, dead, stepByte, run}
+use Rattle.hanoi.specs.Offers.{Choice, Numbers, noNumber, below, exactly, Names, noName, newName, Offer, Spot, between, inWord, digits, inName, dead, stepByte}
 
 -- ---- the document so far
 -- what stands on one level of a formula before the operand that comes next: nothing, `f |`, `f &`, or `f | g &`

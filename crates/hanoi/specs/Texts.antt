@@ -1,14 +1,12 @@
 -- Tokens of the Hanoi Omega-Automata format, version 1, as far as the subset has them (document 02, S-4), and texts: tokens with white space between them.
-use Prim.Native.Nat.{ℕ, zero, suc, _+_, _-_, _*_, _/_, _%_}
-use Prim.Native.Char.{Char, code}
+use Prim.Native.Nat.{ℕ, zero, suc, _+_, _/_, _%_}
+use Prim.Native.Char.{code}
 use Prim.Native.String.{String}
 use Prim.Native.String as string
-use mathlib.Core.Path.{_≡_}
 use mathlib.Core.Bool.{Bool, true, false, not, _&&_, _||_, cond}
-use mathlib.Core.List.{List, [], _∷_, _++_, map}
+use mathlib.Core.List.{List, [], _∷_, _++_}
 use lib.Dec.{eqb, ltb, leb}
-use lib.ListN.{length, take}
-use Rattle.lists.specs.Lists.{all, flat, firstOr}
+use Rattle.lists.specs.Lists.{all, firstOr}
 use Rattle.hanoi.specs.Words.{Word}
 use Rattle.hanoi.specs.Words as w
 

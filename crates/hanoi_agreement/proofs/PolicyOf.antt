@@ -1,27 +1,21 @@
 -- The policy of a document: its edges, its step and its family are the document's. Assumes nothing.
-use Prim.Native.Nat.{ℕ, zero, suc, _+_, _-_, _*_, _^_, _≤_, _<_}
+use Prim.Native.Nat.{ℕ, _+_, _-_, _*_, _^_, _≤_, _<_}
 use native.Mathlib.Omega.{arith}
 use mathlib.Core.Path.{_≡_, refl, sym, ap, _∙_}
 use mathlib.Core.Bool.{false, cond}
-use mathlib.Core.List.{List, [], _∷_, _++_, map}
+use mathlib.Core.List.{map}
 use lib.Dec.{ltb}
-use lib.ListN.{length, getD, replicate, length-map, List·getD-map, List·getD-eq-default}
+use lib.ListN.{length, getD, length-map, List·getD-map, List·getD-eq-default}
 use borrow.Author.Tests.{lt-ltb}
-use Rattle.lists.proofs.Lists.{replicate-at, getD-map-below}
+use Rattle.lists.proofs.Lists.{getD-map-below}
 use Rattle.tables.proofs.Columns.{map-at}
 use Rattle.policy.specs.declared.Policy.{Policy}
 use Rattle.policy.specs.Policies.{edgeOf, targetOf, colourOf, inFamily}
 use Rattle.running.specs.Running.{policyStep}
 use Rattle.mark_sets.specs.MarkSets.{unionAt}
+use Rattle.mark_sets.proofs.Unions.{filled-at}
 use Rattle.hanoi.specs.Documents.{Edge, plain, Document, targetOf as edgeTarget, letters}
 use Rattle.hanoi.specs.Meaning.{holds, edgesOf, markSets, colourOf as edgeColour, named, policyOf, edgeAt, step}
-
--- ---- lists
--- 0 past the last place changes no place
-padded-at : (l : List ℕ) (k i : ℕ) → getD (l ++ replicate k 0) i 0 ≡ getD l i 0
-padded-at [] k i = replicate-at k i 0
-padded-at (x ∷ l) k zero = refl
-padded-at (x ∷ l) k (suc i) = padded-at l k i
 
 module _ (d : Document) where
   abbrev p : Policy
@@ -42,11 +36,11 @@ module _ (d : Document) where
   -- ---- edges
   pub target-at : (e : ℕ) → targetOf p e ≡ edgeTarget (edge e)
   unfolding targetOf policyOf
-  target-at e = padded-at (map edgeTarget (edgesOf d)) (64 - length (map edgeTarget (edgesOf d))) e ∙ List·getD-map edgeTarget (edgesOf d) e (plain 0)
+  target-at e = filled-at (map edgeTarget (edgesOf d)) (64 - length (map edgeTarget (edgesOf d))) e ∙ List·getD-map edgeTarget (edgesOf d) e (plain 0)
 
   pub colour-at : (e : ℕ) → e < length (edgesOf d) → colourOf p e ≡ edgeColour d (edge e)
   unfolding colourOf policyOf
-  colour-at e h = padded-at (map (edgeColour d) (edgesOf d)) (64 - length (map (edgeColour d) (edgesOf d))) e ∙ map-at (edgeColour d) (edgesOf d) (plain 0) e h
+  colour-at e h = filled-at (map (edgeColour d) (edgesOf d)) (64 - length (map (edgeColour d) (edgesOf d))) e ∙ map-at (edgeColour d) (edgesOf d) (plain 0) e h
 
   pub past-target : (e : ℕ) → length (edgesOf d) ≤ e → targetOf p e ≡ 0
   past-target e h = target-at e ∙ ap edgeTarget (List·getD-eq-default (edgesOf d) (plain 0) h)
@@ -54,7 +48,7 @@ module _ (d : Document) where
   pub past-colour : (e : ℕ) → length (edgesOf d) ≤ e → colourOf p e ≡ 0
   unfolding colourOf policyOf
   past-colour e h =
-      padded-at (map (edgeColour d) (edgesOf d)) (64 - length (map (edgeColour d) (edgesOf d))) e
+      filled-at (map (edgeColour d) (edgesOf d)) (64 - length (map (edgeColour d) (edgesOf d))) e
       ∙ List·getD-eq-default (map (edgeColour d) (edgesOf d)) 0 (omega (arith, length-map (edgesOf d) (edgeColour d)))
 
   -- ---- the document's step is the policy's

@@ -2,7 +2,7 @@
 use Prim.Native.Nat.{ℕ, _+_, _*_, _%_, _^_, _≤_, _<_}
 use native.Mathlib.Omega.{arith}
 use mathlib.Core.Path.{_≡_, refl, sym, ap, ap₂, _∙_}
-use mathlib.Core.Bool.{Bool, true, false, cond, false≢true, true≢false}
+use mathlib.Core.Bool.{true, false, false≢true, true≢false}
 use mathlib.Core.List.{List, [], _∷_, _++_}
 use lib.Bits.{bitOr, or-zero-l}
 use lib.Dec.{eqb}
@@ -14,22 +14,18 @@ use Rattle.masks.proofs.SetOf.{set-append}
 use Rattle.hanoi.specs.Texts.{white, digit}
 use Rattle.hanoi.specs.Documents.{Formula, Edge, plain, marked}
 use Rattle.hanoi.specs.Meaning.{markSet}
-use Rattle.hanoi.specs.Offers.{below, takesName, Spot, between, dead, wordOn, beginWord, begin, byteAt, stepByte}
+use Rattle.hanoi.specs.Offers.{below, takesName, between, dead, wordOn, beginWord, begin, byteAt, stepByte}
 use Rattle.hanoi.specs.Reader.{Head, At, edges, target, braces, rowOver, edgeNext, rowNext, offers}
 use Rattle.hanoi_tokens.specs.declared.Begun.{Begun}
 use Rattle.hanoi_tokens.specs.declared.Number.{Number}
 use Rattle.hanoi_tokens.specs.declared.Wanted.the-variants.{Below}
 use Rattle.hanoi_tokens.specs.Moves.{Moves, Stops, Reads}
 use Rattle.hanoi_tokens.specs.Tokens.{Begins, numbersFor, ReadsDigits}
-use Rattle.hanoi_tokens.proofs.Moves.{stay, moves-on, moves-stops, moves-reads, one}
+use Rattle.hanoi_tokens.proofs.Moves.{neither, stay, moves-on, moves-stops, moves-reads, one}
 use Rattle.hanoi_body.specs.declared.Marks.{Marks}
 use Rattle.hanoi_body.specs.Edges.{stoppedAt, ReadsMarks, EdgeAt, ReadsEdge}
 
 -- ---- bytes
-nothing : (x : Bool) → cond {A = Spot At} x dead dead ≡ dead
-nothing true = refl
-nothing false = refl
-
 module _ (h : Head) (f : Formula) (rs : List (List Edge)) (es : List Edge) where
   step-closes : (t : ℕ) (ms : List ℕ) → stepByte offers (between false (braces h f rs es t ms)) 125 ≡ between false (edges h f rs (es ++ (marked t ms ∷ [])))
   unfolding stepByte byteAt begin beginWord wordOn offers white
@@ -42,12 +38,12 @@ module _ (h : Head) (f : Formula) (rs : List (List Edge)) (es : List Edge) where
   -- a byte that no mark begins with
   no-mark : (t : ℕ) (ms : List ℕ) (b : ℕ) → white b ≡ false → eqb b 125 ≡ false → digit b ≡ false → stepByte offers (between false (braces h f rs es t ms)) b ≡ dead
   unfolding stepByte byteAt begin beginWord takesName offers
-  no-mark t ms b w q d = rw (w, q, d) (nothing (eqb b 34))
+  no-mark t ms b w q d = rw (w, q, d) (neither (eqb b 34))
 
   -- a byte that no edge begins with
   no-edge : (b : ℕ) → rowOver h es ≡ false → white b ≡ false → digit b ≡ false → stepByte offers (between false (edges h f rs es)) b ≡ dead
   unfolding stepByte byteAt begin beginWord takesName offers rowNext
-  no-edge b o w d = rw (w, d, o) (nothing (eqb b 34))
+  no-edge b o w d = rw (w, d, o) (neither (eqb b 34))
 
   -- behind a target any byte but an opening brace is as behind an edge with no marks
   no-marks : (t b : ℕ) → white b ≡ false → eqb b 123 ≡ false → digit b ≡ false

@@ -3,7 +3,7 @@
 ghost use mathlib.Core.Path.{_≡_};
 ghost use mathlib.Core.Bool.{true};
 ghost use Prim.Native.Nat.{_+_, _*_, _≤_, _<_};
-ghost use lib.ListN.{length, set};
+ghost use lib.ListN.{length};
 ghost use Rattle.hanoi_body.specs.Edges.{stoppedAt, ReadsMarks, ReadsEdge};
 ghost use Rattle.hanoi_body.specs.Rows.{ReadsState, WithEdge, ReadsRow, ReadsEnd};
 ghost use Rattle.hanoi_body.specs.Body.{ReadsBody};

@@ -1,19 +1,18 @@
 -- Laws of reading on. Assumes nothing.
-use Prim.Native.Nat.{ℕ, zero, suc, _+_, _-_, _≤_, _<_}
+use Prim.Native.Nat.{ℕ, suc, _+_, _-_, _≤_, _<_}
 use native.Mathlib.Omega.{arith}
 use native.Mathlib.Numerals.{add-one}
-use mathlib.Core.Path.{_≡_, refl, sym, ap, ap₂, _∙_, subst}
-use mathlib.Core.Bool.{Bool, true, false, not, _&&_, cond, false≢true, true≢false}
+use mathlib.Core.Path.{_≡_, refl, sym, ap, _∙_, subst}
+use mathlib.Core.Bool.{Bool, true, false, cond, false≢true, true≢false}
 use mathlib.Core.List.{List, [], _∷_}
-use lib.Dec.{eqb, ltb}
 use lib.ListN.{length, getD, drop, drop-of-length-le}
 use lib.Seq.{drop-cons}
 use Rattle.hanoi.specs.declared.Answer.{Answer}
-use Rattle.hanoi.specs.Offers.{Spot, between, inWord, digits, inName, dead, stepByte, run}
+use Rattle.hanoi.specs.Offers.{Spot, dead, stepByte, run}
 use Rattle.hanoi.specs.Reader.{At, offers, isDead, aliveFor}
-use Rattle.hanoi.specs.Reading.{answerIn, answerAt}
+use Rattle.hanoi.specs.Reading.{answerAt}
 use Rattle.hanoi.proofs.Forth.{dead-stays}
-use Rattle.hanoi_tokens.specs.Moves.{Moves, Stops, Reads, Unfinished}
+use Rattle.hanoi_tokens.specs.Moves.{Moves, Stops, Reads}
 
 alive-on : (b : ℕ) (bs : List ℕ) (p : Spot At) → isDead (stepByte offers p b) ≡ false → aliveFor (b ∷ bs) p ≡ suc (aliveFor bs (stepByte offers p b))
 unfolding aliveFor
@@ -31,6 +30,11 @@ alive-end p = refl
 alive-same : (b : ℕ) (bs : List ℕ) (p q : Spot At) → stepByte offers p b ≡ stepByte offers q b → aliveFor (b ∷ bs) p ≡ aliveFor (b ∷ bs) q
 unfolding aliveFor
 alive-same b bs p q h = rw h refl
+
+-- nothing follows either way
+pub neither : (x : Bool) → cond {A = Spot At} x dead dead ≡ dead
+neither true = refl
+neither false = refl
 
 module _ (text : List ℕ) where
   pub stay : (m : ℕ) (p : Spot At) → m ≤ length text → Moves text m p m p

@@ -1,22 +1,20 @@
 -- Laws of reading a name up to its closing quote. Assumes nothing.
-use Prim.Native.Nat.{ℕ, zero, suc, _+_, _-_, _≤_, _<_}
+use Prim.Native.Nat.{ℕ, suc, _+_, _-_, _≤_, _<_}
 use native.Mathlib.Omega.{arith}
-use mathlib.Core.Path.{_≡_, refl, sym, ap, ap₂, _∙_, subst}
-use mathlib.Core.Bool.{Bool, true, false, not, _&&_, cond, false≢true}
+use mathlib.Core.Path.{_≡_, refl, sym, ap, _∙_, subst}
+use mathlib.Core.Bool.{Bool, true, false, false≢true}
 use mathlib.Core.List.{List, [], _∷_, _++_}
-use lib.Dec.{eqb, ltb}
+use lib.Dec.{eqb}
 use lib.ListN.{length, getD, take, drop, length-drop}
 use lib.Seq.{take-suc, getD-drop}
-use Rattle.lists.proofs.Bools.{≡eqb}
 use Rattle.hanoi.specs.Texts.{white, digit}
-use Rattle.hanoi.specs.Offers.{noNumber, newName, takes, takesName, isNew, named, Spot, between, inName, dead, beginWord, begin, byteAt, stepByte}
+use Rattle.hanoi.specs.Offers.{noNumber, newName, takes, takesName, between, inName, dead, beginWord, begin, byteAt, stepByte}
 use Rattle.hanoi.specs.Reader.{At, offers, offer}
 use Rattle.hanoi.proofs.Digits.{lt-yes}
 use Rattle.hanoi_tokens.specs.declared.Begun.{Begun}
-use Rattle.hanoi_tokens.specs.declared.Name.{Name}
-use Rattle.hanoi_tokens.specs.Moves.{Moves, Stops, Reads, Unfinished}
+use Rattle.hanoi_tokens.specs.Moves.{Moves, Unfinished}
 use Rattle.hanoi_tokens.specs.Tokens.{Begins, part, unnamedAt, ReadsName}
-use Rattle.hanoi_tokens.proofs.Moves.{moves-on, moves-stops, one, none, breaks-off, reads-yes, reads-no}
+use Rattle.hanoi_tokens.proofs.Moves.{neither, moves-on, moves-stops, one, none, breaks-off, reads-yes, reads-no}
 
 -- a byte more
 part-more : (text : List ℕ) (a e : ℕ) → a ≤ e → e < length text → part text a (e + 1) ≡ part text a e ++ (getD text e 0 ∷ [])
@@ -38,11 +36,7 @@ quote-opens s ns to e = rw e refl
 
 no-quote : (s : At) (ns : List (List ℕ)) (to : List ℕ → At) (b : ℕ) → Naming s ns to → white b ≡ false → eqb b 34 ≡ false → stepByte offers (between false s) b ≡ dead
 unfolding stepByte byteAt begin takes beginWord
-no-quote s ns to b e w q = rw (w, q, e) (none-of (digit b))
-  where
-    none-of : (x : Bool) → cond {A = Spot At} x dead dead ≡ dead
-    none-of true = refl
-    none-of false = refl
+no-quote s ns to b e w q = rw (w, q, e) (neither (digit b))
 
 step-back : (s : At) (q : List ℕ) (b : ℕ) → b < 256 → eqb b 10 ≡ false → stepByte offers (inName s q true) b ≡ inName s (q ++ (b ∷ [])) false
 unfolding stepByte

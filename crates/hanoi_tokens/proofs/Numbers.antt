@@ -1,27 +1,26 @@
 -- Laws of reading numbers: the digits that begin those of another number, and the loop over digits. Assumes nothing.
 use Prim.Native.Nat.{ℕ, zero, suc, _+_, _-_, _*_, _/_, _^_, _≤_, _<_}
 use native.Mathlib.Omega.{arith}
-use native.Mathlib.Numerals.{add-one}
-use mathlib.Core.Path.{_≡_, refl, sym, ap, ap₂, _∙_, subst}
+use mathlib.Core.Path.{_≡_, refl, sym, ap, _∙_, subst}
 use mathlib.Core.Logic.{_⊎_, inl, inr}
-use mathlib.Core.Bool.{Bool, true, false, not, _&&_, _||_, cond, false≢true, true≢false}
-use mathlib.Core.List.{List, [], _∷_, _++_}
-use lib.Dec.{eqb, ltb, leb}
-use lib.ListN.{length, getD, take, drop}
-use Rattle.lists.proofs.Bools.{test, and-l, and-r, both, ≡eqb, eqb≡, neqb, lt-true}
+use mathlib.Core.Bool.{Bool, true, false, _&&_, _||_, cond, false≢true}
+use mathlib.Core.List.{List, []}
+use lib.Dec.{eqb, ltb}
+use lib.ListN.{length, getD}
+use Rattle.lists.proofs.Bools.{test, and-l, and-r, eqb≡, lt-true}
 use Rattle.hanoi.specs.Texts.{white, digit, decimal}
 use Rattle.hanoi.specs.Prefixes.{cut, prefixOf}
-use Rattle.hanoi.specs.Offers.{Offer, Numbers, noNumber, below, exactly, noName, newName, startsWith, takes, ends, numbered, Spot, between, digits, inName, dead, begin, byteAt, beginWord, takesName, stepByte}
+use Rattle.hanoi.specs.Offers.{Offer, Numbers, noName, startsWith, takes, ends, numbered, between, digits, dead, begin, byteAt, beginWord, takesName, stepByte}
 use Rattle.hanoi.specs.Reader.{At, offers, offer}
-use Rattle.hanoi.proofs.Digits.{lt-yes, lt-no, digit-white, byte-digit}
+use Rattle.hanoi.proofs.Digits.{lt-yes, lt-no, digit-white}
 use Rattle.hanoi.proofs.Prefixes.{cut-on, cut-stop, prefix-is}
 use Rattle.hanoi_tokens.specs.declared.Wanted.{Wanted}
 use Rattle.hanoi_tokens.specs.declared.Wanted.the-variants.{Below, Positive, Exactly}
 use Rattle.hanoi_tokens.specs.declared.Begun.{Begun}
 use Rattle.hanoi_tokens.specs.declared.Number.{Number}
-use Rattle.hanoi_tokens.specs.Moves.{Moves, Stops, Reads, Unfinished}
+use Rattle.hanoi_tokens.specs.Moves.{Moves, Stops, Reads}
 use Rattle.hanoi_tokens.specs.Tokens.{Begins, takesBy, endsBy, numbersFor, Within, ReadsDigits, ReadsNumber}
-use Rattle.hanoi_tokens.proofs.Moves.{stay, moves-on, moves-stops, moves-reads, one, none, breaks-off, alike, reads-yes, reads-no}
+use Rattle.hanoi_tokens.proofs.Moves.{neither, moves-on, moves-stops, moves-reads, one, none, breaks-off, alike, reads-yes, reads-no}
 
 -- ---- prefixes
 pub prefix-zero : (k : ℕ) → eqb k 0 ≡ prefixOf 0 k
@@ -190,11 +189,7 @@ module _ (text : List ℕ) (m : ℕ) (w : Wanted) (h : Within w) where
 -- ---- where a number alone may come
 number-alone : (s : At) (ns : Numbers At) (b : ℕ) → offers s ≡ offer [] ns noName → white b ≡ false → digit b ≡ false → stepByte offers (between false s) b ≡ dead
 unfolding stepByte byteAt begin takesName beginWord
-number-alone s ns b e w d = rw (w, d, e) (none-of (eqb b 34))
-  where
-    none-of : (x : Bool) → cond {A = Spot At} x dead dead ≡ dead
-    none-of true = refl
-    none-of false = refl
+number-alone s ns b e w d = rw (w, d, e) (neither (eqb b 34))
 
 pub number-behind : (text : List ℕ) (m : ℕ) (w : Wanted) (b : Begun) (r : Number) → Begins text m false b → b .ok ≡ true → ReadsDigits text (b .at) w r → ReadsNumber text m w r
 number-behind text m w b r g ok k = record {

@@ -1,25 +1,25 @@
 -- Laws of reading white space, words, numbers and names, as the loops that read them need them. Assumes nothing.
-use Prim.Native.Nat.{ℕ, zero, suc, _+_, _-_, _*_, _≤_, _<_}
+use Prim.Native.Nat.{ℕ, _+_, _-_, _≤_, _<_}
 use native.Mathlib.Omega.{arith}
 use native.Mathlib.Numerals.{add-one}
-use mathlib.Core.Path.{_≡_, refl, sym, ap, ap₂, _∙_, subst}
+use mathlib.Core.Path.{_≡_, refl, sym, ap, _∙_, subst}
 use mathlib.Core.Logic.{_⊎_, inl, inr}
-use mathlib.Core.Bool.{Bool, true, false, not, _&&_, _||_, cond, false≢true, true≢false}
-use mathlib.Core.List.{List, [], _∷_, _++_}
-use lib.Dec.{eqb, ltb}
-use lib.ListN.{length, getD, take, drop, drop-of-length-le}
-use lib.Seq.{drop-cons, take-suc}
-use Rattle.lists.proofs.Bools.{test, and-l, and-r, both, and-absent, neqb, ≡eqb, eqb≡}
+use mathlib.Core.Bool.{Bool, true, false, _&&_, cond, false≢true}
+use mathlib.Core.List.{List, [], _∷_}
+use lib.Dec.{eqb}
+use lib.ListN.{length, getD, drop, drop-of-length-le}
+use lib.Seq.{drop-cons}
+use Rattle.lists.proofs.Bools.{test, and-absent, neqb, ≡eqb, eqb≡}
 use Rattle.hanoi.specs.declared.Answer.{Answer}
 use Rattle.lists.specs.Lists.{firstOr}
 use Rattle.hanoi.specs.Words.{Word}
 use Rattle.hanoi.specs.Texts.{white, digit, goesOn, spelling, openEnded}
-use Rattle.hanoi.specs.Offers.{Numbers, noNumber, below, exactly, newName, noName, takes, ends, numbered, takesName, Spot, between, inWord, digits, inName, dead, wordOn, tailOf, beginWord, begin, byteAt, stepByte, run}
-use Rattle.hanoi.specs.Reader.{At, offers, offer, only, isDead, aliveFor}
-use Rattle.hanoi.specs.Reading.{answerIn, answerAt}
+use Rattle.hanoi.specs.Offers.{takes, takesName, Spot, between, digits, inName, dead, wordOn, tailOf, beginWord, begin, byteAt, stepByte}
+use Rattle.hanoi.specs.Reader.{At, offers, only, isDead}
+use Rattle.hanoi.specs.Reading.{answerAt}
 use Rattle.hanoi.proofs.Digits.{word-first}
 use Rattle.hanoi.proofs.Forth.{at-white, at-other}
-use Rattle.hanoi_tokens.specs.Moves.{Moves, Stops, Reads, Unfinished}
+use Rattle.hanoi_tokens.specs.Moves.{Moves, Stops, Reads}
 use Rattle.hanoi_tokens.specs.Tokens.{Skips, Begins, Spells, ReadsWord}
 use Rattle.hanoi_tokens.specs.declared.Begun.{Begun}
 use Rattle.hanoi_tokens.specs.declared.Taken.{Taken}

@@ -1,13 +1,13 @@
 -- What reading a token promises, of whatever place the reader of documents is at.
-use Prim.Native.Nat.{ℕ, _+_, _-_, _≤_, _<_}
+use Prim.Native.Nat.{ℕ, _-_, _≤_, _<_}
 use mathlib.Core.Path.{_≡_}
-use mathlib.Core.Bool.{Bool, true, false, not, _&&_, _||_, cond}
+use mathlib.Core.Bool.{Bool, true, false, _&&_}
 use mathlib.Core.List.{List, []}
 use lib.Dec.{eqb, ltb}
 use lib.ListN.{length, getD, take, drop}
 use Rattle.hanoi.specs.Words.{Word}
 use Rattle.hanoi.specs.Texts.{white, digit, spelling, openEnded}
-use Rattle.hanoi.specs.Offers.{Numbers, noNumber, below, exactly, newName, Spot, between, inName, dead, wordOn, stepByte}
+use Rattle.hanoi.specs.Offers.{Numbers, noNumber, below, exactly, newName, between, inName, dead, wordOn, stepByte}
 use Rattle.hanoi.specs.Reader.{At, offer, only, offers}
 use Rattle.hanoi.specs.Prefixes.{prefixOf}
 use Rattle.hanoi_tokens.specs.declared.Taken.{Taken}

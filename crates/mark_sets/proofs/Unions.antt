@@ -50,7 +50,8 @@ union-past l (suc n) s =
     go true = or-zero-r u
     go false = refl
 
-filled-at : (l : List ℕ) (n c : ℕ) → getD (l ++ replicate n 0) c 0 ≡ getD l c 0
+-- 0 past the last place changes no place
+pub filled-at : (l : List ℕ) (n c : ℕ) → getD (l ++ replicate n 0) c 0 ≡ getD l c 0
 filled-at [] n c = replicate-at n c 0
 filled-at (x ∷ l) n zero = refl
 filled-at (x ∷ l) n (suc c) = filled-at l n c

@@ -1,11 +1,5 @@
-use Prim.Native.Nat.{_-_, _<_}
+use Prim.Native.Nat.{_-_}
 use native.Mathlib.Omega.{arith}
-use mathlib.Core.Path.{sym, _∙_, subst}
-use Prim.Native.Nat.{ℕ}
-use mathlib.Core.Path.{_≡_}
-use lib.Dec.{eqb}
-use borrow.Author.Needs.{needs}
-use Rattle.hanoi.specs.Prefixes.{prefixOf}
 use Rattle.hanoi_tokens.proofs.Numbers.{Cutting, prefix-zero, cutting-none, cutting-more, cutting-all}
 use Rattle.hanoi_tokens.proofs.is_prefix.Statement.{statement}
 use Rattle.hanoi_tokens.proofs.is_prefix.Tie as tie

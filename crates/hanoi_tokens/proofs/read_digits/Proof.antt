@@ -1,4 +1,4 @@
-use Prim.Native.Nat.{_-_, _<_}
+use Prim.Native.Nat.{_-_}
 use native.Mathlib.Omega.{arith}
 use mathlib.Core.Path.{sym, refl, _∙_}
 use lib.ListN.{length}
@@ -6,7 +6,6 @@ use borrow.Author.Needs.{needs}
 use Rattle.hanoi_tokens.proofs.read_digits.Statement.{statement}
 use Rattle.hanoi_tokens.proofs.read_digits.Tie as tie
 use Rattle.lists.proofs.Bools.{not-true, unnot}
-use Rattle.hanoi.proofs.Digits.{byte-digit}
 use Rattle.hanoi_tokens.proofs.Numbers.{Digits, digits-first, digits-none, digits-not-first, digits-on, digits-zero, digits-over, digits-short, digits-break, digits-all}
 use Rattle.hanoi_tokens.specs.Tokens.{Within}
 
