@@ -1,5 +1,7 @@
 // Reading what stands behind --BODY-- (document 02, S-4): for each state its number and an edge for each letter, a target and optionally marks in braces, and the end. What a function promises is
 // promised of whatever place the reader of documents is at.
+use hanoi_tokens::Taken;
+use hanoi_tokens::Wanted;
 ghost use mathlib.Core.Path.{_≡_};
 ghost use mathlib.Core.Bool.{true};
 ghost use Prim.Native.Nat.{_+_, _*_, _≤_, _<_};
@@ -7,8 +9,6 @@ ghost use lib.ListN.{length};
 ghost use Rattle.hanoi_body.specs.Edges.{stoppedAt, ReadsMarks, ReadsEdge};
 ghost use Rattle.hanoi_body.specs.Rows.{ReadsState, WithEdge, ReadsRow, ReadsEnd};
 ghost use Rattle.hanoi_body.specs.Body.{ReadsBody};
-use hanoi_tokens::Taken;
-use hanoi_tokens::Wanted;
 
 // The set of the marks in braces.
 struct Marks {
