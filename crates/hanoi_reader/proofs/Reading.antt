@@ -36,7 +36,7 @@ use Rattle.hanoi_header.specs.declared.Header.{Header}
 use Rattle.hanoi_header.specs.Header.{ReadsHeader}
 use Rattle.hanoi_body.specs.declared.Body.{Body}
 use Rattle.hanoi_body.specs.Body.{Counts, ReadsBody}
-use Rattle.hanoi_reader.specs.Family.{namedBelow, IsFamily}
+use Rattle.hanoi_family.specs.Family.{namedBelow, IsFamily}
 
 -- ---- the answer
 pub stopped : (text : List ℕ) (n : ℕ) → Stops text 0 first n → refused 18 n ≡ hanoiOf text
@@ -84,7 +84,7 @@ module _ (text : List ℕ) (r : Header) (k : ReadsHeader text r) where
     pub head-within : r .at ≤ length text
     head-within = read-head .within
 
-    module _ (v : Valued) (q : ReadsFormula text (r .at) (r .sets) 0 v) where
+    module _ (lanes : List ℕ) (v : Valued) (q : ReadsFormula text (r .at) (r .sets) 0 lanes v) where
       pub no-formula : v .ok ≡ false → refused 18 (v .at) ≡ hanoiOf text
       no-formula e = stopped text (v .at) (moves-stops text read-head (q .stops head head-sets e))
 
