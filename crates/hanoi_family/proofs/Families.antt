@@ -5,15 +5,15 @@ use native.Mathlib.Omega.{arith}
 use native.Mathlib.Decide.{ℕ-discrete}
 use mathlib.Core.Path.{_≡_, refl, sym, ap, _∙_, subst}
 use mathlib.Core.Logic.{_⊎_, inl, inr, _≢_}
-use mathlib.Core.Bool.{Bool, true, false, _&&_, cond}
-use mathlib.Core.List.{List, [], _∷_, map}
+use mathlib.Core.Bool.{Bool, true, false, _&&_}
+use mathlib.Core.List.{List, [], map}
 use lib.Dec.{ltb, lit<}
-use lib.ListN.{length, getD, drop, set, replicate, length-set}
+use lib.ListN.{getD, drop, set, replicate, length-set}
 use lib.Pow.{pow-pos, pow-mono}
 use lib.Seq.{getD-set-same, getD-set-other, ext-getD}
 use Rattle.lists.specs.Lists.{below}
 use Rattle.lists.proofs.Bools.{test, lt-true, lt-false}
-use Rattle.lists.proofs.Lists.{length-map-below, getD-map-below}
+use Rattle.lists.proofs.Lists.{getD-map-below}
 use Rattle.masks.specs.Masks.{has}
 use Rattle.masks.proofs.Bits.{has-full}
 use Rattle.mark_sets.specs.MarkSets.{unionAt}
@@ -22,7 +22,7 @@ use Rattle.hanoi.specs.Documents.{Formula, Document, formed}
 use Rattle.hanoi.specs.Meaning.{holds}
 use Rattle.hanoi.specs.Answers.{refused, sharedOf, answerOf}
 use Rattle.hanoi.specs.Offers.{Spot, between, run}
-use Rattle.hanoi.specs.Reader.{Head, fresh, At, operand, body, finished, offers}
+use Rattle.hanoi.specs.Reader.{Head, fresh, At, operand, finished, offers}
 use Rattle.hanoi.specs.Reading.{answerAt}
 use Rattle.hanoi.proofs.Digits.{lt-yes, lt-no}
 use Rattle.hanoi.proofs.Carrying.{formula-kept}

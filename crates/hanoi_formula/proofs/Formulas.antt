@@ -2,16 +2,13 @@
 use Prim.Native.Nat.{ℕ, zero, suc, _+_, _-_, _^_, _≤_, _<_}
 use native.Mathlib.Omega.{arith}
 use mathlib.Core.Path.{_≡_, refl, sym, ap, _∙_, subst}
-use mathlib.Core.Bool.{Bool, true, false, not, cond, false≢true, true≢false}
+use mathlib.Core.Bool.{Bool, true, false, false≢true, true≢false}
 use mathlib.Core.List.{List, [], _∷_}
 use lib.Dec.{ltb}
 use lib.ListN.{length, replicate}
-use Rattle.hanoi.specs.declared.Told.{Told}
-use Rattle.hanoi.specs.declared.Mode.{Mode}
-use Rattle.hanoi.specs.declared.Mode.the-variants.{Reading, PastAnd, PastOr}
 use Rattle.hanoi.specs.Documents.{Formula, truth, formed, group}
 use Rattle.hanoi.specs.Meaning.{holds}
-use Rattle.hanoi.specs.Formulas.{Event, opens, closes, and, or, eventsOf, told, tellIn, tell, tellAll}
+use Rattle.hanoi.specs.Formulas.{Event, opens, closes, and, or, eventsOf, Mode, Reading, PastAnd, PastOr, Told, tellIn, tell}
 use Rattle.hanoi.specs.Formulas as event
 use Rattle.hanoi.specs.Offers.{between}
 use Rattle.hanoi.specs.Reader.{Head, Hole, fresh, orElse, Level, alone, operand, after, body, plug, whole, andThen}
@@ -19,13 +16,11 @@ use Rattle.hanoi.proofs.Digits.{lt-yes}
 use Rattle.hanoi.proofs.Telling.{told-value}
 use Rattle.masks.specs.Masks.{has}
 use Rattle.hanoi_lanes.specs.declared.Lanes.{Lanes}
-use Rattle.hanoi_lanes.specs.Lanes.{depthOf, Shows, countAt, Starts, TellsOperand, TellsAnd, TellsOr, TellsOpens, TellsCloses}
+use Rattle.hanoi_lanes.specs.Lanes.{depthOf, Shows, Starts, TellsOperand, TellsAnd, TellsOr, TellsOpens, TellsCloses}
 use Rattle.hanoi_lanes.proofs.Counts.{count-none}
 use Rattle.hanoi_tokens.specs.Moves.{Moves, Stops}
 use Rattle.hanoi_tokens.proofs.Moves.{stay, moves-on, moves-stops}
-use Rattle.hanoi_formula.specs.declared.Operand.{Operand}
 use Rattle.hanoi_formula.specs.declared.Operand.the-variants as operands
-use Rattle.hanoi_formula.specs.declared.Sign.{Sign}
 use Rattle.hanoi_formula.specs.declared.Sign.the-variants as signs
 use Rattle.hanoi_formula.specs.Formula.{Deep, IsLane, ReadsOperand, ReadsSign, ReadsFormula}
 use Rattle.hanoi_formula.proofs.Events.{before, behind, before-none, before-opens, behind-operand, behind-closes, before-and, before-or, behind-whole}

@@ -1,30 +1,28 @@
 -- Laws of reading an operand and the sign behind it: what each byte leads to. Assumes nothing.
-use Prim.Native.Nat.{ℕ, suc, _+_, _≤_, _<_}
+use Prim.Native.Nat.{ℕ, _+_, _≤_, _<_}
 use native.Mathlib.Omega.{arith}
 use mathlib.Core.Path.{_≡_, refl, sym, ap, ap₂, _∙_, subst}
-use mathlib.Core.Bool.{Bool, true, false, not, _&&_, cond, false≢true, true≢false}
+use mathlib.Core.Bool.{Bool, true, false, not, _&&_, cond}
 use mathlib.Core.List.{List, [], _∷_}
-use lib.Dec.{eqb, ltb}
-use lib.ListN.{length, getD}
-use Rattle.masks.specs.Masks.{has, minus}
+use lib.Dec.{eqb}
+use lib.ListN.{getD}
+use Rattle.masks.specs.Masks.{has}
 use Rattle.masks.proofs.Bits.{has-minus, has-none}
 use Rattle.hanoi.specs.Words as w
 use Rattle.hanoi.specs.Texts.{white, goesOn, digit, openEnded}
-use Rattle.hanoi.specs.Documents.{Formula, truth, inf, fin, group}
+use Rattle.hanoi.specs.Documents.{truth, group}
 use Rattle.hanoi.specs.Formulas.{eventsOf}
 use Rattle.hanoi.specs.Formulas as event
-use Rattle.hanoi.specs.Offers.{takes, takesName, Spot, between, digits, inName, dead, wordOn, beginWord, begin, byteAt, stepByte}
+use Rattle.hanoi.specs.Offers.{takes, takesName, Spot, between, dead, wordOn, beginWord, begin, byteAt, stepByte}
 use Rattle.hanoi.specs.Reader.{Head, Hole, fresh, orElse, Level, alone, At, offers, isDead, operand, opening, after, body, plug, whole, andThen, marking, marksNext, close}
-use Rattle.hanoi.proofs.Digits.{lt-yes, lt-no}
+use Rattle.hanoi.proofs.Digits.{lt-yes}
 use Rattle.hanoi_tokens.specs.declared.Begun.{Begun}
 use Rattle.hanoi_tokens.specs.declared.Taken.{Taken}
 use Rattle.hanoi_tokens.specs.Moves.{Moves, Stops, Reads, Unfinished}
 use Rattle.hanoi_tokens.specs.Tokens.{Begins, Spells}
 use Rattle.hanoi_tokens.proofs.Moves.{moves-on, moves-stops, moves-reads, one, none}
 use Rattle.hanoi_formula.specs.declared.Mark.{Mark}
-use Rattle.hanoi_formula.specs.declared.Operand.{Operand}
 use Rattle.hanoi_formula.specs.declared.Operand.the-variants as operands
-use Rattle.hanoi_formula.specs.declared.Sign.{Sign}
 use Rattle.hanoi_formula.specs.declared.Sign.the-variants as signs
 use Rattle.hanoi_formula.specs.Formula.{Deep, markLanes, IsLane, ReadsMarked, ReadsOperand, ReadsSign}
 

@@ -7,7 +7,7 @@ use lib.ListN.{getD}
 use Rattle.masks.specs.Masks.{has, minus}
 use Rattle.hanoi.specs.Documents.{Formula, group, formed}
 use Rattle.hanoi.specs.Meaning.{holds}
-use Rattle.hanoi.specs.Formulas.{Event, eventsOf}
+use Rattle.hanoi.specs.Formulas.{eventsOf}
 use Rattle.hanoi.specs.Formulas as event
 use Rattle.hanoi.specs.Words.{Word}
 use Rattle.hanoi.specs.Texts.{openEnded}

@@ -1,7 +1,6 @@
 -- Laws of counts in planes: a plane stored, one more, one less, and which are not 0. Assumes nothing.
-use Prim.Native.Nat.{ℕ, zero, suc, _+_, _-_, _*_, _^_, _≤_, _<_}
+use Prim.Native.Nat.{ℕ, zero, suc, _+_, _*_, _^_, _≤_, _<_}
 use native.Mathlib.Omega.{arith}
-use native.Mathlib.Nat.{pow-suc}
 use native.Mathlib.Numerals.{add-one}
 use mathlib.Core.Path.{_≡_, refl, sym, ap, ap₂, _∙_, subst}
 use mathlib.Core.Bool.{Bool, true, false, not, _&&_, _||_}
@@ -11,7 +10,7 @@ use lib.Dec.{ltb}
 use lib.ListN.{length, getD, drop, set, replicate, length-set, drop-of-length-le}
 use lib.Pow.{pow-mono}
 use Rattle.lists.proofs.Lists.{drop-next}
-use Rattle.hanoi.proofs.Digits.{lt-yes, lt-no}
+use Rattle.hanoi.proofs.Digits.{lt-yes}
 use Rattle.masks.specs.Masks.{has, minus}
 use Rattle.masks.proofs.Bits.{has-and, has-or, has-minus, has-none}
 use Rattle.hanoi_lanes.specs.Lanes.{digit, countAt, CountsUp, CountsDown}

@@ -1,20 +1,16 @@
 -- What a lane shows after one event more. Assumes nothing.
-use Prim.Native.Nat.{ℕ, zero, suc, _+_, _^_, _<_}
+use Prim.Native.Nat.{ℕ, zero, suc, _+_}
 use native.Mathlib.Omega.{arith}
-use mathlib.Core.Path.{_≡_, refl, sym, ap, ap₂, _∙_, subst}
+use mathlib.Core.Path.{_≡_, refl, sym, ap, ap₂, _∙_}
 use mathlib.Core.Bool.{Bool, true, false, not, _&&_, _||_, cond}
 use mathlib.Core.List.{List}
 use lib.Bits.{bitAnd, bitOr}
 use lib.Dec.{ltb}
-use lib.ListN.{length}
 use Rattle.lists.proofs.Bools.{lt-true, and-r}
-use Rattle.hanoi.proofs.Digits.{lt-yes, lt-no}
+use Rattle.hanoi.proofs.Digits.{lt-yes}
 use Rattle.masks.specs.Masks.{has, minus}
 use Rattle.masks.proofs.Bits.{has-and, has-or, has-minus, has-none}
-use Rattle.hanoi.specs.declared.Told.{Told}
-use Rattle.hanoi.specs.declared.Mode.{Mode}
-use Rattle.hanoi.specs.declared.Mode.the-variants.{Reading, PastAnd, PastOr}
-use Rattle.hanoi.specs.Formulas.{told, tell, tellIn, operand, opens, closes, and, or}
+use Rattle.hanoi.specs.Formulas.{Mode, Reading, PastAnd, PastOr, tell, tellIn, operand, opens, closes, and, or}
 use Rattle.hanoi_lanes.specs.declared.Lanes.{Lanes}
 use Rattle.hanoi_lanes.specs.Lanes.{digit, countAt, CountsUp, CountsDown, depthOf, ModeIs, Shows, Starts, TellsOperand, TellsAnd, TellsOr, TellsOpens, TellsCloses}
 

@@ -1,14 +1,11 @@
 -- What 64 lanes show: in lane s what is told of a formula, and how telling one event more changes that.
-use Prim.Native.Nat.{ℕ, zero, suc, _+_, _*_, _^_, _<_}
+use Prim.Native.Nat.{ℕ, _+_, _*_, _^_, _<_}
 use mathlib.Core.Path.{_≡_}
 use mathlib.Core.Bool.{Bool, true, false}
 use mathlib.Core.List.{List, [], _∷_}
 use lib.ListN.{length}
 use Rattle.masks.specs.Masks.{has}
-use Rattle.hanoi.specs.declared.Told.{Told}
-use Rattle.hanoi.specs.declared.Mode.{Mode}
-use Rattle.hanoi.specs.declared.Mode.the-variants.{Reading, PastAnd, PastOr}
-use Rattle.hanoi.specs.Formulas.{told, tell, operand, opens, closes, and, or}
+use Rattle.hanoi.specs.Formulas.{Mode, Reading, PastAnd, PastOr, Told, told, tell, operand, opens, closes, and, or}
 use Rattle.hanoi_lanes.specs.declared.Lanes.{Lanes}
 
 -- ---- the counts

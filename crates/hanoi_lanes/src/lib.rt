@@ -1,10 +1,9 @@
 // The value of a formula in 64 lanes at once, told from left to right: bit s of each word is lane s. How many parentheses deeper a lane is than where its passing by began is counted in
 // binary over planes: bit s of plane k is binary digit k of lane s.
 ghost use mathlib.Core.Path.{_≡_};
-ghost use mathlib.Core.Bool.{true, _&&_};
-ghost use Prim.Native.Nat.{ℕ, _≤_, _<_};
+ghost use mathlib.Core.Bool.{_&&_};
+ghost use Prim.Native.Nat.{ℕ, _<_};
 ghost use lib.Dec.{ltb};
-ghost use lib.ListN.{length};
 ghost use Rattle.masks.specs.Masks.{has};
 ghost use Rattle.hanoi_lanes.specs.Lanes.{countAt, CountsUp, CountsDown, Starts, TellsOperand, TellsAnd, TellsOr, TellsOpens, TellsCloses};
 

@@ -3,7 +3,6 @@ use native.Mathlib.Omega.{arith}
 use native.Mathlib.Nat.{mod-lt}
 use mathlib.Core.Path.{_≡_, subst}
 use lib.Dec.{lit<}
-use borrow.Author.Needs.{needs}
 use Rattle.hanoi_family.proofs.family_of.Statement.{statement}
 use Rattle.hanoi_family.proofs.family_of.Tie as tie
 use Rattle.hanoi_family.specs.Family.{IsFamily, IsWord}

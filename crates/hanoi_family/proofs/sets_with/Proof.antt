@@ -2,8 +2,7 @@ use Prim.Native.Nat.{ℕ, _+_, _-_, _≤_}
 use native.Mathlib.Omega.{arith}
 use native.Mathlib.Nat.{le-antisymm}
 use mathlib.Core.Logic.{⊎-elim}
-use mathlib.Core.Path.{_≡_, sym, _∙_, subst}
-use borrow.Author.Needs.{needs}
+use mathlib.Core.Path.{sym, _∙_, subst}
 use Rattle.hanoi_family.proofs.sets_with.Statement.{statement}
 use Rattle.hanoi_family.proofs.sets_with.Tie as tie
 use Rattle.hanoi_family.proofs.Words.{Collected, collected-none, collected-with, collected-without, collected-all, word-has}

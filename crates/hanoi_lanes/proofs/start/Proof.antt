@@ -1,4 +1,3 @@
-use borrow.Author.Needs.{needs}
 use Rattle.hanoi_lanes.proofs.start.Statement.{statement}
 use Rattle.hanoi_lanes.proofs.start.Tie as tie
 use Rattle.hanoi_lanes.proofs.Tells.{starts}
