@@ -7,9 +7,7 @@ use mathlib.Core.List.{List, [], _∷_, _++_}
 use Rattle.lists.proofs.Bools.{and-l, and-r, not-true}
 use Rattle.hanoi.specs.Documents.{Formula, truth, inf, fin, group, both, either, isEither, isBoth, formed}
 use Rattle.hanoi.specs.Meaning.{holds}
-use Rattle.hanoi.specs.Formulas.{Event, closes, and, or, eventsOf, told, tellIn, tell, tellAll}
-use Rattle.hanoi.specs.declared.Told.{Told}
-use Rattle.hanoi.specs.declared.Mode.the-variants.{Reading, PastAnd, PastOr}
+use Rattle.hanoi.specs.Formulas.{Event, closes, and, or, eventsOf, Told, Reading, PastAnd, PastOr, told, tellIn, tell, tellAll}
 
 pub tell-append : (a b : List Event) (t : Told) → tellAll (a ++ b) t ≡ tellAll b (tellAll a t)
 unfolding tellAll

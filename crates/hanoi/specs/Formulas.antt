@@ -6,9 +6,6 @@ use Prim.Native.Nat.{ℕ, zero, suc}
 use mathlib.Core.Bool.{Bool, not, cond}
 use mathlib.Core.List.{List, [], _∷_, _++_}
 use Rattle.masks.specs.Masks.{has}
-use Rattle.hanoi.specs.declared.Told.{Told}
-use Rattle.hanoi.specs.declared.Mode.{Mode}
-use Rattle.hanoi.specs.declared.Mode.the-variants.{Reading, PastAnd, PastOr}
 use Rattle.hanoi.specs.Documents.{Formula, truth, inf, fin, group, both, either}
 
 pub data Event : Type 0 where
@@ -25,6 +22,17 @@ eventsOf u (fin m) = operand (not (has u m)) ∷ []
 eventsOf u (group f) = opens ∷ (eventsOf u f ++ (closes ∷ []))
 eventsOf u (both f g) = eventsOf u f ++ (and ∷ eventsOf u g)
 eventsOf u (either f g) = eventsOf u f ++ (or ∷ eventsOf u g)
+
+-- all that is read counts; or what follows is passed by, to the end of a conjunction or of a disjunction, so many parentheses deeper than where that began
+pub data Mode : Type 0 where
+  Reading : Mode
+  PastAnd : ℕ → Mode
+  PastOr : ℕ → Mode
+
+-- the value of a formula so far
+pub record Told : Type 0 where
+  pub value : Bool
+  pub mode : Mode
 
 abbrev pub told : Bool → Mode → Told
 told v m = record { value = v; mode = m }

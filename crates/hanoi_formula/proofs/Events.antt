@@ -3,10 +3,8 @@ use Prim.Native.Nat.{ℕ}
 use mathlib.Core.Path.{_≡_, refl, sym, ap, _∙_}
 use mathlib.Core.List.{List, [], _∷_, _++_, append-assoc, append-nil}
 use mathlib.Core.Bool.{true}
-use Rattle.hanoi.specs.declared.Told.{Told}
-use Rattle.hanoi.specs.declared.Mode.the-variants.{Reading}
 use Rattle.hanoi.specs.Documents.{Formula, group}
-use Rattle.hanoi.specs.Formulas.{Event, operand, opens, closes, and, or, eventsOf, told, tell, tellAll}
+use Rattle.hanoi.specs.Formulas.{Event, opens, closes, and, or, eventsOf, Reading, Told, told, tell, tellAll}
 use Rattle.hanoi.specs.Reader.{Hole, fresh, orElse, andAlso, orAnd, Level, alone, beside, plug, whole, andThen}
 use Rattle.hanoi.proofs.Telling.{tell-append}
 

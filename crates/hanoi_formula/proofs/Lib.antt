@@ -1,4 +1,3 @@
-pub mod Tells
 pub mod Marks
 pub mod Operands
 pub mod Events

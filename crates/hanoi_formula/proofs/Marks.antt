@@ -1,19 +1,19 @@
 -- Laws of reading a mark in its parentheses. Assumes nothing.
-use Prim.Native.Nat.{ℕ, _≤_, _<_}
-use mathlib.Core.Path.{_≡_, refl, sym, ap, _∙_, subst}
+use Prim.Native.Nat.{ℕ, _≤_}
+use mathlib.Core.Path.{_≡_, refl, ap, subst}
 use mathlib.Core.Bool.{Bool, true, false, false≢true}
 use mathlib.Core.List.{List, [], _∷_}
 use lib.ListN.{length}
 use Rattle.lists.proofs.Bools.{lt-true}
 use Rattle.hanoi.specs.Words as w
 use Rattle.hanoi.specs.Offers.{noName, below, between, wordOn}
-use Rattle.hanoi.specs.Reader.{Head, Hole, fresh, At, offers, offer, opening, mark, closing, after, plug, marking}
+use Rattle.hanoi.specs.Reader.{Head, Hole, fresh, offers, offer, opening, mark, closing, after, plug, marking}
 use Rattle.hanoi_tokens.specs.declared.Taken.{Taken}
 use Rattle.hanoi_tokens.specs.declared.Number.{Number}
 use Rattle.hanoi_tokens.specs.declared.Wanted.the-variants.{Below}
 use Rattle.hanoi_tokens.specs.Moves.{Moves, Reads}
 use Rattle.hanoi_tokens.specs.Tokens.{Spells, ReadsWord, ReadsNumber, numbersFor}
-use Rattle.hanoi_tokens.proofs.Moves.{moves-on, moves-stops, moves-reads, reads-no}
+use Rattle.hanoi_tokens.proofs.Moves.{moves-reads, reads-no}
 use Rattle.hanoi_formula.specs.declared.Mark.{Mark}
 use Rattle.hanoi_formula.specs.Formula.{unmarkedAt, ReadsMark, ReadsMarked}
 

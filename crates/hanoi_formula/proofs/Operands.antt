@@ -1,31 +1,30 @@
 -- Laws of reading an operand and the sign behind it: what each byte leads to. Assumes nothing.
-use Prim.Native.Nat.{ℕ, suc, _+_, _≤_, _<_}
+use Prim.Native.Nat.{ℕ, _+_, _≤_, _<_}
 use native.Mathlib.Omega.{arith}
-use mathlib.Core.Path.{_≡_, refl, sym, ap, _∙_, subst}
-use mathlib.Core.Bool.{Bool, true, false, not, cond, false≢true, true≢false}
+use mathlib.Core.Path.{_≡_, refl, sym, ap, ap₂, _∙_, subst}
+use mathlib.Core.Bool.{Bool, true, false, not, _&&_, cond}
 use mathlib.Core.List.{List, [], _∷_}
-use lib.Dec.{eqb, ltb}
-use lib.ListN.{length, getD}
+use lib.Dec.{eqb}
+use lib.ListN.{getD}
 use Rattle.masks.specs.Masks.{has}
+use Rattle.masks.proofs.Bits.{has-minus, has-none}
 use Rattle.hanoi.specs.Words as w
 use Rattle.hanoi.specs.Texts.{white, goesOn, digit, openEnded}
-use Rattle.hanoi.specs.Documents.{Formula, truth, inf, fin, group}
+use Rattle.hanoi.specs.Documents.{truth, group}
 use Rattle.hanoi.specs.Formulas.{eventsOf}
 use Rattle.hanoi.specs.Formulas as event
-use Rattle.hanoi.specs.Offers.{takes, takesName, Spot, between, digits, inName, dead, wordOn, beginWord, begin, byteAt, stepByte}
+use Rattle.hanoi.specs.Offers.{takes, takesName, Spot, between, dead, wordOn, beginWord, begin, byteAt, stepByte}
 use Rattle.hanoi.specs.Reader.{Head, Hole, fresh, orElse, Level, alone, At, offers, isDead, operand, opening, after, body, plug, whole, andThen, marking, marksNext, close}
-use Rattle.hanoi.proofs.Digits.{lt-yes, lt-no}
+use Rattle.hanoi.proofs.Digits.{lt-yes}
 use Rattle.hanoi_tokens.specs.declared.Begun.{Begun}
 use Rattle.hanoi_tokens.specs.declared.Taken.{Taken}
 use Rattle.hanoi_tokens.specs.Moves.{Moves, Stops, Reads, Unfinished}
 use Rattle.hanoi_tokens.specs.Tokens.{Begins, Spells}
 use Rattle.hanoi_tokens.proofs.Moves.{moves-on, moves-stops, moves-reads, one, none}
 use Rattle.hanoi_formula.specs.declared.Mark.{Mark}
-use Rattle.hanoi_formula.specs.declared.Operand.{Operand}
 use Rattle.hanoi_formula.specs.declared.Operand.the-variants as operands
-use Rattle.hanoi_formula.specs.declared.Sign.{Sign}
 use Rattle.hanoi_formula.specs.declared.Sign.the-variants as signs
-use Rattle.hanoi_formula.specs.Formula.{Deep, markHolds, ReadsMarked, ReadsOperand, ReadsSign}
+use Rattle.hanoi_formula.specs.Formula.{Deep, markLanes, IsLane, ReadsMarked, ReadsOperand, ReadsSign}
 
 -- a state that offers words alone
 dull : (x y : Bool) (p : Spot At) → p ≡ dead → cond x dead (cond y dead p) ≡ dead
@@ -70,13 +69,13 @@ word-alive : (x : w.Word) (c : ℕ) (r : List ℕ) (a : At) → isDead (wordOn x
 unfolding wordOn
 word-alive x c r a = refl
 
-mark-events : (u : ℕ) (i : Bool) (m : ℕ) → eventsOf u (marking i m) ≡ event.operand (markHolds u i m) ∷ []
+mark-events : (sets all : ℕ) (lanes : List ℕ) (s u : ℕ) (i : Bool) (m : ℕ) → m < sets → IsLane sets all lanes s u → eventsOf u (marking i m) ≡ event.operand (has (markLanes all lanes i m) s) ∷ []
 unfolding marking eventsOf
-mark-events u true m = refl
-mark-events u false m = refl
+mark-events sets all lanes s u true m h l = ap (λ (b : Bool). event.operand b ∷ []) (sym (l .marks-are m h))
+mark-events sets all lanes s u false m h l = ap (λ (b : Bool). event.operand b ∷ []) (sym (has-minus all (getD lanes m 0) s ∙ ap₂ (λ (x y : Bool). x && not y) (l .in-all) (l .marks-are m h)))
 
-module _ (text : List ℕ) (m sets u : ℕ) (b : Begun) (g : Begins text m false b) where
-  pub operand-stopped : b .ok ≡ false → ReadsOperand text m sets u (operands.Stops (b .at))
+module _ (text : List ℕ) (m sets all : ℕ) (lanes : List ℕ) (b : Begun) (g : Begins text m false b) where
+  pub operand-stopped : b .ok ≡ false → ReadsOperand text m sets all lanes (operands.Stops (b .at))
   operand-stopped ok h hs o e = g .reads (operand h hs o) (operand-open h hs o) .stops ok
 
   module _ (ok : b .ok ≡ true) where
@@ -94,21 +93,21 @@ module _ (text : List ℕ) (m sets u : ℕ) (b : Begun) (g : Begins text m false
     pub forward : m ≤ b .at
     forward = g .reads (operand any-head [] fresh) (operand-open any-head [] fresh) .moves ok .later
 
-    pub operand-opens : b .byte ≡ 40 → ReadsOperand text m sets u (operands.Opens (b .at + 1))
+    pub operand-opens : b .byte ≡ 40 → ReadsOperand text m sets all lanes (operands.Opens (b .at + 1))
     operand-opens e = (omega (arith, forward), λ h hs o s. on h hs o 40 (between false (operand h (o ∷ hs) fresh)) e (opens-step h hs o) refl)
 
-    pub operand-yes : b .byte ≡ 116 → ReadsOperand text m sets u (operands.Value (b .at + 1) true true)
+    pub operand-yes : b .byte ≡ 116 → ReadsOperand text m sets all lanes (operands.Value (b .at + 1) all true)
     unfolding eventsOf
-    operand-yes e = (omega (arith, forward), λ h hs o s. (truth true, refl, on h hs o 116 (between true (after h hs (plug o (truth true)))) e (yes-step h hs o) refl))
+    operand-yes e = (omega (arith, forward), λ h hs o s. (truth true, λ i u l. ap (λ (b : Bool). event.operand b ∷ []) (sym (l .in-all)), on h hs o 116 (between true (after h hs (plug o (truth true)))) e (yes-step h hs o) refl))
 
-    pub operand-no : b .byte ≡ 102 → ReadsOperand text m sets u (operands.Value (b .at + 1) false true)
+    pub operand-no : b .byte ≡ 102 → ReadsOperand text m sets all lanes (operands.Value (b .at + 1) 0 true)
     unfolding eventsOf
-    operand-no e = (omega (arith, forward), λ h hs o s. (truth false, refl, on h hs o 102 (between true (after h hs (plug o (truth false)))) e (no-step h hs o) refl))
+    operand-no e = (omega (arith, forward), λ h hs o s. (truth false, λ i u l. ap (λ (b : Bool). event.operand b ∷ []) (sym (has-none i)), on h hs o 102 (between true (after h hs (plug o (truth false)))) e (no-step h hs o) refl))
 
-    pub operand-no-mark : eqb (b .byte) 40 ≡ false → eqb (b .byte) 116 ≡ false → eqb (b .byte) 102 ≡ false → sets ≡ 0 → ReadsOperand text m sets u (operands.Stops (b .at))
+    pub operand-no-mark : eqb (b .byte) 40 ≡ false → eqb (b .byte) 116 ≡ false → eqb (b .byte) 102 ≡ false → sets ≡ 0 → ReadsOperand text m sets all lanes (operands.Stops (b .at))
     operand-no-mark e₁ e₂ e₃ z h hs o s = off h hs o (no-mark-step h hs o (b .byte) (g .other ok) e₁ e₂ e₃ (s ∙ z))
 
-    pub operand-other : eqb (b .byte) 40 ≡ false → eqb (b .byte) 116 ≡ false → eqb (b .byte) 102 ≡ false → eqb (b .byte) 73 ≡ false → eqb (b .byte) 70 ≡ false → 0 < sets → ReadsOperand text m sets u (operands.Stops (b .at))
+    pub operand-other : eqb (b .byte) 40 ≡ false → eqb (b .byte) 116 ≡ false → eqb (b .byte) 102 ≡ false → eqb (b .byte) 73 ≡ false → eqb (b .byte) 70 ≡ false → 0 < sets → ReadsOperand text m sets all lanes (operands.Stops (b .at))
     operand-other e₁ e₂ e₃ e₄ e₅ p h hs o s = off h hs o (other-step h hs o (b .byte) (g .other ok) e₁ e₂ e₃ e₄ e₅ (subst (λ (k : ℕ). 0 < k) (sym s) p))
 
     -- Inf or Fin
@@ -119,24 +118,24 @@ module _ (text : List ℕ) (m sets u : ℕ) (b : Begun) (g : Begins text m false
         mark-reads h hs o s =
             moves-reads text (on h hs o n (wordOn x (c ∷ rest) (opening h hs o i)) e (leads h hs o (subst (λ (j : ℕ). 0 < j) (sym s) p)) (word-alive x c rest (opening h hs o i))) (k .reads x bars h hs o i s)
 
-        mark-stops : r .ok ≡ false → ReadsOperand text m sets u (operands.Stops (r .at))
+        mark-stops : r .ok ≡ false → ReadsOperand text m sets all lanes (operands.Stops (r .at))
         mark-stops f h hs o s = mark-reads h hs o s .stops f
 
-        mark-value : r .ok ≡ true → ReadsOperand text m sets u (operands.Value (r .at) (markHolds u i (r .mark)) false)
+        mark-value : r .ok ≡ true → ReadsOperand text m sets all lanes (operands.Value (r .at) (markLanes all lanes i (r .mark)) false)
         mark-value t =
             let a : Head = record { states = 0; start = 0; names = []; sets = sets } in
-            (omega (arith, forward, k .reads x bars a [] fresh i refl .moves t .later), λ h hs o s. (marking i (r .mark), mark-events u i (r .mark), mark-reads h hs o s .moves t))
+            (omega (arith, forward, k .reads x bars a [] fresh i refl .moves t .later), λ h hs o s. (marking i (r .mark), λ j u l. mark-events sets all lanes j u i (r .mark) (k .below t) l, mark-reads h hs o s .moves t))
 
-      pub inf-stops : b .byte ≡ 73 → ReadsMarked text (b .at + 1) (110 ∷ 102 ∷ []) sets r → r .ok ≡ false → ReadsOperand text m sets u (operands.Stops (r .at))
+      pub inf-stops : b .byte ≡ 73 → ReadsMarked text (b .at + 1) (110 ∷ 102 ∷ []) sets r → r .ok ≡ false → ReadsOperand text m sets all lanes (operands.Stops (r .at))
       inf-stops = mark-stops true w.Inf refl 73 110 (102 ∷ []) inf-step
 
-      pub inf-value : b .byte ≡ 73 → ReadsMarked text (b .at + 1) (110 ∷ 102 ∷ []) sets r → r .ok ≡ true → ReadsOperand text m sets u (operands.Value (r .at) (markHolds u true (r .mark)) false)
+      pub inf-value : b .byte ≡ 73 → ReadsMarked text (b .at + 1) (110 ∷ 102 ∷ []) sets r → r .ok ≡ true → ReadsOperand text m sets all lanes (operands.Value (r .at) (markLanes all lanes true (r .mark)) false)
       inf-value = mark-value true w.Inf refl 73 110 (102 ∷ []) inf-step
 
-      pub fin-stops : b .byte ≡ 70 → ReadsMarked text (b .at + 1) (105 ∷ 110 ∷ []) sets r → r .ok ≡ false → ReadsOperand text m sets u (operands.Stops (r .at))
+      pub fin-stops : b .byte ≡ 70 → ReadsMarked text (b .at + 1) (105 ∷ 110 ∷ []) sets r → r .ok ≡ false → ReadsOperand text m sets all lanes (operands.Stops (r .at))
       fin-stops = mark-stops false w.Fin refl 70 105 (110 ∷ []) fin-step
 
-      pub fin-value : b .byte ≡ 70 → ReadsMarked text (b .at + 1) (105 ∷ 110 ∷ []) sets r → r .ok ≡ true → ReadsOperand text m sets u (operands.Value (r .at) (markHolds u false (r .mark)) false)
+      pub fin-value : b .byte ≡ 70 → ReadsMarked text (b .at + 1) (105 ∷ 110 ∷ []) sets r → r .ok ≡ true → ReadsOperand text m sets all lanes (operands.Value (r .at) (markLanes all lanes false (r .mark)) false)
       fin-value = mark-value false w.Fin refl 70 105 (110 ∷ []) fin-step
 
 -- ---- signs

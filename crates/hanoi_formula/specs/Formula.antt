@@ -1,15 +1,13 @@
--- What reading an acceptance formula promises: up to the words behind it, and its value where the marks of u recur and no others.
+-- What reading an acceptance formula promises: up to the words behind it, and its value in each lane, where the marks of the lane's set recur and no others.
 use Prim.Native.Nat.{ℕ, _<_}
 use mathlib.Core.Path.{_≡_}
-use mathlib.Core.Bool.{Bool, true, false, not}
+use mathlib.Core.Bool.{Bool, true, false}
 use mathlib.Core.List.{List, [], _∷_}
-use Rattle.masks.specs.Masks.{has}
-use Rattle.hanoi.specs.declared.Told.{Told}
-use Rattle.hanoi.specs.declared.Mode.{Mode}
-use Rattle.hanoi.specs.declared.Mode.the-variants.{Reading, PastAnd, PastOr}
+use lib.ListN.{getD}
+use Rattle.masks.specs.Masks.{has, minus}
 use Rattle.hanoi.specs.Documents.{Formula, group, formed}
 use Rattle.hanoi.specs.Meaning.{holds}
-use Rattle.hanoi.specs.Formulas.{Event, eventsOf}
+use Rattle.hanoi.specs.Formulas.{eventsOf}
 use Rattle.hanoi.specs.Formulas as event
 use Rattle.hanoi.specs.Words.{Word}
 use Rattle.hanoi.specs.Texts.{openEnded}
@@ -23,12 +21,6 @@ use Rattle.hanoi_formula.specs.declared.Sign.{Sign}
 use Rattle.hanoi_formula.specs.declared.Sign.the-variants as signs
 use Rattle.hanoi_formula.specs.declared.Valued.{Valued}
 
--- how many parentheses deeper than where passing by began
-abbrev pub depthOf : Mode → ℕ
-depthOf Reading = 0
-depthOf (PastAnd d) = d
-depthOf (PastOr d) = d
-
 abbrev pub unmarkedAt : ℕ → Mark
 unmarkedAt n = record { at = n; mark = 0; ok = false }
 
@@ -37,10 +29,15 @@ abbrev pub Deep : Bool → List Hole → Type 0
 Deep true hs = (o : Hole) × (os : List Hole) × (hs ≡ o ∷ os)
 Deep false hs = hs ≡ []
 
--- the value of Inf or Fin with a mark, where the marks of u recur and no others
-abbrev pub markHolds : ℕ → Bool → ℕ → Bool
-markHolds u true m = has u m
-markHolds u false m = not (has u m)
+-- the lanes in which Inf or Fin with a mark holds
+abbrev pub markLanes : ℕ → List ℕ → Bool → ℕ → ℕ
+markLanes all lanes true m = getD lanes m 0
+markLanes all lanes false m = minus all (getD lanes m 0)
+
+-- lane s is one of `all`, and its set is u: the lanes of each mark say so
+pub record IsLane (sets all : ℕ) (lanes : List ℕ) (s u : ℕ) : Type 0 where
+  pub in-all : has all s ≡ true
+  pub marks-are : (m : ℕ) → m < sets → has (getD lanes m 0) s ≡ has u m
 
 module _ (text : List ℕ) (m : ℕ) where
   -- a mark in its parentheses, behind Inf or Fin
@@ -54,11 +51,11 @@ module _ (text : List ℕ) (m : ℕ) where
     pub below : r .ok ≡ true → r .mark < sets
 
   -- an operand, or a parenthesis that opens
-  abbrev pub ReadsOperand : ℕ → ℕ → Operand → Type 0
-  ReadsOperand sets u (operands.Opens n) = (m < n) × ((h : Head) (hs : List Hole) (o : Hole) → h .sets ≡ sets → Moves text m (between false (operand h hs o)) n (between false (operand h (o ∷ hs) fresh)))
-  ReadsOperand sets u (operands.Value n v bar) =
-      (m < n) × ((h : Head) (hs : List Hole) (o : Hole) → h .sets ≡ sets → (f : Formula) × (eventsOf u f ≡ event.operand v ∷ []) × Moves text m (between false (operand h hs o)) n (between bar (after h hs (plug o f))))
-  ReadsOperand sets u (operands.Stops n) = (h : Head) (hs : List Hole) (o : Hole) → h .sets ≡ sets → Stops text m (between false (operand h hs o)) n
+  abbrev pub ReadsOperand : ℕ → ℕ → List ℕ → Operand → Type 0
+  ReadsOperand sets all lanes (operands.Opens n) = (m < n) × ((h : Head) (hs : List Hole) (o : Hole) → h .sets ≡ sets → Moves text m (between false (operand h hs o)) n (between false (operand h (o ∷ hs) fresh)))
+  ReadsOperand sets all lanes (operands.Value n v bar) =
+      (m < n) × ((h : Head) (hs : List Hole) (o : Hole) → h .sets ≡ sets → (f : Formula) × ((s u : ℕ) → IsLane sets all lanes s u → eventsOf u f ≡ event.operand (has v s) ∷ []) × Moves text m (between false (operand h hs o)) n (between bar (after h hs (plug o f))))
+  ReadsOperand sets all lanes (operands.Stops n) = (h : Head) (hs : List Hole) (o : Hole) → h .sets ≡ sets → Stops text m (between false (operand h hs o)) n
 
   -- what follows an operand; `deep` says that a parenthesis is open
   abbrev pub ReadsSign : Bool → Bool → Sign → Type 0
@@ -70,6 +67,7 @@ module _ (text : List ℕ) (m : ℕ) where
   ReadsSign bar deep (signs.Stops n) = (h : Head) (hs : List Hole) (l : Level) → Deep deep hs → Stops text m (between bar (after h hs l)) n
 
   -- the whole formula
-  pub record ReadsFormula (sets u : ℕ) (r : Valued) : Type 0 where
-    pub moves : (h : Head) → h .sets ≡ sets → r .ok ≡ true → (f : Formula) × Moves text m (between false (operand h [] fresh)) (r .at) (between false (body h f)) × (formed sets f ≡ true → r .value ≡ holds u f)
+  pub record ReadsFormula (sets all : ℕ) (lanes : List ℕ) (r : Valued) : Type 0 where
+    pub moves : (h : Head) → h .sets ≡ sets → r .ok ≡ true
+        → (f : Formula) × Moves text m (between false (operand h [] fresh)) (r .at) (between false (body h f)) × (formed sets f ≡ true → (s u : ℕ) → IsLane sets all lanes s u → has (r .value) s ≡ holds u f)
     pub stops : (h : Head) → h .sets ≡ sets → r .ok ≡ false → Stops text m (between false (operand h [] fresh)) (r .at)

@@ -1,14 +1,10 @@
-// Reading the acceptance formula of a text, and its value where the marks of a set recur and no others: one pass from left to right, with no stack.
-use hanoi::Mode;
-use hanoi::Told;
+// Reading the acceptance formula of a text, and its value for 64 sets of marks at once, a lane for each, where the marks of the set recur and no others: one pass from left to right, with
+// no stack.
 use hanoi_tokens::Wanted;
 ghost use mathlib.Core.Path.{_≡_};
-ghost use mathlib.Core.Bool.{true, false};
-ghost use Prim.Native.Nat.{_+_, _≤_, _<_};
+ghost use Prim.Native.Nat.{_≤_, _<_};
 ghost use lib.ListN.{length};
-ghost use Rattle.hanoi.specs.Formulas.{told, tell, operand, opens, closes, and, or};
-ghost use Rattle.hanoi.specs.declared.Mode.the-variants.{Reading};
-ghost use Rattle.hanoi_formula.specs.Formula.{depthOf, unmarkedAt, markHolds, ReadsMark, ReadsMarked, ReadsOperand, ReadsSign, ReadsFormula};
+ghost use Rattle.hanoi_formula.specs.Formula.{unmarkedAt, markLanes, ReadsMark, ReadsMarked, ReadsOperand, ReadsSign, ReadsFormula};
 
 pub struct Mark {
     pub at: usize,
@@ -16,10 +12,10 @@ pub struct Mark {
     pub ok: bool,
 }
 
-// Where an operand ends, with its value and whether it bars bytes of names; or a parenthesis that opens.
+// Where an operand ends, with the lanes in which it holds and whether it bars bytes of names; or a parenthesis that opens.
 pub enum Operand {
     Opens(usize),
-    Value(usize, bool, bool),
+    Value(usize, u64, bool),
     Stops(usize),
 }
 
@@ -32,122 +28,11 @@ pub enum Sign {
     Stops(usize),
 }
 
+// The lanes in which the formula holds.
 pub struct Valued {
     pub at: usize,
-    pub value: bool,
+    pub value: u64,
     pub ok: bool,
-}
-
-// ---- the value so far
-fn tell_operand(t: Told, b: bool) -> Told
-    ensures { λ r. ⌜ r ≡ tell t (operand b) ⌝ }
-{
-    let mode = t.mode;
-    match mode {
-        Mode::Reading => Told {
-            value: b,
-            mode: Mode::Reading,
-        },
-        Mode::PastAnd(_) => t,
-        Mode::PastOr(_) => t,
-    }
-}
-
-fn tell_opens(t: Told) -> Told
-    requires { ⌜ depthOf (t .mode) < 18446744073709551615 ⌝ }
-    ensures { λ r. ⌜ r ≡ tell t opens ⌝ }
-{
-    let mode = t.mode;
-    match mode {
-        Mode::Reading => t,
-        Mode::PastAnd(d) => Told {
-            value: t.value,
-            mode: Mode::PastAnd(d + 1),
-        },
-        Mode::PastOr(d) => Told {
-            value: t.value,
-            mode: Mode::PastOr(d + 1),
-        },
-    }
-}
-
-fn tell_closes(t: Told) -> Told
-    ensures { λ r. ⌜ r ≡ tell t closes ⌝ }
-{
-    let mode = t.mode;
-    match mode {
-        Mode::Reading => t,
-        Mode::PastAnd(d) => {
-            if d == 0 {
-                return reading_on(t.value);
-            }
-            Told {
-                value: t.value,
-                mode: Mode::PastAnd(d - 1),
-            }
-        }
-        Mode::PastOr(d) => {
-            if d == 0 {
-                return reading_on(t.value);
-            }
-            Told {
-                value: t.value,
-                mode: Mode::PastOr(d - 1),
-            }
-        }
-    }
-}
-
-fn reading_on(value: bool) -> Told
-    ensures { λ r. ⌜ r ≡ told value Reading ⌝ }
-{
-    Told {
-        value,
-        mode: Mode::Reading,
-    }
-}
-
-fn tell_and(t: Told) -> Told
-    ensures { λ r. ⌜ r ≡ tell t and ⌝ }
-{
-    let mode = t.mode;
-    match mode {
-        Mode::Reading => {
-            if t.value {
-                return t;
-            }
-            Told {
-                value: false,
-                mode: Mode::PastAnd(0),
-            }
-        }
-        Mode::PastAnd(_) => t,
-        Mode::PastOr(_) => t,
-    }
-}
-
-fn tell_or(t: Told) -> Told
-    ensures { λ r. ⌜ r ≡ tell t or ⌝ }
-{
-    let mode = t.mode;
-    match mode {
-        Mode::Reading => {
-            if t.value {
-                return Told {
-                    value: true,
-                    mode: Mode::PastOr(0),
-                };
-            }
-            t
-        }
-        Mode::PastAnd(d) => {
-            if d == 0 {
-                return reading_on(t.value);
-            }
-            t
-        }
-        Mode::PastOr(_) => t,
-    }
 }
 
 // ---- the text
@@ -197,22 +82,22 @@ fn read_marked(text: &[u8], at: usize, rest: &[u8], sets: u32) -> Mark
     read_mark(text, behind, sets)
 }
 
-// The value of Inf or Fin with a mark.
-fn mark_holds(u: u32, inf: bool, mark: u32) -> bool
+// The lanes in which Inf or Fin with a mark holds.
+fn mark_lanes(all: u64, lanes: &[u64; 32], inf: bool, mark: u32) -> u64
     requires { ⌜ mark < 32 ⌝ }
-    ensures { λ r. ⌜ r ≡ markHolds u inf mark ⌝ }
+    ensures { λ r. ⌜ r ≡ markLanes all (now (lanes .entry)) inf mark ⌝ }
 {
-    let is = masks::has(u as u64, mark as usize);
+    let recurs = lanes[mark as usize];
     if inf {
-        return is;
+        return recurs;
     }
-    !is
+    masks::without(all, recurs)
 }
 
 // An operand, or a parenthesis that opens.
-fn read_operand(text: &[u8], at: usize, sets: u32, u: u32) -> Operand
+fn read_operand(text: &[u8], at: usize, sets: u32, all: u64, lanes: &[u64; 32]) -> Operand
     requires { ⌜ (at ≤ length (now text)) × (sets ≤ 32) ⌝ }
-    ensures { λ r. ⌜ ReadsOperand (now (text .entry)) at sets u r ⌝ }
+    ensures { λ r. ⌜ ReadsOperand (now (text .entry)) at sets all (now (lanes .entry)) r ⌝ }
 {
     let n = hanoi_tokens::next(text, at, false);
     let i = n.at;
@@ -224,10 +109,10 @@ fn read_operand(text: &[u8], at: usize, sets: u32, u: u32) -> Operand
         return Operand::Opens(i + 1);
     }
     if b == 116 {
-        return Operand::Value(i + 1, true, true);
+        return Operand::Value(i + 1, all, true);
     }
     if b == 102 {
-        return Operand::Value(i + 1, false, true);
+        return Operand::Value(i + 1, 0, true);
     }
     if sets == 0 {
         return Operand::Stops(i);
@@ -238,7 +123,7 @@ fn read_operand(text: &[u8], at: usize, sets: u32, u: u32) -> Operand
         if !m.ok {
             return Operand::Stops(end);
         }
-        let value = mark_holds(u, true, m.mark);
+        let value = mark_lanes(all, lanes, true, m.mark);
         return Operand::Value(end, value, false);
     }
     if b == 70 {
@@ -247,7 +132,7 @@ fn read_operand(text: &[u8], at: usize, sets: u32, u: u32) -> Operand
         if !m.ok {
             return Operand::Stops(end);
         }
-        let value = mark_holds(u, false, m.mark);
+        let value = mark_lanes(all, lanes, false, m.mark);
         return Operand::Value(end, value, false);
     }
     Operand::Stops(i)
@@ -287,27 +172,28 @@ fn read_sign(text: &[u8], at: usize, bar: bool, deep: bool) -> Sign
     Sign::Body(end)
 }
 
-// The formula up to the words behind it, and its value where the marks of u recur and no others.
-pub fn read_formula(text: &[u8], at: usize, sets: u32, u: u32) -> Valued
+// The formula up to the words behind it, and the lanes of `all` in which it holds: `lanes` has for each mark the lanes in which it recurs.
+pub fn read_formula(text: &[u8], at: usize, sets: u32, all: u64, lanes: &[u64; 32]) -> Valued
     requires { ⌜ (at ≤ length (now text)) × (sets ≤ 32) ⌝ }
-    ensures { λ r. ⌜ ReadsFormula (now (text .entry)) at sets u r ⌝ }
+    ensures { λ r. ⌜ ReadsFormula (now (text .entry)) at sets all (now (lanes .entry)) r ⌝ }
 {
-    let mut t = reading_on(true);
+    let mut t = hanoi_lanes::start(all);
+    let mut planes = [0u64; 64];
     let mut depth: usize = 0;
     let mut operand_next = true;
     let mut bar = false;
     let mut i = at;
     loop {
         if operand_next {
-            match read_operand(text, i, sets, u) {
+            match read_operand(text, i, sets, all, lanes) {
                 Operand::Opens(n) => {
-                    t = tell_opens(t);
+                    hanoi_lanes::tell_opens(t, all, &mut planes);
                     depth = depth + 1;
                     i = n;
                     continue;
                 }
                 Operand::Value(n, value, bars) => {
-                    t = tell_operand(t, value);
+                    t = hanoi_lanes::tell_operand(t, value);
                     operand_next = false;
                     bar = bars;
                     i = n;
@@ -316,7 +202,7 @@ pub fn read_formula(text: &[u8], at: usize, sets: u32, u: u32) -> Valued
                 Operand::Stops(n) => {
                     return Valued {
                         at: n,
-                        value: false,
+                        value: 0,
                         ok: false,
                     };
                 }
@@ -324,17 +210,17 @@ pub fn read_formula(text: &[u8], at: usize, sets: u32, u: u32) -> Valued
         }
         match read_sign(text, i, bar, 0 < depth) {
             Sign::And(n) => {
-                t = tell_and(t);
+                t = hanoi_lanes::tell_and(t);
                 operand_next = true;
                 i = n;
             }
             Sign::Or(n) => {
-                t = tell_or(t);
+                t = hanoi_lanes::tell_or(t, &planes);
                 operand_next = true;
                 i = n;
             }
             Sign::Closes(n) => {
-                t = tell_closes(t);
+                t = hanoi_lanes::tell_closes(t, all, &mut planes);
                 depth = depth - 1;
                 bar = false;
                 i = n;
@@ -349,7 +235,7 @@ pub fn read_formula(text: &[u8], at: usize, sets: u32, u: u32) -> Valued
             Sign::Stops(n) => {
                 return Valued {
                     at: n,
-                    value: false,
+                    value: 0,
                     ok: false,
                 };
             }

@@ -1,17 +1,16 @@
 -- From the parts of a text to the answer: what stops it is 18 with its length; a text read to its end gives its document's answer. Assumes nothing.
-use Prim.Native.Nat.{ℕ, zero, suc, _+_, _-_, _*_, _≤_, _<_, _^_, min}
+use Prim.Native.Nat.{ℕ, _+_, _-_, _*_, _≤_, _<_, _^_}
 use native.Mathlib.Omega.{arith}
 use native.Mathlib.Nat.{mul-le-mul}
 use mathlib.Core.Path.{_≡_, refl, sym, ap, ap₂, _∙_, subst}
-use mathlib.Core.Bool.{Bool, true, false, _&&_, cond, true≢false}
+use mathlib.Core.Bool.{Bool, true, false, _&&_}
 use mathlib.Core.List.{List, [], _∷_, _++_, map}
-use lib.Dec.{eqb, ltb, leb}
-use lib.ListN.{length, getD, take, drop, replicate, length-map, length-append}
+use lib.Dec.{ltb, leb}
+use lib.ListN.{length, take, replicate, length-map}
 use lib.Pow.{pow-mono}
 use Rattle.lists.specs.Lists.{below, flat}
 use Rattle.lists.proofs.Bools.{and-l, and-r, le-true}
 use Rattle.policy.specs.declared.Policy.{Policy}
-use Rattle.policy.specs.declared.Shape.{Shape}
 use Rattle.policy.specs.Making.{fromParts}
 use Rattle.mark_sets.specs.declared.Colouring.{Colouring}
 use Rattle.mark_sets.specs.MarkSets.{firsts, colourIn, unionAt, Coloured}
@@ -21,8 +20,8 @@ use Rattle.hanoi.specs.declared.Outcome.the-variants.{Read}
 use Rattle.hanoi.specs.Documents.{Formula, Edge, Document, targetOf, letters, lawful, formed}
 use Rattle.hanoi.specs.Meaning.{holds, filled, markSet, edgesOf, markSets, colourOf, named, policyOf}
 use Rattle.hanoi.specs.Answers.{refused, answerOf, Answers}
-use Rattle.hanoi.specs.Offers.{Spot, between, run}
-use Rattle.hanoi.specs.Reader.{Head, fresh, At, operand, body, finished, documentOf, offers, first, aliveFor}
+use Rattle.hanoi.specs.Offers.{between, run}
+use Rattle.hanoi.specs.Reader.{Head, fresh, operand, body, finished, documentOf, offers, first, aliveFor}
 use Rattle.hanoi.specs.Reading.{answerAt, hanoiOf}
 use Rattle.hanoi.proofs.Digits.{le-yes, le-no}
 use Rattle.hanoi.proofs.Taking.{lawful-parts}
@@ -36,7 +35,7 @@ use Rattle.hanoi_header.specs.declared.Header.{Header}
 use Rattle.hanoi_header.specs.Header.{ReadsHeader}
 use Rattle.hanoi_body.specs.declared.Body.{Body}
 use Rattle.hanoi_body.specs.Body.{Counts, ReadsBody}
-use Rattle.hanoi_reader.specs.Family.{namedBelow, IsFamily}
+use Rattle.hanoi_family.specs.Family.{namedBelow, IsFamily}
 
 -- ---- the answer
 pub stopped : (text : List ℕ) (n : ℕ) → Stops text 0 first n → refused 18 n ≡ hanoiOf text
@@ -84,7 +83,7 @@ module _ (text : List ℕ) (r : Header) (k : ReadsHeader text r) where
     pub head-within : r .at ≤ length text
     head-within = read-head .within
 
-    module _ (v : Valued) (q : ReadsFormula text (r .at) (r .sets) 0 v) where
+    module _ (lanes : List ℕ) (v : Valued) (q : ReadsFormula text (r .at) (r .sets) 0 lanes v) where
       pub no-formula : v .ok ≡ false → refused 18 (v .at) ≡ hanoiOf text
       no-formula e = stopped text (v .at) (moves-stops text read-head (q .stops head head-sets e))
 

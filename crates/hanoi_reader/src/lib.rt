@@ -1,4 +1,4 @@
-// Reading a policy from a text of the Hanoi Omega-Automata format, version 1 (document 02, S-4): one pass over the text, and one over its formula for each non-empty set of the colours.
+// Reading a policy from a text of the Hanoi Omega-Automata format, version 1 (document 02, S-4): one pass over the text, and one over its formula for each 64 sets of the colours.
 use hanoi::Answer;
 use hanoi::Outcome;
 use policy::Policy;
@@ -6,35 +6,8 @@ ghost use mathlib.Core.Path.{_≡_};
 ghost use mathlib.Core.Bool.{_&&_};
 ghost use Prim.Native.Nat.{_*_, _≤_, _^_};
 ghost use lib.Dec.{leb};
-ghost use lib.ListN.{length};
 ghost use Rattle.hanoi.specs.Answers.{refused, Answers};
 ghost use Rattle.hanoi.specs.Reading.{hanoiOf};
-ghost use Rattle.hanoi_reader.specs.Family.{IsFamily};
-
-// How many colour sets there are.
-fn sets_of(colours: u8) -> usize
-    requires { ⌜ colours ≤ 8 ⌝ }
-    ensures { λ r. ⌜ r ≡ 2 ^ colours ⌝ }
-{
-    1 << colours
-}
-
-// For each colour set whether it is in the family. `marks` is how many marks there are, and colour c has the mark set at place c of `sets`.
-fn family_of(text: &[u8], at: usize, marks: u32, sets: [u32; 8], colours: u8) -> [bool; 256]
-    requires { ⌜ (at ≤ length (now text)) × (marks ≤ 32) × (colours ≤ 8) ⌝ }
-    ensures { λ r. ⌜ IsFamily (now (text .entry)) at marks sets (2 ^ colours) r ⌝ }
-{
-    let end = sets_of(colours);
-    let mut family = [false; 256];
-    let mut s = 1;
-    while s < end {
-        let u = mark_sets::union(&sets, s);
-        let f = hanoi_formula::read_formula(text, at, marks, u);
-        family[s] = f.value;
-        s = s + 1;
-    }
-    family
-}
 
 // How many letters there are: one for each valuation of the names.
 fn letters_of(names: u32) -> usize
@@ -74,7 +47,9 @@ pub fn read(text: &[u8]) -> Answer
     if !h.ok {
         return refused(18, from);
     }
-    let f = hanoi_formula::read_formula(text, from, h.sets, 0);
+    // Its values are asked for when the colours are known.
+    let no_lanes = [0u64; 32];
+    let f = hanoi_formula::read_formula(text, from, h.sets, 0, &no_lanes);
     let behind = f.at;
     if !f.ok {
         return refused(18, behind);
@@ -97,7 +72,7 @@ pub fn read(text: &[u8]) -> Answer
     }
     let sets = c.sets;
     let colour = c.colour;
-    let family = family_of(text, from, h.sets, sets, c.count);
+    let family = hanoi_family::family_of(text, from, h.sets, sets, c.count);
     Answer {
         outcome: Outcome::Read,
         policy: Policy {

@@ -1,11 +1,11 @@
-// Colours for mark sets (document 02, S-4): each different mark set of the edges is a colour, numbered by first appearance; and the union of the mark sets of a colour set.
+// Colours for mark sets (document 02, S-4): each different mark set of the edges is a colour, numbered by first appearance.
 ghost use Prim.Native.Nat.{ℕ, _≤_, _<_};
 ghost use mathlib.Core.Path.{_≡_};
 ghost use mathlib.Core.List.{List, [], _∷_, _++_};
 ghost use lib.Dec.{eqb};
 ghost use lib.ListN.{length, take};
 ghost use Rattle.lists.specs.Lists.{position};
-ghost use Rattle.mark_sets.specs.MarkSets.{Coloured, unionAt};
+ghost use Rattle.mark_sets.specs.MarkSets.{Coloured};
 
 // The colour of each edge, and the mark set of each colour. A count of 9 says that there are more than 8 different mark sets, and then the rest says nothing.
 pub struct Colouring {
@@ -66,17 +66,4 @@ pub fn colours_of(marks: [u32; 64], edges: usize) -> Colouring
         }
     }
     seen
-}
-
-// The union of the mark sets of the colours of s.
-pub fn union(sets: &[u32; 8], s: usize) -> u32
-    ensures { λ r. ⌜ r ≡ unionAt (now (sets .entry)) s 8 ⌝ }
-{
-    let mut marks: u32 = 0;
-    for c in 0..8 {
-        if masks::has(s as u64, c) {
-            marks = marks | sets[c];
-        }
-    }
-    marks
 }

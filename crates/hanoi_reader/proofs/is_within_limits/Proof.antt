@@ -1,5 +1,4 @@
 use native.Mathlib.Omega.{arith}
-use borrow.Author.Needs.{needs}
 use Rattle.hanoi_reader.proofs.is_within_limits.Statement.{statement}
 use Rattle.hanoi_reader.proofs.is_within_limits.Tie as tie
 use Rattle.hanoi_reader.proofs.Reading.{limits-over, limits-within, limits-product}

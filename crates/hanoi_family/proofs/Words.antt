@@ -1,0 +1,112 @@
+-- Which of 64 colour sets have a colour, and which a mark in their union, colour by colour and mark by mark. Assumes nothing.
+use Prim.Native.Nat.{ℕ, _+_, _*_, _/_, _%_, _≤_, _<_}
+use native.Mathlib.Omega.{arith}
+use native.Mathlib.Decide.{ℕ-discrete}
+use mathlib.Core.Path.{_≡_, refl, sym, ap, ap₂, _∙_, subst}
+use mathlib.Core.Logic.{_⊎_, inl, inr}
+use mathlib.Core.Bool.{Bool, true, false, _||_, cond}
+use mathlib.Core.List.{List, [], _∷_, map}
+use lib.Bits.{bitOr}
+use lib.ListN.{length, getD, set}
+use lib.Seq.{getD-set-same, getD-set-other}
+use Rattle.lists.specs.Lists.{below}
+use Rattle.lists.proofs.Bools.{test}
+use Rattle.lists.proofs.Lists.{getD-map-below}
+use Rattle.masks.specs.Masks.{has, maskOf}
+use Rattle.masks.proofs.Bits.{has-or, has-none}
+use Rattle.masks.proofs.MaskOf.{has-mask-of}
+use Rattle.mark_sets.specs.MarkSets.{unionAt}
+use Rattle.mark_sets.proofs.Unions.{union-none, union-with, union-without}
+
+-- ---- the sets of each word that have a colour, by one computed test
+colouredAt : ℕ → ℕ
+colouredAt k = maskOf (λ s. has (64 * (k / 8) + s) (k % 8)) 64
+
+unfoldable pub table : List ℕ
+table =
+    12297829382473034410 ∷ 14757395258967641292 ∷ 17361641481138401520 ∷ 18374966859414961920 ∷ 18446462603027742720 ∷ 18446744069414584320 ∷ 0 ∷ 0 ∷
+    12297829382473034410 ∷ 14757395258967641292 ∷ 17361641481138401520 ∷ 18374966859414961920 ∷ 18446462603027742720 ∷ 18446744069414584320 ∷ 18446744073709551615 ∷ 0 ∷
+    12297829382473034410 ∷ 14757395258967641292 ∷ 17361641481138401520 ∷ 18374966859414961920 ∷ 18446462603027742720 ∷ 18446744069414584320 ∷ 0 ∷ 18446744073709551615 ∷
+    12297829382473034410 ∷ 14757395258967641292 ∷ 17361641481138401520 ∷ 18374966859414961920 ∷ 18446462603027742720 ∷ 18446744069414584320 ∷ 18446744073709551615 ∷ 18446744073709551615 ∷ []
+
+table-is : table ≡ map colouredAt (below 32)
+unfolding table colouredAt maskOf has
+table-is = refl
+
+pub table-has : (k : ℕ) → k < 32 → (s : ℕ) → s < 64 → has (getD table k 0) s ≡ has (64 * (k / 8) + s) (k % 8)
+unfolding colouredAt
+table-has k h s i =
+    ap (λ (l : List ℕ). has (getD l k 0) s) table-is ∙ (ap (λ (x : ℕ). has x s) (getD-map-below colouredAt 32 k 0 h) ∙ has-mask-of (λ (s : ℕ). has (64 * (k / 8) + s) (k % 8)) 64 s i)
+
+-- colour c of word w
+pub word-has : (w c r : ℕ) → c < 8 → ((s : ℕ) → s < 64 → has r s ≡ has (64 * ((8 * w + c) / 8) + s) ((8 * w + c) % 8)) → (s : ℕ) → s < 64 → has r s ≡ has (64 * w + s) c
+word-has w c r h k s i =
+    let a : (8 * w + c) / 8 ≡ w = omega (arith, h) in let b : (8 * w + c) % 8 ≡ c = omega (arith, h) in
+    k s i ∙ ap₂ (λ (x y : ℕ). has (64 * x + s) y) a b
+
+-- ---- a mark in the union, colour by colour
+module _ (sets : List ℕ) (w mark : ℕ) where
+  unfoldable pub Collected : ℕ → ℕ → Type 0
+  Collected c r = (s : ℕ) → s < 64 → has r s ≡ has (unionAt sets (64 * w + s) c) mark
+
+  pub collected-none : Collected 0 0
+  unfolding Collected
+  collected-none s h = has-none s ∙ sym (ap (λ (n : ℕ). has n mark) (union-none sets (64 * w + s)) ∙ has-none mark)
+
+  -- one colour more
+  joined : (n c : ℕ) → has (unionAt sets n (c + 1)) mark ≡ (has (unionAt sets n c) mark || cond (has n c) (has (getD sets c 0) mark) false)
+  joined n c = step (test (has n c))
+    where
+      none : (b : Bool) → b ≡ b || false
+      none true = refl
+      none false = refl
+
+      step : (has n c ≡ true) ⊎ (has n c ≡ false) → has (unionAt sets n (c + 1)) mark ≡ (has (unionAt sets n c) mark || cond (has n c) (has (getD sets c 0) mark) false)
+      step (inl t) = ap (λ (x : ℕ). has x mark) (union-with sets n c t) ∙ (has-or mark (unionAt sets n c) (getD sets c 0) ∙ ap (λ (b : Bool). has (unionAt sets n c) mark || cond b (has (getD sets c 0) mark) false) (sym t))
+      step (inr f) = ap (λ (x : ℕ). has x mark) (union-without sets n c f) ∙ (none (has (unionAt sets n c) mark) ∙ ap (λ (b : Bool). has (unionAt sets n c) mark || cond b (has (getD sets c 0) mark) false) (sym f))
+
+  pub collected-with : (c r k : ℕ) → Collected c r → has (getD sets c 0) mark ≡ true → ((s : ℕ) → s < 64 → has k s ≡ has (64 * w + s) c) → Collected (c + 1) (bitOr r k)
+  unfolding Collected
+  collected-with c r k h t g s l =
+      has-or s r k ∙ (ap₂ _||_ (h s l) (g s l ∙ sym (one (has (64 * w + s) c))) ∙
+      (ap (λ (b : Bool). has (unionAt sets (64 * w + s) c) mark || cond (has (64 * w + s) c) b false) (sym t) ∙ sym (joined (64 * w + s) c)))
+    where
+      one : (b : Bool) → cond b true false ≡ b
+      one true = refl
+      one false = refl
+
+  pub collected-without : (c r : ℕ) → Collected c r → has (getD sets c 0) mark ≡ false → Collected (c + 1) r
+  unfolding Collected
+  collected-without c r h f s l =
+      h s l ∙ (nothing (has (unionAt sets (64 * w + s) c) mark) (has (64 * w + s) c) ∙
+      (ap (λ (b : Bool). has (unionAt sets (64 * w + s) c) mark || cond (has (64 * w + s) c) b false) (sym f) ∙ sym (joined (64 * w + s) c)))
+    where
+      nothing : (a b : Bool) → a ≡ (a || cond b false false)
+      nothing true b = refl
+      nothing false true = refl
+      nothing false false = refl
+
+  pub collected-all : (c r : ℕ) → Collected c r → c ≡ 8 → (s : ℕ) → s < 64 → has r s ≡ has (unionAt sets (64 * w + s) 8) mark
+  unfolding Collected
+  collected-all c r h e = subst (λ (k : ℕ). Collected k r) e h
+
+-- ---- mark by mark
+module _ (sets : List ℕ) (w : ℕ) where
+  unfoldable pub Filled : ℕ → List ℕ → Type 0
+  Filled n l = (m s : ℕ) → m < n → s < 64 → has (getD l m 0) s ≡ has (unionAt sets (64 * w + s) 8) m
+
+  pub filled-none : (l : List ℕ) → Filled 0 l
+  unfolding Filled
+  filled-none l m s h = absurd (omega (arith, h))
+
+  pub filled-more : (n : ℕ) (l : List ℕ) (x : ℕ) → Filled n l → n < length l → ((s : ℕ) → s < 64 → has x s ≡ has (unionAt sets (64 * w + s) 8) n) → Filled (n + 1) (set l n x)
+  unfolding Filled
+  filled-more n l x f h g m s i j = step (ℕ-discrete m n)
+    where
+      step : Dec (m ≡ n) → has (getD (set l n x) m 0) s ≡ has (unionAt sets (64 * w + s) 8) m
+      step (yes e) = ap (λ (k : ℕ). has (getD (set l n x) k 0) s) e ∙ (ap (λ (y : ℕ). has y s) (getD-set-same l n x 0 h) ∙ (g s j ∙ ap (has (unionAt sets (64 * w + s) 8)) (sym e)))
+      step (no e) = ap (λ (y : ℕ). has y s) (getD-set-other l n m x 0 e) ∙ f m s (omega (arith, i, e)) j
+
+  pub filled-all : (n k : ℕ) (l : List ℕ) → Filled n l → k ≤ n → (m s : ℕ) → m < k → s < 64 → has (getD l m 0) s ≡ has (unionAt sets (64 * w + s) 8) m
+  unfolding Filled
+  filled-all n k l f h m s i j = f m s (omega (arith, h, i)) j
