@@ -1,48 +1,62 @@
 -- Which of 64 colour sets have a colour, and which a mark in their union, colour by colour and mark by mark. Assumes nothing.
-use Prim.Native.Nat.{ℕ, _+_, _*_, _/_, _%_, _≤_, _<_}
+use Prim.Native.Nat.{ℕ, zero, suc, _+_, _-_, _*_, _≤_, _<_}
 use native.Mathlib.Omega.{arith}
 use native.Mathlib.Decide.{ℕ-discrete}
 use mathlib.Core.Path.{_≡_, refl, sym, ap, ap₂, _∙_, subst}
 use mathlib.Core.Logic.{_⊎_, inl, inr}
 use mathlib.Core.Bool.{Bool, true, false, _||_, cond}
-use mathlib.Core.List.{List, [], _∷_, map}
+use mathlib.Core.List.{List, [], _∷_, _++_, map}
 use lib.Bits.{bitOr}
-use lib.ListN.{length, getD, set}
+use lib.ListN.{length, getD, set, List·getD-append}
 use lib.Seq.{getD-set-same, getD-set-other}
 use Rattle.lists.specs.Lists.{below}
 use Rattle.lists.proofs.Bools.{test}
 use Rattle.lists.proofs.Lists.{getD-map-below}
+use Rattle.lists.proofs.Numbers.{below-suc}
 use Rattle.masks.specs.Masks.{has, maskOf}
 use Rattle.masks.proofs.Bits.{has-or, has-none}
 use Rattle.masks.proofs.MaskOf.{has-mask-of}
 use Rattle.mark_sets.specs.MarkSets.{unionAt}
 use Rattle.mark_sets.proofs.Unions.{union-none, union-with, union-without}
 
--- ---- the sets of each word that have a colour, by one computed test
-colouredAt : ℕ → ℕ
-colouredAt k = maskOf (λ s. has (64 * (k / 8) + s) (k % 8)) 64
-
+-- ---- the sets of each word that have a colour, by one computed test for each word
 unfoldable pub table : List ℕ
-table =
-    12297829382473034410 ∷ 14757395258967641292 ∷ 17361641481138401520 ∷ 18374966859414961920 ∷ 18446462603027742720 ∷ 18446744069414584320 ∷ 0 ∷ 0 ∷
-    12297829382473034410 ∷ 14757395258967641292 ∷ 17361641481138401520 ∷ 18374966859414961920 ∷ 18446462603027742720 ∷ 18446744069414584320 ∷ 18446744073709551615 ∷ 0 ∷
-    12297829382473034410 ∷ 14757395258967641292 ∷ 17361641481138401520 ∷ 18374966859414961920 ∷ 18446462603027742720 ∷ 18446744069414584320 ∷ 0 ∷ 18446744073709551615 ∷
-    12297829382473034410 ∷ 14757395258967641292 ∷ 17361641481138401520 ∷ 18374966859414961920 ∷ 18446462603027742720 ∷ 18446744069414584320 ∷ 18446744073709551615 ∷ 18446744073709551615 ∷ []
+table = 12297829382473034410 ∷ 14757395258967641292 ∷ 17361641481138401520 ∷ 18374966859414961920 ∷ 18446462603027742720 ∷ 18446744069414584320 ∷ []
 
-table-is : table ≡ map colouredAt (below 32)
-unfolding table colouredAt maskOf has
-table-is = refl
+-- all sets of a word, or none
+abbrev whole : Bool → ℕ
+whole b = cond b 18446744073709551615 0
 
-pub table-has : (k : ℕ) → k < 32 → (s : ℕ) → s < 64 → has (getD table k 0) s ≡ has (64 * (k / 8) + s) (k % 8)
+wordOf : ℕ → List ℕ
+wordOf w = table ++ (whole (has w 0) ∷ whole (has w 1) ∷ [])
+
+colouredAt : ℕ → ℕ → ℕ
+colouredAt w c = maskOf (λ s. has (64 * w + s) c) 64
+
+words-are : (w : ℕ) → w < 4 → map (colouredAt w) (below 8) ≡ wordOf w
+unfolding wordOf table colouredAt maskOf has
+words-are zero h = refl
+words-are (suc zero) h = refl
+words-are (suc (suc zero)) h = refl
+words-are (suc (suc (suc zero))) h = refl
+words-are (suc (suc (suc (suc w)))) h = absurd (omega (arith, h))
+
+word-has : (w c : ℕ) → w < 4 → c < 8 → (s : ℕ) → s < 64 → has (getD (wordOf w) c 0) s ≡ has (64 * w + s) c
 unfolding colouredAt
-table-has k h s i =
-    ap (λ (l : List ℕ). has (getD l k 0) s) table-is ∙ (ap (λ (x : ℕ). has x s) (getD-map-below colouredAt 32 k 0 h) ∙ has-mask-of (λ (s : ℕ). has (64 * (k / 8) + s) (k % 8)) 64 s i)
+word-has w c h l s i =
+    ap (λ (x : List ℕ). has (getD x c 0) s) (sym (words-are w h)) ∙ (ap (λ (x : ℕ). has x s) (getD-map-below (colouredAt w) 8 c 0 l) ∙ has-mask-of (λ (s : ℕ). has (64 * w + s) c) 64 s i)
 
--- colour c of word w
-pub word-has : (w c r : ℕ) → c < 8 → ((s : ℕ) → s < 64 → has r s ≡ has (64 * ((8 * w + c) / 8) + s) ((8 * w + c) % 8)) → (s : ℕ) → s < 64 → has r s ≡ has (64 * w + s) c
-word-has w c r h k s i =
-    let a : (8 * w + c) / 8 ≡ w = omega (arith, h) in let b : (8 * w + c) % 8 ≡ c = omega (arith, h) in
-    k s i ∙ ap₂ (λ (x y : ℕ). has (64 * x + s) y) a b
+pub low-has : (w c : ℕ) → w < 4 → c < 6 → (s : ℕ) → s < 64 → has (getD table c 0) s ≡ has (64 * w + s) c
+unfolding wordOf table
+low-has w c h l s i = ap (λ (x : ℕ). has x s) (sym (List·getD-append table (whole (has w 0) ∷ whole (has w 1) ∷ []) 0 c l)) ∙ word-has w c h (omega (arith, l)) s i
+
+pub high-has : (w c : ℕ) (b : Bool) → w < 4 → 6 ≤ c → c < 8 → b ≡ has w (c - 6) → (s : ℕ) → s < 64 → has (whole b) s ≡ has (64 * w + s) c
+unfolding wordOf table
+high-has w c b h k l e s i = step (below-suc c 7 l) ∙ word-has w c h l s i
+  where
+    step : (c < 7) ⊎ (c ≡ 7) → has (whole b) s ≡ has (getD (wordOf w) c 0) s
+    step (inl m) = let z : c ≡ 6 = omega (arith, k, m) in ap (λ (x : Bool). has (whole x) s) (e ∙ ap (λ (x : ℕ). has w (x - 6)) z) ∙ ap (λ (x : ℕ). has (getD (wordOf w) x 0) s) (sym z)
+    step (inr z) = ap (λ (x : Bool). has (whole x) s) (e ∙ ap (λ (x : ℕ). has w (x - 6)) z) ∙ ap (λ (x : ℕ). has (getD (wordOf w) x 0) s) (sym z)
 
 -- ---- a mark in the union, colour by colour
 module _ (sets : List ℕ) (w mark : ℕ) where

@@ -1,45 +1,19 @@
 // The family of a text: for each non-empty set of the colours whether its formula holds of the union of their mark sets. The formula is read once for each 64 sets.
-ghost use Prim.Native.Nat.{ℕ, _+_, _*_, _/_, _%_, _≤_, _<_, _^_};
+ghost use Prim.Native.Nat.{ℕ, _+_, _-_, _*_, _/_, _≤_, _<_, _^_};
 ghost use mathlib.Core.Path.{_≡_};
 ghost use lib.ListN.{length, getD};
 ghost use Rattle.masks.specs.Masks.{has};
 ghost use Rattle.mark_sets.specs.MarkSets.{unionAt};
 ghost use Rattle.hanoi_family.specs.Family.{IsWord, IsFamily};
 
-// Of each 64 colour sets those that have a colour: bit s of the entry at place 8 * w + c says whether set 64 * w + s has colour c.
-const COLOURED: [u64; 32] = [
+// Of each 64 colour sets, counted from 0, those that have a colour below 6: bit s of the entry at place c says whether set s has colour c.
+const COLOURED: [u64; 6] = [
     12297829382473034410,
     14757395258967641292,
     17361641481138401520,
     18374966859414961920,
     18446462603027742720,
     18446744069414584320,
-    0,
-    0,
-    12297829382473034410,
-    14757395258967641292,
-    17361641481138401520,
-    18374966859414961920,
-    18446462603027742720,
-    18446744069414584320,
-    18446744073709551615,
-    0,
-    12297829382473034410,
-    14757395258967641292,
-    17361641481138401520,
-    18374966859414961920,
-    18446462603027742720,
-    18446744069414584320,
-    0,
-    18446744073709551615,
-    12297829382473034410,
-    14757395258967641292,
-    17361641481138401520,
-    18374966859414961920,
-    18446462603027742720,
-    18446744069414584320,
-    18446744073709551615,
-    18446744073709551615,
 ];
 
 // How many colour sets there are.
@@ -50,12 +24,26 @@ fn sets_of(colours: u8) -> usize
     1 << colours
 }
 
-// The entry at place k.
-fn coloured(k: usize) -> u64
-    requires { ⌜ k < 32 ⌝ }
-    ensures { λ r. ⌜ ((s : ℕ) → s < 64 → has r s ≡ has (64 * (k / 8) + s) (k % 8)) ⌝ }
+// The colour sets of word w, that is from 64 * w on, that have colour c. Colour 6 is in all sets of a word or in none, and so is colour 7.
+fn coloured(w: usize, c: usize) -> u64
+    requires { ⌜ (w < 4) × (c < 8) ⌝ }
+    ensures { λ r. ⌜ ((s : ℕ) → s < 64 → has r s ≡ has (64 * w + s) c) ⌝ }
 {
-    COLOURED[k]
+    if c < 6 {
+        return COLOURED[c];
+    }
+    if has_word(w, c) {
+        return 18446744073709551615;
+    }
+    0
+}
+
+// The sets of word w have colour c, 6 or 7.
+fn has_word(w: usize, c: usize) -> bool
+    requires { ⌜ (6 ≤ c) × (c < 8) ⌝ }
+    ensures { λ r. ⌜ r ≡ has w (c - 6) ⌝ }
+{
+    masks::has(w as u64, c - 6)
 }
 
 fn has_mark(marks: u32, mark: u32) -> bool
@@ -73,7 +61,7 @@ fn sets_with(sets: &[u32; 8], w: usize, mark: u32) -> u64
     let mut r = 0;
     for c in 0..8 {
         if has_mark(sets[c], mark) {
-            r = r | coloured(8 * w + c);
+            r = r | coloured(w, c);
         }
     }
     r

@@ -5,7 +5,7 @@ use mathlib.Core.Logic.{⊎-elim}
 use mathlib.Core.Path.{sym, _∙_, subst}
 use Rattle.hanoi_family.proofs.sets_with.Statement.{statement}
 use Rattle.hanoi_family.proofs.sets_with.Tie as tie
-use Rattle.hanoi_family.proofs.Words.{Collected, collected-none, collected-with, collected-without, collected-all, word-has}
+use Rattle.hanoi_family.proofs.Words.{Collected, collected-none, collected-with, collected-without, collected-all}
 use denote.Ref.{now}
 
 abbrev Inv-loop : tie.InvT-loop
@@ -26,14 +26,8 @@ element-copy-out-has-mark c = omega arith
 has-mark-requires : tie.Need-has-mark-requires Inv-loop μ-loop
 has-mark-requires c κs = c .before .before .before .pre .1
 
-mul-coloured : tie.Need-mul-coloured Inv-loop μ-loop
-mul-coloured c = omega (arith, c .before .before .before .before .before .pre .0)
-
-add-coloured : tie.Need-add-coloured Inv-loop μ-loop
-add-coloured c = omega (arith, c .before .before .before .before .before .pre .0)
-
 coloured-requires : tie.Need-coloured-requires Inv-loop μ-loop
-coloured-requires c κs = omega (arith, c .before .before .before .before .before .pre .0, c .before .before .before .loop-test .taken)
+coloured-requires c κs = (c .before .before .before .before .before .pre .0, c .before .before .before .loop-test .taken)
 
 add-c : tie.Need-add-c Inv-loop μ-loop
 add-c c = omega arith
@@ -42,7 +36,7 @@ loop-less : tie.Need-loop-less Inv-loop μ-loop
 loop-less c = omega arith
 
 loop-again : tie.Need-loop-again Inv-loop μ-loop
-loop-again c = (omega arith, ⊎-elim (λ w. subst (λ (x : ℕ). Collected (now (c .before .before .before .before .before .args .sets)) (c .before .before .before .before .before .args .w) (c .before .before .before .before .before .args .mark) (c .before .before .before .before .loop .c + 1) x) (sym (w .2)) (collected-with _ _ _ _ _ _ (c .before .before .before .before .loop .inv .1) (sym (c .before .has-mark .ensures) ∙ w .0 .taken) (word-has _ _ _ (c .before .before .before .loop-test .taken) (w .1 .ensures)))) (λ w. subst (λ (x : ℕ). Collected (now (c .before .before .before .before .before .args .sets)) (c .before .before .before .before .before .args .w) (c .before .before .before .before .before .args .mark) (c .before .before .before .before .loop .c + 1) x) (sym (w .1)) (collected-without _ _ _ _ _ (c .before .before .before .before .loop .inv .1) (sym (c .before .has-mark .ensures) ∙ w .0 .left))) (c .if1 .came))
+loop-again c = (omega arith, ⊎-elim (λ w. subst (λ (x : ℕ). Collected (now (c .before .before .before .before .before .args .sets)) (c .before .before .before .before .before .args .w) (c .before .before .before .before .before .args .mark) (c .before .before .before .before .loop .c + 1) x) (sym (w .2)) (collected-with _ _ _ _ _ _ (c .before .before .before .before .loop .inv .1) (sym (c .before .has-mark .ensures) ∙ w .0 .taken) (w .1 .ensures))) (λ w. subst (λ (x : ℕ). Collected (now (c .before .before .before .before .before .args .sets)) (c .before .before .before .before .before .args .w) (c .before .before .before .before .before .args .mark) (c .before .before .before .before .loop .c + 1) x) (sym (w .1)) (collected-without _ _ _ _ _ (c .before .before .before .before .loop .inv .1) (sym (c .before .has-mark .ensures) ∙ w .0 .left))) (c .if1 .came))
 
 returns : tie.Need-returns Inv-loop μ-loop
 returns c = collected-all _ _ _ _ _ (c .before .loop .inv .1) (le-antisymm (c .before .loop .inv .0) (c .loop-test .left))
@@ -57,8 +51,6 @@ sets-with-spec =
     mul-has-mark
     element-copy-out-has-mark
     has-mark-requires
-    mul-coloured
-    add-coloured
     coloured-requires
     add-c
     loop-less
