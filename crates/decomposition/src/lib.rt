@@ -179,14 +179,15 @@ pub fn fill_nodes<'a>(
     requires tables { ⌜ (legal p ≡ true) × (length (now parents) ≡ length (now masks)) × (length (now «node_priorities») ≡ length (now masks)) ⌝ }
     ensures { λ r. ⌜ Fills p (nodeTables (now (masks .entry)) (now (parents .entry)) (now («node_priorities» .entry))) r (nodeTables (now (masks .exit)) (now (parents .exit)) (now («node_priorities» .exit))) ⌝ }
 {
-    tables::clear64(masks);
-    tables::clear16(parents);
-    let by = policy::by_colour(p, colours);
+    let mut by = [0u64; 8];
+    policy::collect_by_colour(p, colours, &mut by);
     let count = columns::fill_columns(p, heads, colours, &by, family, masks, parents);
     if tables::places(masks.len()) < count {
         tables::clear8(node_priorities);
         return Filled::TooMany;
     }
+    tables::clear64_past(masks, count);
+    tables::clear16_past(parents, count);
     tables::clear8_past(node_priorities, count);
     let transient = write_priorities(p, &by, family, masks, parents, node_priorities, count);
     Filled::Nodes(count, transient)

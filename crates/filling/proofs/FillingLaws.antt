@@ -9,7 +9,6 @@ use lib.ListN.{length}
 use lib.Seq.{sets}
 use Rattle.lists.proofs.Bools.{le-true}
 use Rattle.tables.specs.Tables.{padded, zeros, Column, places}
-use Rattle.tables.proofs.Tables.{zeros-same, length-zeros}
 use Rattle.tables.proofs.Columns.{column-padded, column-sets}
 use Rattle.policy.specs.declared.Policy.{Policy}
 use Rattle.policy.specs.Policies.{legal}
@@ -21,7 +20,7 @@ use Rattle.automaton.proofs.Columns.{length-ends, length-leaves, length-starts}
 use Rattle.states.specs.StateTables.{StatesFilled}
 use Rattle.filling.specs.declared.Building.the-variants.{Whole, TooMany}
 use Rattle.filling.specs.declared.Building.{Building}
-use Rattle.filling.specs.Filling.{Sized, Clear, buildingOf, Builds}
+use Rattle.filling.specs.Filling.{Sized, buildingOf, Builds}
 
 -- ---- equal policies: what is known of one is known of the other
 module _ {p q : Policy} (e : p ≡ q) where
@@ -40,37 +39,6 @@ pub ends-column : (p : Policy) (ends₀ : List ℕ) {ends : List ℕ} {count : �
 ends-column p ends₀ e h is = subst (Column (nodeEnds p)) (sym is) (column-sets ends₀ (nodeEnds p) (omega (arith, length-ends p)))
 
 module _ {p : Policy} {s₀ l₀ t₀ k₀ : List ℕ} (z : Sized p s₀ l₀ t₀ k₀) where
-  long : {t : List ℕ} (t₀ : List ℕ) → t ≡ zeros t₀ → length t ≡ length t₀
-  long t₀ e = ap length e ∙ length-zeros t₀
-
-  still : {t : List ℕ} (t₀ : List ℕ) → t ≡ zeros t₀ → t ≡ zeros t
-  still {t} t₀ e = e ∙ zeros-same t₀ t (sym (long t₀ e))
-
-  -- ---- tables just cleared
-  module _ {s l t k : List ℕ} (es : s ≡ zeros s₀) (el : l ≡ zeros l₀) (et : t ≡ zeros t₀) (ek : k ≡ zeros k₀) where
-    pub sized-clear : Sized p s l t k × Clear s l t k
-    sized-clear = (
-      record {
-        leaves-long = long l₀ el ∙ z .leaves-long ∙ sym (long s₀ es);
-        targets-long = long t₀ et ∙ z .targets-long ∙ ap (λ (n : ℕ). p .letters * n) (sym (long s₀ es));
-        priorities-long = long k₀ ek ∙ z .priorities-long ∙ ap (λ (n : ℕ). p .letters * n) (sym (long s₀ es));
-      },
-      record { sources-are = still s₀ es; leaves-are = still l₀ el; targets-are = still t₀ et; priorities-are = still k₀ ek },
-    )
-
-    -- what follows goes by the lengths alone
-    pub builds-cleared : {r : Building} {s′ l′ t′ k′ : List ℕ} → Builds p s l t k r s′ l′ t′ k′ → Builds p s₀ l₀ t₀ k₀ r s′ l′ t′ k′
-    unfolding buildingOf builtFit places zeros
-    builds-cleared b = record {
-      answer-is = rw (long s₀ es) at (b .answer-is);
-      number-is = rw (long s₀ es) at (b .number-is);
-      counts-are = rw (long s₀ es) at (b .counts-are);
-      sources-are = rw (long s₀ es) at (b .sources-are);
-      leaves-are = rw (long s₀ es, long l₀ el) at (b .leaves-are);
-      targets-are = rw (long s₀ es, long t₀ et) at (b .targets-are);
-      priorities-are = rw (long s₀ es, long k₀ ek) at (b .priorities-are);
-    }
-
   -- ---- the states written
   module _ {starts₀ s l starts : List ℕ} {fits : Bool} {count : ℕ} (w : StatesFilled p s₀ l₀ starts₀ fits count s l starts) where
     -- where they fit
@@ -112,9 +80,9 @@ module _ {p : Policy} {s₀ l₀ t₀ k₀ : List ℕ} (z : Sized p s₀ l₀ t�
         priorities-are = rw fits-so ek;
       }
 
-    -- where they do not
-    pub built-none : fits ≡ false → Clear s₀ l₀ t₀ k₀ → Builds p s₀ l₀ t₀ k₀ TooMany s l t₀ k₀
+    -- where they do not, and the row tables are cleared
+    pub built-none : fits ≡ false → {t k : List ℕ} → t ≡ zeros t₀ → k ≡ zeros k₀ → Builds p s₀ l₀ t₀ k₀ TooMany s l t k
     unfolding buildingOf
-    built-none f c =
+    built-none f et ek =
         let fits-not : builtFit p s₀ ≡ false = sym (w .fits-is) ∙ f in
-        record { answer-is = rw fits-not refl; number-is = rw fits-not refl; counts-are = rw fits-not refl; sources-are = w .sources-are; leaves-are = w .leaves-are; targets-are = rw fits-not (c .targets-are); priorities-are = rw fits-not (c .priorities-are) }
+        record { answer-is = rw fits-not refl; number-is = rw fits-not refl; counts-are = rw fits-not refl; sources-are = w .sources-are; leaves-are = w .leaves-are; targets-are = rw fits-not et; priorities-are = rw fits-not ek }

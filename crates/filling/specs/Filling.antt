@@ -17,13 +17,6 @@ pub record Sized (p : Policy) (sources leaves targets priorities : List ℕ) : T
   pub targets-long : length targets ≡ p .letters * length sources
   pub priorities-long : length priorities ≡ p .letters * length sources
 
--- 0 in every place
-pub record Clear (sources leaves targets priorities : List ℕ) : Type 0 where
-  pub sources-are : sources ≡ zeros sources
-  pub leaves-are : leaves ≡ zeros leaves
-  pub targets-are : targets ≡ zeros targets
-  pub priorities-are : priorities ≡ zeros priorities
-
 -- ---- document 01's number and values for each answer
 -- the number of the refusal; 0 where the states fit
 abbrev pub numberOf : Building → ℕ

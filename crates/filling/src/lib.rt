@@ -15,7 +15,7 @@ ghost use Rattle.policy.specs.Making.{fromParts};
 ghost use Rattle.policy.specs.Policies.{legal};
 ghost use Rattle.forest.specs.Forest.{forest, transientPriority};
 ghost use Rattle.automaton.specs.Stages.{Nodes};
-ghost use Rattle.filling.specs.Filling.{Sized, Clear, Builds};
+ghost use Rattle.filling.specs.Filling.{Sized, Builds};
 
 // How many built states there are, and the start; or that they do not fit.
 pub enum Building {
@@ -38,7 +38,7 @@ pub fn clear_built(
     tables::clear8(priorities);
 }
 
-// The states and the rows, in tables that are cleared, with a table for the nodes' ends that has a place for each node.
+// The states and the rows, with a table for the nodes' ends that has a place for each node; and 0 past them. Where the states do not fit, every place is 0.
 fn fill_built(
     shape: Shape,
     heads: &[u8; 64],
@@ -58,7 +58,7 @@ fn fill_built(
     ghost { Policy }
     requires policy { λ p. ⌜ fromParts shape (now heads) (now colours) (now family) ≡ p ⌝ }
     requires nodes { λ p. ⌜ (legal p ≡ true) × Nodes p (now masks) (now parents) (now «node_priorities») × (count ≡ length (forest p)) × (transient ≡ transientPriority p) ⌝ }
-    requires room { λ p. ⌜ Sized p (now sources) (now leaves) (now targets) (now priorities) × Clear (now sources) (now leaves) (now targets) (now priorities) × (count ≤ length (now ends)) ⌝ }
+    requires room { λ p. ⌜ Sized p (now sources) (now leaves) (now targets) (now priorities) × (count ≤ length (now ends)) ⌝ }
     ensures { λ p r. ⌜ Builds p (now (sources .entry)) (now (leaves .entry)) (now (targets .entry)) (now (priorities .entry)) r (now (sources .exit)) (now (leaves .exit)) (now (targets .exit)) (now (priorities .exit)) ⌝ }
 {
     let p = policy::from_parts(shape, heads, colours, family);
@@ -66,6 +66,8 @@ fn fill_built(
     let mut starts = [0usize; 17];
     let counted = states::fill_states(p, masks, ends, count, sources, leaves, &mut starts);
     if !counted.fits {
+        tables::clear16(targets);
+        tables::clear8(priorities);
         return Building::TooMany;
     }
     rows::fill_rows(
@@ -78,6 +80,7 @@ fn fill_built(
         ends,
         leaves,
         &starts,
+        counted.count,
         targets,
         priorities,
     );
@@ -105,7 +108,7 @@ fn build_within(
     ghost { Policy }
     requires policy { λ p. ⌜ fromParts shape (now heads) (now colours) (now family) ≡ p ⌝ }
     requires nodes { λ p. ⌜ (legal p ≡ true) × Nodes p (now masks) (now parents) (now «node_priorities») × (count ≡ length (forest p)) × (transient ≡ transientPriority p) ⌝ }
-    requires room { λ p. ⌜ Sized p (now sources) (now leaves) (now targets) (now priorities) × Clear (now sources) (now leaves) (now targets) (now priorities) ⌝ }
+    requires room { λ p. ⌜ Sized p (now sources) (now leaves) (now targets) (now priorities) ⌝ }
     ensures { λ p r. ⌜ Builds p (now (sources .entry)) (now (leaves .entry)) (now (targets .entry)) (now (priorities .entry)) r (now (sources .exit)) (now (leaves .exit)) (now (targets .exit)) (now (priorities .exit)) ⌝ }
 {
     if count <= ends.len() {
@@ -181,7 +184,7 @@ fn build_large(
     ghost { Policy }
     requires policy { λ p. ⌜ fromParts shape (now heads) (now colours) (now family) ≡ p ⌝ }
     requires nodes { λ p. ⌜ (legal p ≡ true) × Nodes p (now masks) (now parents) (now «node_priorities») × (count ≡ length (forest p)) × (transient ≡ transientPriority p) ⌝ }
-    requires room { λ p. ⌜ Sized p (now sources) (now leaves) (now targets) (now priorities) × Clear (now sources) (now leaves) (now targets) (now priorities) ⌝ }
+    requires room { λ p. ⌜ Sized p (now sources) (now leaves) (now targets) (now priorities) ⌝ }
     ensures { λ p r. ⌜ Builds p (now (sources .entry)) (now (leaves .entry)) (now (targets .entry)) (now (priorities .entry)) r (now (sources .exit)) (now (leaves .exit)) (now (targets .exit)) (now (priorities .exit)) ⌝ }
 {
     let mut ends = [0u16; 65535];
@@ -225,7 +228,6 @@ pub fn build<'a>(
     ensures { λ r. ⌜ Builds p (now (sources .entry)) (now (leaves .entry)) (now (targets .entry)) (now (priorities .entry)) r (now (sources .exit)) (now (leaves .exit)) (now (targets .exit)) (now (priorities .exit)) ⌝ }
 {
     let shape = policy::shape_of(p);
-    clear_built(sources, leaves, targets, priorities);
     let mut ends = [0u16; 64];
     if count <= 64 {
         return fill_built(

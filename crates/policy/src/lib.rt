@@ -3,6 +3,7 @@
 ghost use mathlib.Core.Path.{_≡_};
 ghost use Prim.Native.Nat.{_≤_};
 ghost use mathlib.Core.Bool.{true};
+ghost use lib.ListN.{replicate};
 ghost use Rattle.policy.specs.ByColour.{byColour, tableEdges, tableColours};
 ghost use Rattle.policy.specs.Making.{counted, shapeOf, fromParts};
 ghost use Rattle.policy.specs.Policies.{accepting, countsFit, edges, legal, legalCounts, legalEdges, legalFamily, legalGraph};
@@ -34,17 +35,25 @@ pub fn edges(p: Policy) -> usize
 
 // ---- the edges by colour
 
-// The edges of each colour.
-pub fn by_colour(p: Policy, colours: &[u8; 64]) -> [u64; 8]
-    requires { ⌜ (legal p ≡ true) × (now colours ≡ p .colour) ⌝ }
-    ensures { λ r. ⌜ r ≡ byColour p ⌝ }
+// The edges of each colour, in a table that is all 0. A table that is given back by value may be copied.
+pub fn collect_by_colour(p: Policy, colours: &[u8; 64], t: &mut [u64; 8])
+    requires { ⌜ (legal p ≡ true) × (now colours ≡ p .colour) × (now t ≡ replicate 8 0) ⌝ }
+    ensures { λ _. ⌜ now (t .exit) ≡ byColour p ⌝ }
 {
-    let mut t = [0u64; 8];
     let n = edges(p);
     for e in 0..n {
         let c = colours[e] as usize;
         t[c] = masks::with(t[c], e);
     }
+}
+
+// The same by value.
+pub fn by_colour(p: Policy, colours: &[u8; 64]) -> [u64; 8]
+    requires { ⌜ (legal p ≡ true) × (now colours ≡ p .colour) ⌝ }
+    ensures { λ r. ⌜ r ≡ byColour p ⌝ }
+{
+    let mut t = [0u64; 8];
+    collect_by_colour(p, colours, &mut t);
     t
 }
 

@@ -9,10 +9,10 @@ use mathlib.Core.Logic.{_⊎_, inl, inr}
 use mathlib.Core.Bool.{true}
 use mathlib.Core.List.{List, List·Memᴰ}
 use lib.Arith.{digits-div, digits-mod, digits-lt}
-use lib.ListN.{length, getD, set, replicate, length-set}
-use lib.Seq.{getD-set-same, getD-set-other, getD-append-add, ext-getD}
-use Rattle.tables.specs.Tables.{padded, zeros, Column}
-use Rattle.tables.proofs.Tables.{length-padded, getD-padded}
+use lib.ListN.{length, getD, take, set, length-set}
+use lib.Seq.{getD-set-same, getD-set-other}
+use Rattle.tables.specs.Tables.{padded, Column}
+use Rattle.tables.proofs.Columns.{column-cleared}
 use Rattle.policy.specs.declared.Policy.{Policy}
 use Rattle.policy.specs.Policies.{legal, edges, edgeOf, source, targetOf}
 use Rattle.policy.proofs.Laws.{legal-counts, legal-target, edges-le, edge-lt}
@@ -29,17 +29,6 @@ use Rattle.automaton.proofs.Columns.{leaf-at, leaves-long, start-at}
 use Rattle.automaton.proofs.Starts.{over-mono, in-run, run-has}
 
 -- ---- a table partly filled with a column
-zero-at : (n i : ℕ) → _≡_ {A = ℕ} (getD (replicate n 0) i 0) 0
-zero-at zero i = refl
-zero-at (suc n) zero = refl
-zero-at (suc n) (suc i) = zero-at n i
-
-padded-past : (n : ℕ) (l : List ℕ) (i : ℕ) → length l ≤ i → getD (padded n l) i 0 ≡ 0
-unfolding padded
-padded-past n l i h =
-    let e : i ≡ length l + (i - length l) = omega arith in
-    ap (λ (j : ℕ). getD (padded n l) j 0) e ∙ getD-append-add l (replicate (n - length l) 0) (i - length l) 0 ∙ zero-at (n - length l) (i - length l)
-
 module _ (l : List ℕ) where
   pub partly-none : (t : List ℕ) → PartlyFilled l t t
   partly-none t = record { long = refl; each = λ i. inl refl }
@@ -68,15 +57,11 @@ module _ (l : List ℕ) where
       go (inl u) = u ∙ e
       go (inr u) = u .1
 
-  -- from a cleared table, once every place of the column is right
-  pub partly-whole : {t₀ t : List ℕ} → PartlyFilled l t₀ t → t₀ ≡ zeros t₀ → length l ≤ length t₀ → ((i : ℕ) → i < length l → getD t i 0 ≡ getD l i 0) → t ≡ padded (length t₀) l
-  unfolding zeros
-  partly-whole {t₀} {t} a z h right = ext-getD 0 t (padded (length t₀) l) (a .long ∙ sym (length-padded (length t₀) l h)) (λ i q. go i (decLt i (length l)) (a .each i))
-    where
-      go : (i : ℕ) → Dec (i < length l) → (getD t i 0 ≡ getD t₀ i 0) ⊎ ((i < length l) × (getD t i 0 ≡ getD l i 0)) → getD t i 0 ≡ getD (padded (length t₀) l) i 0
-      go i (yes q) u = right i q ∙ sym (getD-padded (length t₀) l i q)
-      go i (no q) (inr u) = absurd (q (u .0))
-      go i (no q) (inl u) = u ∙ ap (λ (x : List ℕ). getD x i 0) z ∙ zero-at (length t₀) i ∙ sym (padded-past (length t₀) l i (omega arith))
+  -- once every place of the column is right, and the table is cleared past them
+  pub partly-whole : {t₀ t u : List ℕ} {n : ℕ} → PartlyFilled l t₀ t → length l ≤ length t₀ → ((i : ℕ) → i < length l → getD t i 0 ≡ getD l i 0) → length l ≡ n → u ≡ padded (length t) (take n t) → u ≡ padded (length t₀) l
+  partly-whole {t₀} {t} a h right e c =
+      let column : Column l t = record { long = omega (arith, h, a .long); each = right } in
+      c ∙ column-cleared column e ∙ ap (λ (i : ℕ). padded i l) (a .long)
 
 -- ---- the rows by state and letter
 module _ (p : Policy) where
@@ -114,13 +99,16 @@ module _ (p : Policy) where
     pub rows-room : (t : List ℕ) → p .letters * length (built p) ≤ length t → length (built p) * p .letters ≤ length t
     rows-room t h = omega (arith, mul-comm (length (built p)) (p .letters))
 
-    pub written-all : {t₀ k₀ t k : List ℕ} {n : ℕ} → RowsWritten p t₀ k₀ t k 0 n → edges p ≤ n → t₀ ≡ zeros t₀ → k₀ ≡ zeros k₀ → p .letters * length (built p) ≤ length t₀
-        → p .letters * length (built p) ≤ length k₀ → (t ≡ padded (length t₀) (rowTargets p)) × (k ≡ padded (length k₀) (rowPriorities p))
-    written-all {t₀} {k₀} {t} {k} {n} w m zt zk lt lk = (
-      partly-whole (rowTargets p) (w .targets-are) zt (omega (arith, targets-long p, rows-room t₀ lt))
-          (λ i h. let r = right i (omega (arith, targets-long p)) in subst (λ (j : ℕ). getD t j 0 ≡ getD (rowTargets p) j 0) (div-add-mod' i (p .letters)) (r .2 .target-is ∙ sym (row-target p (i / p .letters) (i % p .letters) (r .0) (r .1)))),
-      partly-whole (rowPriorities p) (w .priorities-are) zk (omega (arith, priorities-long p, rows-room k₀ lk))
-          (λ i h. let r = right i (omega (arith, priorities-long p)) in subst (λ (j : ℕ). getD k j 0 ≡ getD (rowPriorities p) j 0) (div-add-mod' i (p .letters)) (r .2 .priority-is ∙ sym (row-priority p (i / p .letters) (i % p .letters) (r .0) (r .1)))),
+    pub written-all : {t₀ k₀ t k t′ k′ : List ℕ} {n rows : ℕ} → RowsWritten p t₀ k₀ t k 0 n → edges p ≤ n → p .letters * length (built p) ≤ length t₀ → p .letters * length (built p) ≤ length k₀
+        → length (built p) * p .letters ≡ rows → t′ ≡ padded (length t) (take rows t) → k′ ≡ padded (length k) (take rows k)
+        → (t′ ≡ padded (length t₀) (rowTargets p)) × (k′ ≡ padded (length k₀) (rowPriorities p))
+    written-all {t₀} {k₀} {t} {k} {t′} {k′} {n} {rows} w m lt lk all et ek = (
+      partly-whole (rowTargets p) (w .targets-are) (omega (arith, targets-long p, rows-room t₀ lt))
+          (λ i h. let r = right i (omega (arith, targets-long p)) in subst (λ (j : ℕ). getD t j 0 ≡ getD (rowTargets p) j 0) (div-add-mod' i (p .letters)) (r .2 .target-is ∙ sym (row-target p (i / p .letters) (i % p .letters) (r .0) (r .1))))
+          (targets-long p ∙ all) et,
+      partly-whole (rowPriorities p) (w .priorities-are) (omega (arith, priorities-long p, rows-room k₀ lk))
+          (λ i h. let r = right i (omega (arith, priorities-long p)) in subst (λ (j : ℕ). getD k j 0 ≡ getD (rowPriorities p) j 0) (div-add-mod' i (p .letters)) (r .2 .priority-is ∙ sym (row-priority p (i / p .letters) (i % p .letters) (r .0) (r .1))))
+          (priorities-long p ∙ all) ek,
     )
       where
         right : (i : ℕ) → i < length (built p) * p .letters → (i / p .letters < length (built p)) × (i % p .letters < p .letters) × HasRow p t k (i / p .letters) (i % p .letters)

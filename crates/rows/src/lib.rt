@@ -6,7 +6,7 @@ ghost use mathlib.Core.List.{List·Memᴰ};
 ghost use mathlib.Core.Bool.{true};
 ghost use Prim.Native.Nat.{_+_, _*_, _≤_, _<_};
 ghost use lib.ListN.{length, getD};
-ghost use Rattle.tables.specs.Tables.{padded, zeros, Column};
+ghost use Rattle.tables.specs.Tables.{padded, Column};
 ghost use Rattle.policy.specs.Policies.{legal, edges, edgeOf, source, targetOf};
 ghost use Rattle.forest.specs.Forest.{forest, transientPriority};
 ghost use Rattle.automaton.specs.Automaton.{orElse, leaves, built, rowTargets, rowPriorities, stateLeaves};
@@ -239,8 +239,8 @@ fn fill_edge(
     }
 }
 
-// The rows of the built states, in tables that are cleared, edge by edge: by states, and by letters. Inner layer: the tables that are read are those of a legal policy's
-// nodes and states. Each of them is lent, and so there are more than eight parameters.
+// The rows of the `count` built states, edge by edge: by states, and by letters; and 0 past them. Inner layer: the tables that are read are those of a legal policy's nodes
+// and states. Each of them is lent, and so there are more than eight parameters.
 pub fn fill_rows(
     p: Policy,
     heads: &[u8; 64],
@@ -251,13 +251,14 @@ pub fn fill_rows(
     ends: &[u16],
     leaves: &[u16],
     starts: &[usize; 17],
+    count: usize,
     targets: &mut [u16],
     priorities: &mut [u8],
 )
     requires nodes { ⌜ (legal p ≡ true) × Nodes p (now masks) (now parents) (now «node_priorities») × Column (nodeEnds p) (now ends) ⌝ }
     requires states { ⌜ (length (built p) ≤ 65535) × Column (stateLeaves p) (now leaves) × Column (stateStarts p) (now starts) ⌝ }
     requires edges { ⌜ now heads ≡ p .target ⌝ }
-    requires cleared { ⌜ (now targets ≡ zeros (now targets)) × (now priorities ≡ zeros (now priorities)) × (p .letters * length (built p) ≤ length (now targets)) × (p .letters * length (built p) ≤ length (now priorities)) ⌝ }
+    requires rows { ⌜ (count ≡ length (built p)) × (p .letters * length (built p) ≤ length (now targets)) × (p .letters * length (built p) ≤ length (now priorities)) ⌝ }
     requires transient { ⌜ transient ≡ transientPriority p ⌝ }
     ensures targets { λ _. ⌜ now (targets .exit) ≡ padded (length (now (targets .entry))) (rowTargets p) ⌝ }
     ensures priorities { λ _. ⌜ now (priorities .exit) ≡ padded (length (now (priorities .entry))) (rowPriorities p) ⌝ }
@@ -283,4 +284,7 @@ pub fn fill_rows(
             );
         }
     }
+    let rows = count * letters;
+    tables::clear16_past(targets, rows);
+    tables::clear8_past(priorities, rows);
 }

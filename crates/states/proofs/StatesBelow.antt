@@ -9,7 +9,7 @@ use mathlib.Core.Logic.{_⊎_, inl, inr, _≢_}
 use mathlib.Core.Bool.{Bool, true, false, _&&_}
 use mathlib.Core.List.{List, [], _∷_, _++_, map, append-nil, append-assoc, map-append, List·Memᴰ}
 use lib.Dec.{ltb, leb}
-use lib.ListN.{length, set, replicate, length-append, length-map, length-replicate}
+use lib.ListN.{length, take, set, replicate, length-append, length-map, length-replicate}
 use lib.Seq.{sets, set-set}
 use borrow.Author.Tests.{lt-ltb, le-ltb}
 use Rattle.lists.specs.Lists.{filter, flat, below}
@@ -17,9 +17,10 @@ use Rattle.lists.proofs.Bools.{le-true, and-l}
 use Rattle.lists.proofs.Lists.{below-lt, flat-mem, map-mem}
 use Rattle.lists.proofs.Filters.{filter-append, filter-all, filter-none}
 use Rattle.lists.proofs.Numbers.{leb-min}
-use Rattle.tables.specs.Tables.{zeros, Stored, places}
+use Rattle.tables.specs.Tables.{padded, zeros, Stored, places}
 use Rattle.tables.proofs.Tables.{zeros-same}
-use Rattle.tables.proofs.Stores.{stored-none, stored-length, stored-join, stored-one, stored-more, sets-padded}
+use Rattle.tables.proofs.Stores.{stored-none, stored-length, stored-join, stored-one, stored-more}
+use Rattle.tables.proofs.Columns.{sets-cleared}
 use Rattle.policy.specs.declared.Policy.{Policy}
 use Rattle.policy.specs.Policies.{legal}
 use Rattle.policy.proofs.Laws.{legal-counts}
@@ -240,17 +241,18 @@ module _ (p : Policy) (sources₀ leaves₀ starts₀ sources leaves starts : Li
   unfolding stateStarts
   starts-all = r .starts-are .now-is ∙ ap (λ (n : ℕ). sets (set starts₀ 0 0) 0 (map (firstOver p) (below (n + 1)))) whole ∙ sets-again starts₀ (stateStarts p) 0 (omega (arith, length-starts p))
 
-  -- they fit
-  pub filled-fit : sources₀ ≡ zeros sources₀ → leaves₀ ≡ zeros leaves₀ → leb at (length sources) && leb at 65535 ≡ true → StatesFilled p sources₀ leaves₀ starts₀ true at sources leaves starts
+  -- they fit, and the tables are cleared past them
+  pub filled-fit : leb at (length sources) && leb at 65535 ≡ true → {sources′ leaves′ : List ℕ} → sources′ ≡ padded (length sources) (take at sources) → leaves′ ≡ padded (length leaves) (take at leaves)
+      → StatesFilled p sources₀ leaves₀ starts₀ true at sources′ leaves′ starts
   unfolding stateSources stateLeaves
-  filled-fit zs zl t =
+  filled-fit t es el =
       let f : builtFit p sources₀ ≡ true = sym fits ∙ t in
       let room : length (built p) ≤ length sources₀ = omega (arith, count, long, le-true at (length sources) (and-l (leb at (length sources)) (leb at 65535) t)) in
       record {
         fits-is = sym f;
         count-is = count;
-        sources-are = rw f (r .sources-are .now-is ∙ ap (λ (l : List Built). sets sources₀ 0 (map (λ (b : Built). b .state) l)) all ∙ sets-padded sources₀ (stateSources p) zs (omega (arith, length-sources p)));
-        leaves-are = rw f (r .leaves-are .now-is ∙ ap (λ (l : List Built). sets leaves₀ 0 (map (λ (b : Built). b .leaf) l)) all ∙ sets-padded leaves₀ (stateLeaves p) zl (omega (arith, length-leaves p)));
+        sources-are = rw f (sets-cleared sources₀ (stateSources p) (r .sources-are .now-is ∙ ap (λ (l : List Built). sets sources₀ 0 (map (λ (b : Built). b .state) l)) all) (length-sources p ∙ sym count) (omega (arith, length-sources p)) es);
+        leaves-are = rw f (sets-cleared leaves₀ (stateLeaves p) (r .leaves-are .now-is ∙ ap (λ (l : List Built). sets leaves₀ 0 (map (λ (b : Built). b .leaf) l)) all) (length-leaves p ∙ sym count) (omega (arith, length-leaves p)) el);
         starts-are = starts-all;
       }
 

@@ -5,7 +5,7 @@ ghost use mathlib.Core.Bool.{true};
 ghost use Prim.Native.Nat.{_+_, _-_, _≤_, _<_};
 ghost use lib.ListN.{length, set, replicate};
 ghost use lib.Seq.{sets};
-ghost use Rattle.tables.specs.Tables.{zeros, Column, Stored};
+ghost use Rattle.tables.specs.Tables.{Column, Stored};
 ghost use Rattle.policy.specs.Policies.{legal};
 ghost use Rattle.graph.specs.Cycles.{contains};
 ghost use Rattle.forest.specs.Forest.{forest, nodeMasks};
@@ -127,8 +127,8 @@ pub struct Counted {
     pub count: usize,
 }
 
-// The built states by policy state and then by leaf, in tables that are cleared; where they do not fit, the tables are cleared again. Where those over each policy
-// state begin stands in `starts`; the last start is the end of all. Inner layer: masks and ends are those of a legal policy's forest.
+// The built states by policy state and then by leaf. The tables are cleared past them, and everywhere if they do not fit. Where those over each policy state begin stands
+// in `starts`; the last start is the end of all. Inner layer: masks and ends are those of a legal policy's forest.
 pub fn fill_states(
     p: Policy,
     masks: &[u64],
@@ -139,7 +139,7 @@ pub fn fill_states(
     starts: &mut [usize; 17],
 ) -> Counted
     requires nodes { ⌜ (legal p ≡ true) × (length (forest p) ≤ 65535) × Column (nodeMasks p) (now masks) × Column (nodeEnds p) (now ends) ⌝ }
-    requires tables { ⌜ (count ≡ length (forest p)) × (length (now sources) ≡ length (now leaves)) × (now sources ≡ zeros (now sources)) × (now leaves ≡ zeros (now leaves)) ⌝ }
+    requires tables { ⌜ (count ≡ length (forest p)) × (length (now sources) ≡ length (now leaves)) ⌝ }
     ensures { λ r. ⌜ StatesFilled p (now (sources .entry)) (now (leaves .entry)) (now (starts .entry)) (r .fits) (r .count) (now (sources .exit)) (now (leaves .exit)) (now (starts .exit)) ⌝ }
 {
     let states = p.states as usize;
@@ -152,6 +152,8 @@ pub fn fill_states(
         at = next;
     }
     if (at <= sources.len()) & (at <= 65535) {
+        tables::clear8_past(sources, at);
+        tables::clear16_past(leaves, at);
         return Counted {
             fits: true,
             count: at,

@@ -1,4 +1,5 @@
--- The laws of a table that begins with a list: a padded table does, and one into which the list was stored; and the places of a list made of others. Assumes nothing.
+-- The laws of a table that begins with a list: a padded table does, and one into which the list was stored; what clearing past it leaves; and the places of a list made of
+-- others. Assumes nothing.
 use Prim.Native.Nat.{ℕ, zero, suc, _+_, _-_, _≤_, _<_}
 use native.Mathlib.Omega.{arith}
 use native.Mathlib.Decide.{decLt}
@@ -37,6 +38,16 @@ module _ (t l : List ℕ) (h : length l ≤ length t) where
       go : (i : ℕ) → Dec (i < length l) → getD u i 0 ≡ getD (sets t 0 l) i 0
       go i (yes k) = c .each i k ∙ sym (column-sets .each i k)
       go i (no k) = past i (omega arith) ∙ sym (sets-past i (omega arith))
+
+-- ---- cleared past a list of n that it begins with
+pub column-cleared : {l t : List ℕ} {n : ℕ} → Column l t → length l ≡ n → padded (length t) (take n t) ≡ padded (length t) l
+column-cleared {l} {t} {n} c e =
+    let long : length (take n t) ≡ n = length-take-le n t (omega (arith, e, c .long)) in
+    ap (padded (length t)) (ext-getD 0 (take n t) l (long ∙ sym e) (λ i h. getD-take n t i 0 (omega (arith, h, long)) ∙ c .each i (omega (arith, h, long, e))))
+
+-- the same of a list that was stored
+pub sets-cleared : (t₀ l : List ℕ) {t u : List ℕ} {n : ℕ} → t ≡ sets t₀ 0 l → length l ≡ n → length l ≤ length t₀ → u ≡ padded (length t) (take n t) → u ≡ padded (length t₀) l
+sets-cleared t₀ l {t} {u} {n} e k h c = c ∙ column-cleared (subst (Column l) (sym e) (column-sets t₀ l h)) k ∙ ap (λ (i : ℕ). padded i l) (ap length e ∙ length-sets t₀ 0 l)
 
 -- a copy from the front: a place more, and what was copied
 module _ {xs t₀ t : List ℕ} {j : ℕ} (v : Copying xs t₀ 0 t j) where

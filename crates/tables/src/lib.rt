@@ -41,7 +41,23 @@ pub fn clear8(t: &mut [u8])
     }
 }
 
-// 0 in every place from place `from` on.
+// 0 in every place from place `from` on, at each width.
+pub fn clear64_past(t: &mut [u64], from: usize)
+    ensures { λ _. ⌜ now (t .exit) ≡ padded (length (now (t .entry))) (take from (now (t .entry))) ⌝ }
+{
+    for i in from..t.len() {
+        t[i] = 0;
+    }
+}
+
+pub fn clear16_past(t: &mut [u16], from: usize)
+    ensures { λ _. ⌜ now (t .exit) ≡ padded (length (now (t .entry))) (take from (now (t .entry))) ⌝ }
+{
+    for i in from..t.len() {
+        t[i] = 0;
+    }
+}
+
 pub fn clear8_past(t: &mut [u8], from: usize)
     ensures { λ _. ⌜ now (t .exit) ≡ padded (length (now (t .entry))) (take from (now (t .entry))) ⌝ }
 {

@@ -63,7 +63,7 @@ build-large-returns : (t : ℕ) → build-large-lts.Need-returns (build-large-cl
 build-large-returns t c = c .before .before .before .before .before .before .before .before .before .build-within .ensures
 
 build-within-fill-built-requires : (t : ℕ) → build-within-lts.Need-fill-built-requires (build-within-claims t) (build-within-at t) build-within.Post
-build-within-fill-built-requires t c κs = let r = c .before .before .before .before .before .before .before .before .before .before .before .before .before .before .pre .1 in (r .0, (r .1 .0, r .1 .1, c .before .before .before .before .before .if1 .taken))
+build-within-fill-built-requires t c κs = let r = c .before .before .before .before .before .before .before .before .before .before .before .before .before .before .pre .1 in (r .0, (r .1, c .before .before .before .before .before .if1 .taken))
 
 build-within-same-length : (t : ℕ) → build-within-lts.Need-same-length (build-within-claims t) (build-within-at t) build-within.Post
 build-within-same-length t c = c .before .before .before .before .before .before .before .before .before .before .fill-built .kept .1 .1 .1 .1 .1 .1 .1 .1 .0

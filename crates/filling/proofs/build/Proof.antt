@@ -1,36 +1,31 @@
--- `build` meets its contract: the policy's parts make it again, and what is built in the tables once they are cleared is built in them. Assumes nothing.
+-- `build` meets its contract: the policy's parts make it again. Assumes nothing.
 use lib.ListN.{length-replicate}
 use borrow.Author.Needs.{needs}
 use mathlib.Core.Path.{_≡_, sym}
 use Rattle.policy.specs.Making.{fromParts}
 use Rattle.policy.proofs.Making.{parts-are}
-use Rattle.filling.proofs.FillingLaws.{nodes-same, sized-same, builds-same, sized-clear, builds-cleared}
+use Rattle.filling.proofs.FillingLaws.{nodes-same, sized-same, builds-same}
 use Rattle.filling.proofs.build.Statement.{statement}
 use Rattle.filling.proofs.build.Tie as tie
 
 -- ---- places
-abbrev start : tie.After-clear-built → tie.Start
-start c = c .before .before .before .before .before .before .before .before .before .before .before .before .before
+abbrev start : tie.After-shape-of → tie.Start
+start c = c .before .before .before .before .before .before .before .before
 
 -- the parts make the policy
-parts : (c : tie.After-clear-built) → fromParts (c .before .before .before .before .before .shape-of .result) (start c .args .heads .now) (start c .args .colours .now) (start c .args .family .now) ≡ start c .args .p
-parts c = let l = start c .pre .0 in parts-are (start c .args .p) (c .before .before .before .before .before .shape-of .ensures) (l .0) (l .1) (l .2)
+parts : (c : tie.After-shape-of) → fromParts (c .shape-of .result) (start c .args .heads .now) (start c .args .colours .now) (start c .args .family .now) ≡ start c .args .p
+parts c = let l = start c .pre .0 in parts-are (start c .args .p) (c .shape-of .ensures) (l .0) (l .1) (l .2)
 
 shape-of-requires : tie.Need-shape-of-requires
 shape-of-requires c κs = search needs
-
-clear-built-requires : tie.Need-clear-built-requires
-clear-built-requires c κs = search needs
 
 slice-aggregate-fill-built : tie.Need-slice-aggregate-fill-built
 slice-aggregate-fill-built c = search needs
 
 fill-built-requires : tie.Need-fill-built-requires
 fill-built-requires c κs =
-    let k = c .before .before .before .before .before .before .before .before .before .before .before .before .before .before in
-    let e = k .clear-built .ensures in
-    let z = sized-clear (start k .pre .1 .1) (e .0) (e .1) (e .2) (e .3) in
-    (nodes-same (sym (parts k)) (start k .pre .1 .0), (sized-same (sym (parts k)) (z .0), z .1, simp length-replicate (c .before .before .before .before .before .if1 .taken)))
+    let k = c .before .before .before .before .before .before in
+    (nodes-same (sym (parts k)) (start k .pre .1 .0), (sized-same (sym (parts k)) (start k .pre .1 .1), simp length-replicate (c .before .before .before .before .before .if1 .taken)))
 
 same-length : tie.Need-same-length
 same-length c = search needs
@@ -45,20 +40,15 @@ same-length-4 : tie.Need-same-length-4
 same-length-4 c = search needs
 
 returns : tie.Need-returns
-returns c =
-    let k = c .before .before .before .before .before .before .before .before .before .before .before .before .before .before .before .before .before .before .before .before .before .before .before .before in
-    let e = k .clear-built .ensures in
-    builds-cleared (start k .pre .1 .1) (e .0) (e .1) (e .2) (e .3) (builds-same (parts k) (c .before .before .before .before .before .before .before .before .before .fill-built .ensures))
+returns c = builds-same (parts (c .before .before .before .before .before .before .before .before .before .before .before .before .before .before .before .before)) (c .before .before .before .before .before .before .before .before .before .fill-built .ensures)
 
 slice-aggregate-build-within : tie.Need-slice-aggregate-build-within
 slice-aggregate-build-within c = search needs
 
 build-within-requires : tie.Need-build-within-requires
 build-within-requires c κs =
-    let k = c .before .before .before .before .before .before .before .before .before .before .before .before .before .before in
-    let e = k .clear-built .ensures in
-    let z = sized-clear (start k .pre .1 .1) (e .0) (e .1) (e .2) (e .3) in
-    (nodes-same (sym (parts k)) (start k .pre .1 .0), (sized-same (sym (parts k)) (z .0), z .1))
+    let k = c .before .before .before .before .before .before in
+    (nodes-same (sym (parts k)) (start k .pre .1 .0), sized-same (sym (parts k)) (start k .pre .1 .1))
 
 same-length-5 : tie.Need-same-length-5
 same-length-5 c = search needs
@@ -73,17 +63,13 @@ same-length-8 : tie.Need-same-length-8
 same-length-8 c = search needs
 
 returns-2 : tie.Need-returns-2
-returns-2 c =
-    let k = c .before .before .before .before .before .before .before .before .before .before .before .before .before .before .before .before .before .before .before .before .before .before .before .before in
-    let e = k .clear-built .ensures in
-    builds-cleared (start k .pre .1 .1) (e .0) (e .1) (e .2) (e .3) (builds-same (parts k) (c .before .before .before .before .before .before .before .before .before .build-within .ensures))
+returns-2 c = builds-same (parts (c .before .before .before .before .before .before .before .before .before .before .before .before .before .before .before .before)) (c .before .before .before .before .before .before .before .before .before .build-within .ensures)
 
 pub build-spec : {M : Type 1} → statement M
 build-spec =
     tie.close
     (tie.spec
     shape-of-requires
-    clear-built-requires
     slice-aggregate-fill-built
     fill-built-requires
     same-length

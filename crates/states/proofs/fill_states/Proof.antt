@@ -64,17 +64,23 @@ loop-again c =
     let o = c .before .before .before .before .before .before .fill-over in
     written-more (start (again c) .args .p) _ _ _ (l .sources) (l .leaves) (l .starts) (l .v) (l .at) (l .inv) (c .before .before .before .before .before .before .before .before .loop-test .taken) _ _ (o .result) (o .ensures .0) (o .ensures .1) (c .before .before .fill-sources .ensures)
 
+clear8-past-requires : tie.Need-clear8-past-requires Inv-loop μ-loop
+clear8-past-requires c κs = search needs
+
+clear16-past-requires : tie.Need-clear16-past-requires Inv-loop μ-loop
+clear16-past-requires c κs = search needs
+
 same-length : tie.Need-same-length Inv-loop μ-loop
-same-length c = stored-length (c .before .before .loop .inv .sources-are)
+same-length c = c .before .before .before .before .before .before .clear8-past .kept .0 ∙ stored-length (c .before .before .before .before .before .before .before .before .before .before .loop .inv .sources-are)
 
 same-length-2 : tie.Need-same-length-2 Inv-loop μ-loop
-same-length-2 c = stored-length (c .before .before .loop .inv .leaves-are)
+same-length-2 c = c .before .before .clear16-past .kept .0 ∙ stored-length (c .before .before .before .before .before .before .before .before .before .before .loop .inv .leaves-are)
 
 returns : tie.Need-returns Inv-loop μ-loop
 returns c =
-    let l = c .before .before in
+    let l = c .before .before .before .before .before .before .before .before .before .before in
     let s = start l in
-    filled-fit (s .args .p) (s .args .sources .now) (s .args .leaves .now) (s .args .starts .now) _ _ _ _ _ (l .loop .inv) (c .before .loop-test .left) (s .pre .1 .1) (s .pre .1 .2) (s .pre .1 .3) (c .if1 .taken)
+    filled-fit (s .args .p) (s .args .sources .now) (s .args .leaves .now) (s .args .starts .now) _ _ _ _ _ (l .loop .inv) (c .before .before .before .before .before .before .before .before .before .loop-test .left) (s .pre .1 .1) (c .before .before .before .before .before .before .before .before .if1 .taken) (c .before .before .before .before .before .before .clear8-past .ensures) (c .before .before .clear16-past .ensures)
 
 clear8-requires : tie.Need-clear8-requires Inv-loop μ-loop
 clear8-requires c κs = search needs
@@ -111,6 +117,8 @@ fill-states-spec =
     add-v
     loop-less
     loop-again
+    clear8-past-requires
+    clear16-past-requires
     same-length
     same-length-2
     returns

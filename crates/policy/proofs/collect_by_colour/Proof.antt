@@ -1,4 +1,4 @@
--- `by_colour` meets its contract: t has the edges passed, by colour. Assumes nothing.
+-- `collect_by_colour` meets its contract: t has the edges passed, by colour. Assumes nothing.
 use Prim.Native.Nat.{ℕ, _-_, _≤_, _<_}
 use native.Mathlib.Omega.{arith}
 use native.Mathlib.Nat.{le-antisymm}
@@ -10,8 +10,8 @@ use Rattle.policy.specs.Policies.{colourOf}
 use Rattle.policy.specs.ByColour.{byColourTo}
 use Rattle.policy.proofs.Laws.{edges-le}
 use Rattle.policy.proofs.ByColour.{by-none, by-more, by-all, colour-few}
-use Rattle.policy.proofs.by_colour.Statement.{statement}
-use Rattle.policy.proofs.by_colour.Tie as tie
+use Rattle.policy.proofs.collect_by_colour.Statement.{statement}
+use Rattle.policy.proofs.collect_by_colour.Tie as tie
 
 abbrev Inv-loop : tie.InvT-loop
 Inv-loop colours t₀ n e₀ t e = (e ≤ n) × (t ≡ byColourTo colours e)
@@ -23,7 +23,7 @@ edges-requires : tie.Need-edges-requires Inv-loop μ-loop
 edges-requires c κs = search needs
 
 loop-holds : tie.Need-loop-holds Inv-loop μ-loop
-loop-holds c = (omega arith, by-none (c .before .args .colours .now))
+loop-holds c = (omega arith, c .before .pre .2 ∙ by-none (c .before .args .colours .now))
 
 element-copy-out-c : tie.Need-element-copy-out-c Inv-loop μ-loop
 element-copy-out-c c = let s = c .before .before .before in omega (arith, edges-le (s .args .p) (s .pre .0))
@@ -42,17 +42,17 @@ cast-c c = omega (arith, few (c .before))
 mul-with : tie.Need-mul-with Inv-loop μ-loop
 mul-with c = omega (arith, few (c .before))
 
-array-read-with : tie.Need-array-read-with Inv-loop μ-loop
-array-read-with c = few (c .before)
+element-copy-out-with : tie.Need-element-copy-out-with Inv-loop μ-loop
+element-copy-out-with c = few (c .before)
 
 with-requires : tie.Need-with-requires Inv-loop μ-loop
-with-requires c κs = let s = c .before .before .before .before in omega (arith, edges-le (s .args .p) (s .pre .0))
+with-requires c κs = let s = c .before .before .before .before .before in omega (arith, edges-le (s .args .p) (s .pre .0))
 
 mul-t : tie.Need-mul-t Inv-loop μ-loop
-mul-t c = omega (arith, few (c .before .before))
+mul-t c = omega (arith, few (c .before .before .before))
 
-array-write-t : tie.Need-array-write-t Inv-loop μ-loop
-array-write-t c = few (c .before .before)
+element-write-t : tie.Need-element-write-t Inv-loop μ-loop
+element-write-t c = few (c .before .before .before)
 
 add-e : tie.Need-add-e Inv-loop μ-loop
 add-e c = omega arith
@@ -61,15 +61,15 @@ loop-less : tie.Need-loop-less Inv-loop μ-loop
 loop-less c = omega arith
 
 loop-again : tie.Need-loop-again Inv-loop μ-loop
-loop-again c = (omega arith, cc (by-more (c .before .before .before .before .before .args .colours .now) (c .before .before .before .loop .e) (few (c .before .before))))
+loop-again c = (omega arith, cc (by-more (c .before .before .before .before .before .before .args .colours .now) (c .before .before .before .before .loop .e) (few (c .before .before .before))))
 
 returns : tie.Need-returns Inv-loop μ-loop
 returns c =
     let s = c .before .before .before in
     cc (by-all (s .args .p) (s .args .colours .now) (c .before .loop .e) (s .pre .1) (le-antisymm (c .before .loop .inv .0) (c .loop-test .left) ∙ c .before .before .edges .ensures))
 
-pub by-colour-spec : {M : Type 1} → statement M
-by-colour-spec =
+pub collect-by-colour-spec : {M : Type 1} → statement M
+collect-by-colour-spec =
     tie.close
     (tie.spec
     Inv-loop
@@ -79,10 +79,10 @@ by-colour-spec =
     element-copy-out-c
     cast-c
     mul-with
-    array-read-with
+    element-copy-out-with
     with-requires
     mul-t
-    array-write-t
+    element-write-t
     add-e
     loop-less
     loop-again
