@@ -1,4 +1,4 @@
--- Laws of reading white space, words, numbers and names, as the loops that read them need them. Assumes nothing.
+-- Laws of reading white space and words, as the loops that read them need them. Assumes nothing.
 use Prim.Native.Nat.{ℕ, _+_, _-_, _≤_, _<_}
 use native.Mathlib.Omega.{arith}
 use native.Mathlib.Numerals.{add-one}

@@ -1,4 +1,4 @@
--- The union of the mark sets of a colour set: one turn of the loop that builds it, its members, and that empty sets past the last one add nothing. Assumes nothing.
+-- The union of the mark sets of a colour set: one place more, its members, and that empty sets past the last one add nothing. Assumes nothing.
 use Prim.Native.Nat.{ℕ, zero, suc, _+_, _<_}
 use native.Mathlib.Omega.{arith}
 use native.Mathlib.Decide.{ℕ-discrete}
