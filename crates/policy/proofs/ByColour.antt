@@ -1,30 +1,30 @@
 -- The table of the edges by colour: one turn of each loop over it, and that it gives the edges of a colour set and the colours of an edge set. Assumes nothing.
 use Prim.Native.Nat.{ℕ, zero, suc, _+_, _-_, _^_, _<_}
 use native.Mathlib.Omega.{arith}
-use native.Mathlib.Decide.{ℕ-discrete}
+use native.Mathlib.Decide.{ℕ-discrete, decLt}
 use native.Mathlib.Numerals.{add-one}
 use mathlib.Core.Path.{_≡_, refl, sym, ap, ap₂, _∙_, subst}
 use mathlib.Core.Logic.{_⊎_, inl, inr, _≢_}
-use mathlib.Core.Bool.{Bool, true, false, not, _&&_, cond, true≢false, false≢true}
+use mathlib.Core.Bool.{Bool, true, false, not, _&&_, cond, true≢false, false≢true, and-true}
 use mathlib.Core.List.{List, List·Memᴰ}
 use lib.Bits.{bitAnd, bitOr}
 use lib.Dec.{eqb}
 use lib.ListN.{length, getD, set, replicate, length-set}
 use lib.Seq.{ext-getD, getD-set-same, getD-set-other}
 use Rattle.lists.specs.Lists.{all}
-use Rattle.lists.proofs.Bools.{test, and-l, and-r, both, or-cases, or-left, or-right, eqb≡, ≡eqb, neqb, bool-ext}
+use Rattle.lists.proofs.Bools.{test, and-l, and-r, and-absent, and-absorb, both, or-cases, or-left, or-right, eqb≡, ≡eqb, neqb, bool-ext}
 use Rattle.lists.proofs.Lists.{getD-map-below, all-each, each-all}
-use Rattle.masks.specs.Masks.{has, insert, maskOf, inside}
-use Rattle.masks.proofs.Bits.{has-and, has-or, has-none, has-insert, mask-ext, has-full, all-inside}
+use Rattle.masks.specs.Masks.{has, insert, minus, maskOf, inside}
+use Rattle.masks.proofs.Bits.{has-and, has-or, has-none, has-insert, has-minus, mask-ext, has-full, all-inside}
 use Rattle.masks.proofs.MaskOf.{has-mask-of, mask-of-in, mask-of-out, mask-of-some}
 use Rattle.masks.proofs.Members.{none-zero}
 use Rattle.policy.specs.declared.Policy.{Policy}
-use Rattle.policy.specs.Policies.{edges, colourOf, edgeColours, coloursOf, inFamily, accepting, legal, full}
-use Rattle.policy.specs.ByColour.{hasColour, edgesIn, byColourTo, byColour, tableEdgesTo, tableEdges, tableColoursTo, tableColours}
-use Rattle.policy.proofs.Laws.{legal-counts, legal-colour, edge-colour-is, is-edge-colour, colours-some, some-colours}
+use Rattle.policy.specs.Policies.{edges, colourOf, isQuiet, edgeColours, coloursOf, inFamily, accepting, legal, full}
+use Rattle.policy.specs.ByColour.{hasColour, edgesIn, byColourTo, entryOf, byColour, tableEdgesTo, tableEdges, tableColoursTo, tableColours}
+use Rattle.policy.proofs.Laws.{legal-counts, legal-colour, quiet-lt, quiet-zero, coloured-loud, edge-colour-is, is-edge-colour, edge-colours-lt, colours-some, some-colours}
 
 -- ---- one turn of the loops over a table
-pub edges-none : (t : List ℕ) (c : ℕ) → tableEdgesTo t 0 c ≡ 0
+pub edges-none : (t : List ℕ) (c : ℕ) → tableEdgesTo t 0 c ≡ getD t 8 0
 unfolding tableEdgesTo
 edges-none t c = refl
 
@@ -50,35 +50,50 @@ colours-to-next t n m = rw add-one (go (eqb (bitAnd m (getD t n 0)) 0))
     go false = refl
 
 -- ---- the bits of what they give
-edges-to-some : (t : List ℕ) (n c e : ℕ) → has (tableEdgesTo t n c) e ≡ true → (k : ℕ) × (k < n) × (has c k ≡ true) × (has (getD t k 0) e ≡ true)
+-- a quiet edge, or one of an entry of c
+abbrev Among : List ℕ → ℕ → ℕ → ℕ → Type 0
+Among t n c e = (has (getD t 8 0) e ≡ true) ⊎ ((k : ℕ) × (k < n) × (has c k ≡ true) × (has (getD t k 0) e ≡ true))
+
+edges-to-some : (t : List ℕ) (n c e : ℕ) → has (tableEdgesTo t n c) e ≡ true → Among t n c e
 unfolding tableEdgesTo
-edges-to-some t zero c e h = absurd (false≢true (sym (has-none e) ∙ h))
+edges-to-some t zero c e h = inl h
 edges-to-some t (suc n) c e h = go (test (has c n)) (edges-to-some t n c e)
   where
-    Some : ℕ → Type 0
-    Some n = (k : ℕ) × (k < n) × (has c k ≡ true) × (has (getD t k 0) e ≡ true)
+    up : Among t n c e → Among t (suc n) c e
+    up (inl q) = inl q
+    up (inr r) = inr (r .0, omega (arith, r .1), r .2, r .3)
 
-    up : Some n → Some (suc n)
-    up r = (r .0, omega (arith, r .1), r .2, r .3)
-
-    one : has c n ≡ true → (has (tableEdgesTo t n c) e ≡ true → Some n) → (has (tableEdgesTo t n c) e ≡ true) ⊎ (has (getD t n 0) e ≡ true) → Some (suc n)
+    one : has c n ≡ true → (has (tableEdgesTo t n c) e ≡ true → Among t n c e) → (has (tableEdgesTo t n c) e ≡ true) ⊎ (has (getD t n 0) e ≡ true) → Among t (suc n) c e
     one u ih (inl k) = up (ih k)
-    one u ih (inr k) = (n, omega arith, u, k)
+    one u ih (inr k) = inr (n, omega arith, u, k)
 
-    go : (has c n ≡ true) ⊎ (has c n ≡ false) → (has (tableEdgesTo t n c) e ≡ true → Some n) → Some (suc n)
+    go : (has c n ≡ true) ⊎ (has c n ≡ false) → (has (tableEdgesTo t n c) e ≡ true → Among t n c e) → Among t (suc n) c e
     go (inl u) ih = one u ih (or-cases (has (tableEdgesTo t n c) e) (has (getD t n 0) e) (sym (has-or e (tableEdgesTo t n c) (getD t n 0)) ∙ (rw u at h)))
     go (inr u) ih = up (ih (rw u at h))
+
+-- with the entries below n + 1 they are no fewer
+edges-to-up : (t : List ℕ) (n c e : ℕ) → has (tableEdgesTo t n c) e ≡ true → has (tableEdgesTo t (suc n) c) e ≡ true
+unfolding tableEdgesTo
+edges-to-up t n c e h = go (test (has c n))
+  where
+    go : (has c n ≡ true) ⊎ (has c n ≡ false) → has (tableEdgesTo t (suc n) c) e ≡ true
+    go (inl w) = rw w (has-or e (tableEdgesTo t n c) (getD t n 0) ∙ or-left (has (tableEdgesTo t n c) e) (has (getD t n 0) e) h)
+    go (inr w) = rw w h
+
+quiet-edges-to : (t : List ℕ) (n c e : ℕ) → has (getD t 8 0) e ≡ true → has (tableEdgesTo t n c) e ≡ true
+unfolding tableEdgesTo
+quiet-edges-to t zero c e h = h
+quiet-edges-to t (suc n) c e h = edges-to-up t n c e (quiet-edges-to t n c e h)
 
 some-edges-to : (t : List ℕ) (n c e k : ℕ) → k < n → has c k ≡ true → has (getD t k 0) e ≡ true → has (tableEdgesTo t n c) e ≡ true
 unfolding tableEdgesTo
 some-edges-to t zero c e k l u h = absurd (omega arith)
-some-edges-to t (suc n) c e k l u h = go (ℕ-discrete k n) (test (has c n)) (some-edges-to t n c e k)
+some-edges-to t (suc n) c e k l u h = go (ℕ-discrete k n) (some-edges-to t n c e k)
   where
-    go : Dec (k ≡ n) → (has c n ≡ true) ⊎ (has c n ≡ false) → (k < n → has c k ≡ true → has (getD t k 0) e ≡ true → has (tableEdgesTo t n c) e ≡ true) → has (tableEdgesTo t (suc n) c) e ≡ true
-    go (yes q) (inl w) ih = rw w (has-or e (tableEdgesTo t n c) (getD t n 0) ∙ or-right (has (tableEdgesTo t n c) e) (has (getD t n 0) e) (ap (λ (k : ℕ). has (getD t k 0) e) (sym q) ∙ h))
-    go (yes q) (inr w) ih = absurd (true≢false (sym u ∙ ap (has c) q ∙ w))
-    go (no q) (inl w) ih = rw w (has-or e (tableEdgesTo t n c) (getD t n 0) ∙ or-left (has (tableEdgesTo t n c) e) (has (getD t n 0) e) (ih (omega arith) u h))
-    go (no q) (inr w) ih = rw w (ih (omega arith) u h)
+    go : Dec (k ≡ n) → (k < n → has c k ≡ true → has (getD t k 0) e ≡ true → has (tableEdgesTo t n c) e ≡ true) → has (tableEdgesTo t (suc n) c) e ≡ true
+    go (yes q) ih =
+        rw (sym (ap (has c) q) ∙ u) (has-or e (tableEdgesTo t n c) (getD t n 0) ∙ or-right (has (tableEdgesTo t n c) e) (has (getD t n 0) e) (ap (λ (k : ℕ). has (getD t k 0) e) (sym q) ∙ h))
+    go (no q) ih = edges-to-up t n c e (ih (omega arith) u h)
 
 -- bit c of the colours: c is below n, and entry c has an edge of m
 colours-to-some : (t : List ℕ) (n m c : ℕ) → has (tableColoursTo t n m) c ≡ true → (c < n) × (bitAnd m (getD t c 0) ≢ 0)
@@ -125,19 +140,19 @@ module _ (colours : List ℕ) where
   unfolding hasColour
   is-colour c e t = eqb≡ (getD colours e 0) c t
 
-  pub by-none : replicate 8 0 ≡ byColourTo colours 0
+  pub by-none : replicate 9 0 ≡ byColourTo colours 0
   unfolding byColourTo maskOf
   by-none = refl
 
-  by-long : (n : ℕ) → length (byColourTo colours n) ≡ 8
+  by-long : (n : ℕ) → length (byColourTo colours n) ≡ 9
   unfolding byColourTo
   by-long n = refl
 
-  by-at : (n c : ℕ) → c < 8 → getD (byColourTo colours n) c 0 ≡ maskOf (hasColour colours c) n
+  by-at : (n c : ℕ) → c < 9 → getD (byColourTo colours n) c 0 ≡ maskOf (hasColour colours c) n
   unfolding byColourTo
-  by-at n c l = getD-map-below (λ (c : ℕ). maskOf (hasColour colours c) n) 8 c 0 l
+  by-at n c l = getD-map-below (λ (c : ℕ). maskOf (hasColour colours c) n) 9 c 0 l
 
-  pub by-more : (n : ℕ) → getD colours n 0 < 8 → set (byColourTo colours n) (getD colours n 0) (insert (getD (byColourTo colours n) (getD colours n 0) 0) n) ≡ byColourTo colours (n + 1)
+  pub by-more : (n : ℕ) → getD colours n 0 < 9 → set (byColourTo colours n) (getD colours n 0) (insert (getD (byColourTo colours n) (getD colours n 0) 0) n) ≡ byColourTo colours (n + 1)
   by-more n l = ext-getD 0 after (byColourTo colours (n + 1)) (long ∙ sym (by-long (n + 1))) (λ c h. at c (subst (λ (k : ℕ). c < k) long h) (ℕ-discrete c k))
     where
       k : ℕ
@@ -146,10 +161,10 @@ module _ (colours : List ℕ) where
       after : List ℕ
       after = set (byColourTo colours n) k (insert (getD (byColourTo colours n) k 0) n)
 
-      long : length after ≡ 8
+      long : length after ≡ 9
       long = length-set (byColourTo colours n) k (insert (getD (byColourTo colours n) k 0) n) ∙ by-long n
 
-      at : (c : ℕ) → c < 8 → Dec (c ≡ k) → getD after c 0 ≡ getD (byColourTo colours (n + 1)) c 0
+      at : (c : ℕ) → c < 9 → Dec (c ≡ k) → getD after c 0 ≡ getD (byColourTo colours (n + 1)) c 0
       at c h (yes q) =
           ap (λ (c : ℕ). getD after c 0) q ∙ getD-set-same (byColourTo colours n) k (insert (getD (byColourTo colours n) k 0) n) 0 (subst (λ (z : ℕ). k < z) (sym (by-long n)) l)
           ∙ ap (λ (x : ℕ). insert x n) (by-at n k l)
@@ -159,20 +174,42 @@ module _ (colours : List ℕ) where
           ∙ by-at n c h ∙ sym (mask-of-out (hasColour colours c) n (not-colour c n (λ e. q (sym e)))) ∙ sym (by-at (n + 1) c h)
 
 module _ (p : Policy) where
-  pub by-all : (colours : List ℕ) (n : ℕ) → colours ≡ p .colour → n ≡ edges p → byColourTo colours n ≡ byColour p
-  unfolding byColour
-  by-all colours n h q = ap₂ byColourTo h q
-
   -- ---- the table, by its edges
-  table-some : (c e : ℕ) → c < 8 → has (getD (byColour p) c 0) e ≡ true → (e < edges p) × (colourOf p e ≡ c)
-  unfolding byColour colourOf
-  table-some c e l h =
-      let r = mask-of-some (hasColour (p .colour) c) (edges p) e (ap (λ (m : ℕ). has m e) (sym (by-at (p .colour) (edges p) c l)) ∙ h) in
-      (r .0, is-colour (p .colour) c e (r .1))
+  table-at : (c : ℕ) → c < 9 → getD (byColour p) c 0 ≡ maskOf (λ e. eqb (entryOf p e) c) (edges p)
+  unfolding byColour
+  table-at c l = getD-map-below (λ (c : ℕ). maskOf (λ e. eqb (entryOf p e) c) (edges p)) 9 c 0 l
 
-  some-table : (c e : ℕ) → c < 8 → e < edges p → colourOf p e ≡ c → has (getD (byColour p) c 0) e ≡ true
-  unfolding byColour colourOf
-  some-table c e l h q = ap (λ (m : ℕ). has m e) (by-at (p .colour) (edges p) c l) ∙ has-mask-of (hasColour (p .colour) c) (edges p) e h ∙ of-colour (p .colour) c e q
+  table-some : (c e : ℕ) → c < 9 → has (getD (byColour p) c 0) e ≡ true → (e < edges p) × (entryOf p e ≡ c)
+  table-some c e l h =
+      let r = mask-of-some (λ (e : ℕ). eqb (entryOf p e) c) (edges p) e (ap (λ (m : ℕ). has m e) (sym (table-at c l)) ∙ h) in
+      (r .0, eqb≡ (entryOf p e) c (r .1))
+
+  some-table : (c e : ℕ) → c < 9 → e < edges p → entryOf p e ≡ c → has (getD (byColour p) c 0) e ≡ true
+  some-table c e l h q = ap (λ (m : ℕ). has m e) (table-at c l) ∙ has-mask-of (λ (e : ℕ). eqb (entryOf p e) c) (edges p) e h ∙ ≡eqb (entryOf p e) c q
+
+  table-long : length (byColour p) ≡ 9
+  unfolding byColour
+  table-long = refl
+
+  -- where an edge stands
+  quiet-entry : (e : ℕ) → isQuiet p e ≡ true → entryOf p e ≡ 8
+  unfolding entryOf
+  quiet-entry e q = rw q
+
+  loud-entry : (e : ℕ) → isQuiet p e ≡ false → entryOf p e ≡ colourOf p e
+  unfolding entryOf
+  loud-entry e f = rw f
+
+  -- below 8 it is a colour of the edge, and a colour of it is there
+  entry-colour : (e c : ℕ) → c < 8 → entryOf p e ≡ c → List·Memᴰ c (edgeColours p e)
+  entry-colour e c l q = go (test (isQuiet p e))
+    where
+      go : (isQuiet p e ≡ true) ⊎ (isQuiet p e ≡ false) → List·Memᴰ c (edgeColours p e)
+      go (inl t) = absurd (omega (arith, quiet-entry e t))
+      go (inr f) = is-edge-colour p e c f (sym q ∙ loud-entry e f)
+
+  colour-entry : (e c : ℕ) → List·Memᴰ c (edgeColours p e) → entryOf p e ≡ c
+  colour-entry e c m = loud-entry e (coloured-loud p e c m) ∙ sym (edge-colour-is p e c m)
 
   -- ---- the edges of a colour set
   pub edges-in-some : (c e : ℕ) → has (edgesIn p c) e ≡ true → (e < edges p) × ((d : ℕ) → List·Memᴰ d (edgeColours p e) → has c d ≡ true)
@@ -199,17 +236,25 @@ module _ (p : Policy) where
     unfolding tableEdges
     table-edges-are c = mask-ext (tableEdges (byColour p) c) (edgesIn p c) (λ e. bool-ext (has (tableEdges (byColour p) c) e) (has (edgesIn p c) e) (there e) (back e))
       where
+        among : (e : ℕ) → Among (byColour p) 8 c e → has (edgesIn p c) e ≡ true
+        among e (inl h) =
+            let s = table-some 8 e (omega arith) h in
+            some-edges-in c e (s .0) (λ d k. absurd (omega (arith, s .1, colour-entry e d k, edge-colours-lt p lawful e d (s .0) k, legal-counts p lawful .colours-few)))
+        among e (inr r) =
+            let s = table-some (r .0) e (omega (arith, r .1)) (r .3) in
+            some-edges-in c e (s .0) (λ d k. ap (has c) (sym (colour-entry e d k) ∙ s .1) ∙ r .2)
+
         there : (e : ℕ) → has (tableEdges (byColour p) c) e ≡ true → has (edgesIn p c) e ≡ true
-        there e h =
-            let r = edges-to-some (byColour p) 8 c e h in
-            let s = table-some (r .0) e (r .1) (r .3) in
-            some-edges-in c e (s .0) (λ d k. ap (has c) (edge-colour-is p e d k ∙ s .1) ∙ r .2)
+        there e h = among e (edges-to-some (byColour p) 8 c e h)
+
+        stands : (e : ℕ) → e < edges p → ((d : ℕ) → List·Memᴰ d (edgeColours p e) → has c d ≡ true) → (isQuiet p e ≡ true) ⊎ (isQuiet p e ≡ false) → has (tableEdges (byColour p) c) e ≡ true
+        stands e l h (inl q) = quiet-edges-to (byColour p) 8 c e (some-table 8 e (omega arith) l (quiet-entry e q))
+        stands e l h (inr f) =
+            let few = colour-few e l in
+            some-edges-to (byColour p) 8 c e (colourOf p e) few (h (colourOf p e) (is-edge-colour p e (colourOf p e) f refl)) (some-table (colourOf p e) e (omega arith) l (loud-entry e f))
 
         back : (e : ℕ) → has (edgesIn p c) e ≡ true → has (tableEdges (byColour p) c) e ≡ true
-        back e h =
-            let r = edges-in-some c e h in
-            let few = colour-few e (r .0) in
-            some-edges-to (byColour p) 8 c e (colourOf p e) few (r .1 (colourOf p e) (is-edge-colour p e (colourOf p e) refl)) (some-table (colourOf p e) e few (r .0) refl)
+        back e h = let r = edges-in-some c e h in stands e (r .0) (r .1) (test (isQuiet p e))
 
     -- and the colours of an edge set
     pub table-colours-are : (m : ℕ) → tableColours (byColour p) m ≡ coloursOf p m
@@ -227,8 +272,8 @@ module _ (p : Policy) where
                 none-zero (bitAnd m (getD (byColour p) c 0))
                 (λ e t.
                 let u : has m e && has (getD (byColour p) c 0) e ≡ true = sym (has-and e m (getD (byColour p) c 0)) ∙ t in
-                let s = table-some c e (r .0) (and-r (has m e) (has (getD (byColour p) c 0) e) u) in
-                true≢false (sym (some-colours p m e c (s .0) (and-l (has m e) (has (getD (byColour p) c 0) e) u) (is-edge-colour p e c (sym (s .1)))) ∙ f))
+                let s = table-some c e (omega (arith, r .0)) (and-r (has m e) (has (getD (byColour p) c 0) e) u) in
+                true≢false (sym (some-colours p m e c (s .0) (and-l (has m e) (has (getD (byColour p) c 0) e) u) (entry-colour e c (r .0) (s .1))) ∙ f))
 
             go : (has (coloursOf p m) c ≡ true) ⊎ (has (coloursOf p m) c ≡ false) → has (coloursOf p m) c ≡ true
             go (inl t) = t
@@ -237,13 +282,107 @@ module _ (p : Policy) where
         back : (c : ℕ) → has (coloursOf p m) c ≡ true → has (tableColours (byColour p) m) c ≡ true
         back c h =
             let r = colours-some p m c h in
-            let is : c ≡ colourOf p (r .0) = edge-colour-is p (r .0) c (r .3) in
-            let few : c < 8 = subst (λ (x : ℕ). x < 8) (sym is) (colour-few (r .0) (r .1)) in
+            let few : c < 8 = omega (arith, edge-colours-lt p lawful (r .0) c (r .1) (r .3), legal-counts p lawful .colours-few) in
             some-colours-to (byColour p) 8 m c few
             (λ z.
             false≢true
             (sym (ap (λ (x : ℕ). has x (r .0)) z ∙ has-none (r .0))
-            ∙ has-and (r .0) m (getD (byColour p) c 0) ∙ both (has m (r .0)) (has (getD (byColour p) c 0) (r .0)) (r .2) (some-table c (r .0) few (r .1) (sym is))))
+            ∙ has-and (r .0) m (getD (byColour p) c 0) ∙ both (has m (r .0)) (has (getD (byColour p) c 0) (r .0)) (r .2) (some-table c (r .0) (omega arith) (r .1) (colour-entry (r .0) c (r .3)))))
+
+    -- ---- the table is made of the recorded colours: the quiet edges are taken from entry 0, and stand in entry 8
+    quiet-table : getD (byColour p) 8 0 ≡ p .quiet
+    unfolding isQuiet
+    quiet-table = mask-ext (getD (byColour p) 8 0) (p .quiet) (λ e. bool-ext (has (getD (byColour p) 8 0) e) (has (p .quiet) e) (there e) (back e))
+      where
+        there : (e : ℕ) → has (getD (byColour p) 8 0) e ≡ true → has (p .quiet) e ≡ true
+        there e h = go (test (isQuiet p e)) (table-some 8 e (omega arith) h)
+          where
+            go : (isQuiet p e ≡ true) ⊎ (isQuiet p e ≡ false) → (e < edges p) × (entryOf p e ≡ 8) → has (p .quiet) e ≡ true
+            go (inl t) s = t
+            go (inr f) s = absurd (omega (arith, loud-entry e f, s .1, colour-few e (s .0)))
+
+        back : (e : ℕ) → has (p .quiet) e ≡ true → has (getD (byColour p) 8 0) e ≡ true
+        back e h = some-table 8 e (omega arith) (quiet-lt p lawful e h) (quiet-entry e h)
+
+    -- an edge stands in the entry of its recorded colour; a quiet one does not
+    recorded : (c e : ℕ) → c < 8 → e < edges p → (eqb (entryOf p e) c ≡ hasColour (p .colour) c e && not (isQuiet p e))
+    unfolding hasColour colourOf
+    recorded c e l h = go (test (isQuiet p e))
+      where
+        go : (isQuiet p e ≡ true) ⊎ (isQuiet p e ≡ false) → eqb (entryOf p e) c ≡ hasColour (p .colour) c e && not (isQuiet p e)
+        go (inl t) = neqb (entryOf p e) c (λ q. absurd (omega (arith, quiet-entry e t))) ∙ sym (and-absent (hasColour (p .colour) c e) (not (isQuiet p e)) (ap not t))
+        go (inr f) = ap (λ (k : ℕ). eqb k c) (loud-entry e f) ∙ sym (ap (λ (b : Bool). hasColour (p .colour) c e && not b) f ∙ and-true (hasColour (p .colour) c e))
+
+    recorded-bit : (c e : ℕ) → c < 8 → has (getD (byColour p) c 0) e ≡ has (getD (byColourTo (p .colour) (edges p)) c 0) e && not (isQuiet p e)
+    recorded-bit c e l = go (decLt e (edges p))
+      where
+        t : ℕ → Bool
+        t = hasColour (p .colour) c
+
+        old : has (getD (byColourTo (p .colour) (edges p)) c 0) e ≡ has (maskOf t (edges p)) e
+        old = ap (λ (m : ℕ). has m e) (by-at (p .colour) (edges p) c (omega arith))
+
+        go : Dec (e < edges p) → has (getD (byColour p) c 0) e ≡ has (getD (byColourTo (p .colour) (edges p)) c 0) e && not (isQuiet p e)
+        go (yes h) =
+            ap (λ (m : ℕ). has m e) (table-at c (omega arith)) ∙ has-mask-of (λ (e : ℕ). eqb (entryOf p e) c) (edges p) e h ∙ recorded c e l h
+            ∙ sym (ap (λ (b : Bool). b && not (isQuiet p e)) (old ∙ has-mask-of t (edges p) e h))
+        go (no h) =
+            bool-ext (has (getD (byColour p) c 0) e) (has (getD (byColourTo (p .colour) (edges p)) c 0) e && not (isQuiet p e))
+            (λ u. absurd (h (table-some c e (omega arith) u .0)))
+            (λ u. absurd (h (mask-of-some t (edges p) e (sym old ∙ and-l (has (getD (byColourTo (p .colour) (edges p)) c 0) e) (not (isQuiet p e)) u) .0)))
+
+    -- no quiet edge stands in an entry above 0
+    recorded-loud : (c e : ℕ) → c < 8 → c ≢ 0 → has (getD (byColourTo (p .colour) (edges p)) c 0) e ≡ true → not (isQuiet p e) ≡ true
+    unfolding colourOf
+    recorded-loud c e l n h = go (test (isQuiet p e))
+      where
+        r : (e < edges p) × (hasColour (p .colour) c e ≡ true)
+        r = mask-of-some (hasColour (p .colour) c) (edges p) e (ap (λ (m : ℕ). has m e) (sym (by-at (p .colour) (edges p) c (omega arith))) ∙ h)
+
+        go : (isQuiet p e ≡ true) ⊎ (isQuiet p e ≡ false) → not (isQuiet p e) ≡ true
+        go (inl t) = absurd (n (sym (is-colour (p .colour) c e (r .1)) ∙ quiet-zero p lawful e t))
+        go (inr f) = ap not f
+
+    pub table-made : (t colours : List ℕ) (n : ℕ) → colours ≡ p .colour → n ≡ edges p → t ≡ byColourTo colours n → set (set t 0 (minus (getD t 0 0) (p .quiet))) 8 (p .quiet) ≡ byColour p
+    unfolding isQuiet
+    table-made t colours n eq-colours eq-n eq-t = ext-getD 0 after (byColour p) (long ∙ sym table-long) (λ c h. at c (subst (λ (k : ℕ). c < k) long h) (ℕ-discrete c 8) (ℕ-discrete c 0))
+      where
+        old : List ℕ
+        old = byColourTo (p .colour) (edges p)
+
+        is : t ≡ old
+        is = eq-t ∙ ap₂ byColourTo eq-colours eq-n
+
+        taken : List ℕ
+        taken = set t 0 (minus (getD t 0 0) (p .quiet))
+
+        after : List ℕ
+        after = set taken 8 (p .quiet)
+
+        t-long : length t ≡ 9
+        t-long = ap length is ∙ by-long (p .colour) (edges p)
+
+        taken-long : length taken ≡ 9
+        taken-long = length-set t 0 (minus (getD t 0 0) (p .quiet)) ∙ t-long
+
+        long : length after ≡ 9
+        long = length-set taken 8 (p .quiet) ∙ taken-long
+
+        at-zero : minus (getD old 0 0) (p .quiet) ≡ getD (byColour p) 0 0
+        at-zero = mask-ext (minus (getD old 0 0) (p .quiet)) (getD (byColour p) 0 0) (λ e. has-minus (getD old 0 0) (p .quiet) e ∙ sym (recorded-bit 0 e (omega arith)))
+
+        at-other : (c : ℕ) → c < 8 → c ≢ 0 → getD old c 0 ≡ getD (byColour p) c 0
+        at-other c l n =
+            mask-ext (getD old c 0) (getD (byColour p) c 0)
+            (λ e. sym (recorded-bit c e l ∙ and-absorb (has (getD old c 0) e) (not (isQuiet p e)) (recorded-loud c e l n)))
+
+        at : (c : ℕ) → c < 9 → Dec (c ≡ 8) → Dec (c ≡ 0) → getD after c 0 ≡ getD (byColour p) c 0
+        at c h (yes q) z = ap (λ (c : ℕ). getD after c 0) q ∙ getD-set-same taken 8 (p .quiet) 0 (omega (arith, taken-long)) ∙ sym quiet-table ∙ ap (λ (c : ℕ). getD (byColour p) c 0) (sym q)
+        at c h (no q) (yes z) =
+            getD-set-other taken 8 c (p .quiet) 0 q ∙ ap (λ (c : ℕ). getD taken c 0) z ∙ getD-set-same t 0 (minus (getD t 0 0) (p .quiet)) 0 (omega (arith, t-long))
+            ∙ ap (λ (l : List ℕ). minus (getD l 0 0) (p .quiet)) is ∙ at-zero ∙ ap (λ (c : ℕ). getD (byColour p) c 0) (sym z)
+        at c h (no q) (no z) =
+            getD-set-other taken 8 c (p .quiet) 0 q ∙ getD-set-other t 0 c (minus (getD t 0 0) (p .quiet)) 0 z ∙ ap (λ (l : List ℕ). getD l c 0) is ∙ at-other c (omega arith) z
 
     -- and the verdict, by the family
     pub table-accepts : (t : List ℕ) (f : List Bool) (m c : ℕ) → t ≡ byColour p → f ≡ p .family → c ≡ tableColours t m → getD f c false ≡ accepting p m

@@ -5,19 +5,19 @@ use native.Mathlib.Omega.{arith}
 use native.Mathlib.Nat.{mul-le-mul-right, suc-mul, div-lt-iff-lt-mul}
 use mathlib.Core.Path.{_≡_, refl, sym, ap, _∙_, subst}
 use mathlib.Core.Logic.{_⊎_, inl, inr}
-use mathlib.Core.Bool.{true, false, _&&_}
-use mathlib.Core.List.{List·Memᴰ, List·Memᴰ·head, List·Memᴰ·eq-of-singleton, map}
-use lib.Dec.{ltb, leb}
+use mathlib.Core.Bool.{Bool, true, false, not, _&&_, _||_, false≢true}
+use mathlib.Core.List.{List·Memᴰ, List·Memᴰ·head, List·Memᴰ·not-nil, List·Memᴰ·eq-of-singleton, [], _∷_, map}
+use lib.Dec.{eqb, ltb, leb}
 use lib.Arith.{digits-div}
-use Rattle.lists.specs.Lists.{flat, below}
-use Rattle.lists.proofs.Bools.{test, and-l, and-r, both, lt-true, lt-false, le-true}
+use Rattle.lists.specs.Lists.{all, flat, below}
+use Rattle.lists.proofs.Bools.{test, and-l, and-r, both, eqb≡, lt-true, lt-false, le-true}
 use Rattle.lists.proofs.Lists.{all-each, mem-below, flat-mem, mem-flat}
 use Rattle.masks.specs.Masks.{has, inside, members}
-use Rattle.masks.proofs.Bits.{lt-of-bits, inside-all, all-inside}
-use Rattle.masks.proofs.Members.{members-has, members-lt, has-members}
+use Rattle.masks.proofs.Bits.{has-none, lt-of-bits, inside-all, all-inside}
+use Rattle.masks.proofs.Members.{full-lt, members-has, members-lt, has-members}
 use Rattle.masks.proofs.SetOf.{set-has}
 use Rattle.policy.specs.declared.Policy.{Policy}
-use Rattle.policy.specs.Policies.{edges, edgeOf, source, targetOf, colourOf, edgeColours, coloursOf, inFamily, accepting, countsFit, legalCounts, legalEdge, legalEdges, legalFamily, legalGraph, legal}
+use Rattle.policy.specs.Policies.{edges, edgeOf, source, targetOf, colourOf, isQuiet, edgeColours, full, coloursOf, inFamily, accepting, countsFit, legalCounts, legalEdge, legalEdges, uncoloured, legalQuiet, legalFamily, legalGraph, legal}
 
 -- the counts of a legal policy
 pub record Counts (p : Policy) : Type 0 where
@@ -66,17 +66,19 @@ module _ (p : Policy) where
   unfolding legal
   legal-graph h = and-l (legalGraph p) (legalFamily p) h
 
-  pub graph-parts : legalGraph p ≡ true → (legalCounts p ≡ true) × (legalEdges p ≡ true)
+  pub graph-parts : legalGraph p ≡ true → (legalCounts p ≡ true) × (legalEdges p ≡ true) × (legalQuiet p ≡ true)
   unfolding legalGraph
-  graph-parts h = (and-l (legalCounts p) (legalEdges p) h, and-r (legalCounts p) (legalEdges p) h)
+  graph-parts h =
+      let g = and-l (legalCounts p && legalEdges p) (legalQuiet p) h in
+      (and-l (legalCounts p) (legalEdges p) g, and-r (legalCounts p) (legalEdges p) g, and-r (legalCounts p && legalEdges p) (legalQuiet p) h)
 
-  pub legal-parts : legal p ≡ true → (legalCounts p ≡ true) × (legalEdges p ≡ true) × (legalFamily p ≡ true)
+  pub legal-family : legal p ≡ true → legalFamily p ≡ true
   unfolding legal
-  legal-parts h = let g = graph-parts (legal-graph h) in (g .0, g .1, and-r (legalGraph p) (legalFamily p) h)
+  legal-family h = and-r (legalGraph p) (legalFamily p) h
 
-  pub parts-legal : legalCounts p ≡ true → legalEdges p ≡ true → legalFamily p ≡ true → legal p ≡ true
+  pub parts-legal : legalCounts p ≡ true → legalEdges p ≡ true → legalQuiet p ≡ true → legalFamily p ≡ true → legal p ≡ true
   unfolding legal legalGraph
-  parts-legal c e f = both (legalCounts p && legalEdges p) (legalFamily p) (both (legalCounts p) (legalEdges p) c e) f
+  parts-legal c e q f = both (legalCounts p && legalEdges p && legalQuiet p) (legalFamily p) (both (legalCounts p && legalEdges p) (legalQuiet p) (both (legalCounts p) (legalEdges p) c e) q) f
 
   pub graph-counts : legalGraph p ≡ true → Counts p
   graph-counts h = counts (graph-parts h .0)
@@ -122,18 +124,60 @@ module _ (p : Policy) where
   unfolding source edges
   source-lt h e l = div-lt-iff-lt-mul (legal-counts h .letters-some) .1 l
 
-  -- ---- the colours of an edge
+  -- ---- quiet edges
+  pub graph-quiet-lt : legalGraph p ≡ true → (e : ℕ) → isQuiet p e ≡ true → e < edges p
+  unfolding legalQuiet full isQuiet
+  graph-quiet-lt h e q = full-lt (edges p) e (inside-all (p .quiet) (full p) (and-l (inside (p .quiet) (full p)) (all (uncoloured p) (below 64)) (graph-parts h .2)) e q)
+
+  pub quiet-lt : legal p ≡ true → (e : ℕ) → isQuiet p e ≡ true → e < edges p
+  quiet-lt h = graph-quiet-lt (legal-graph h)
+
+  -- the recorded colour is 0
+  pub quiet-zero : legal p ≡ true → (e : ℕ) → isQuiet p e ≡ true → colourOf p e ≡ 0
+  unfolding legalQuiet uncoloured
+  quiet-zero h e q =
+      let each = and-r (inside (p .quiet) (full p)) (all (uncoloured p) (below 64)) (graph-parts (legal-graph h) .2) in
+      let few : e < 64 = omega (arith, quiet-lt h e q, edges-le h) in
+      eqb≡ (colourOf p e) 0 (go (isQuiet p e) q (all-each (uncoloured p) (below 64) each e (mem-below 64 e few)))
+    where
+      go : (b : Bool) → b ≡ true → not b || eqb (colourOf p e) 0 ≡ true → eqb (colourOf p e) 0 ≡ true
+      go true q t = t
+      go false q t = absurd (false≢true q)
+
+  -- where there is none
+  pub plain-loud : p .quiet ≡ 0 → (e : ℕ) → isQuiet p e ≡ false
+  unfolding isQuiet
+  plain-loud z e = ap (λ (m : ℕ). has m e) z ∙ has-none e
+
+  -- ---- the colours of an edge: its own; none if it is quiet
+  pub quiet-colours : (e : ℕ) → isQuiet p e ≡ true → edgeColours p e ≡ []
+  unfolding edgeColours
+  quiet-colours e q = rw q
+
+  pub loud-colours : (e : ℕ) → isQuiet p e ≡ false → edgeColours p e ≡ colourOf p e ∷ []
+  unfolding edgeColours
+  loud-colours e f = rw f
+
+  -- where no edge is quiet, each has one colour, as in document 01
+  pub plain-colours : p .quiet ≡ 0 → (e : ℕ) → edgeColours p e ≡ colourOf p e ∷ []
+  plain-colours z e = loud-colours e (plain-loud z e)
+
+  pub coloured-loud : (e c : ℕ) → List·Memᴰ c (edgeColours p e) → isQuiet p e ≡ false
+  coloured-loud e c m = go (test (isQuiet p e))
+    where
+      go : (isQuiet p e ≡ true) ⊎ (isQuiet p e ≡ false) → isQuiet p e ≡ false
+      go (inl q) = absurd (List·Memᴰ·not-nil (subst (List·Memᴰ c) (quiet-colours e q) m))
+      go (inr f) = f
+
   pub edge-colour-is : (e c : ℕ) → List·Memᴰ c (edgeColours p e) → c ≡ colourOf p e
-  unfolding edgeColours
-  edge-colour-is e c m = List·Memᴰ·eq-of-singleton m
+  edge-colour-is e c m = List·Memᴰ·eq-of-singleton (subst (List·Memᴰ c) (loud-colours e (coloured-loud e c m)) m)
 
-  pub is-edge-colour : (e c : ℕ) → c ≡ colourOf p e → List·Memᴰ c (edgeColours p e)
-  unfolding edgeColours
-  is-edge-colour e c q = List·Memᴰ·head q
+  pub is-edge-colour : (e c : ℕ) → isQuiet p e ≡ false → c ≡ colourOf p e → List·Memᴰ c (edgeColours p e)
+  is-edge-colour e c f q = subst (List·Memᴰ c) (sym (loud-colours e f)) (List·Memᴰ·head q)
 
-  -- every edge has a colour, so that a non-empty edge set has one
-  pub edge-coloured : (e : ℕ) → (c : ℕ) × List·Memᴰ c (edgeColours p e)
-  edge-coloured e = (colourOf p e, is-edge-colour e (colourOf p e) refl)
+  -- an edge that is not quiet has a colour
+  pub edge-coloured : (e : ℕ) → isQuiet p e ≡ false → (c : ℕ) × List·Memᴰ c (edgeColours p e)
+  edge-coloured e f = (colourOf p e, is-edge-colour e (colourOf p e) f refl)
 
   pub edge-colours-lt : legal p ≡ true → (e c : ℕ) → e < edges p → List·Memᴰ c (edgeColours p e) → c < p .colours
   edge-colours-lt h e c l m = subst (λ (x : ℕ). x < p .colours) (sym (edge-colour-is e c m)) (legal-colour h e l)

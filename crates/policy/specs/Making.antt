@@ -3,10 +3,11 @@ use Prim.Native.Nat.{ℕ}
 use mathlib.Core.Bool.{Bool, true, false}
 use mathlib.Core.List.{List}
 use lib.ListN.{set, replicate}
+use Rattle.masks.specs.Masks.{insert}
 use Rattle.policy.specs.declared.Policy.{Policy}
 use Rattle.policy.specs.declared.Shape.{Shape}
 
--- the policy of these counts, with edges and family all zero
+-- the policy of these counts, with edges and family all zero, and no edge quiet
 unfoldable pub counted : ℕ → ℕ → ℕ → ℕ → Policy
 counted states letters colours initial = record {
   states = states;
@@ -16,11 +17,12 @@ counted states letters colours initial = record {
   target = replicate 64 0;
   colour = replicate 64 0;
   family = replicate 256 false;
+  quiet = 0;
 }
 
 -- the shape of p
 abbrev pub shapeOf : Policy → Shape
-shapeOf p = record { states = p .states; letters = p .letters; colours = p .colours; initial = p .initial }
+shapeOf p = record { states = p .states; letters = p .letters; colours = p .colours; initial = p .initial; quiet = p .quiet }
 
 -- the policy of a shape, with these targets and colours of its edges, and this family
 abbrev pub fromParts : Shape → List ℕ → List ℕ → List Bool → Policy
@@ -32,6 +34,7 @@ fromParts s target colour family = record {
   target = target;
   colour = colour;
   family = family;
+  quiet = s .quiet;
 }
 
 -- the all-zero policy
@@ -40,19 +43,17 @@ zeroPolicy = counted 0 0 0 0
 
 -- p with other targets and colours of its edges, and another family
 unfoldable pub withTables : Policy → List ℕ → List ℕ → List Bool → Policy
-withTables p target colour family = record {
-  states = p .states;
-  letters = p .letters;
-  colours = p .colours;
-  initial = p .initial;
-  target = target;
-  colour = colour;
-  family = family;
-}
+withTables p target colour family = fromParts (shapeOf p) target colour family
 
--- p with a target and a colour at edge e
+-- p with a target and a colour at edge e, which was not quiet
 unfoldable pub withEdge : Policy → ℕ → ℕ → ℕ → Policy
 withEdge p e target colour = withTables p (set (p .target) e target) (set (p .colour) e colour) (p .family)
+
+-- p with a target at edge e, which is quiet
+unfoldable pub withQuiet : Policy → ℕ → ℕ → Policy
+withQuiet p e target =
+    let s : Shape = record { states = p .states; letters = p .letters; colours = p .colours; initial = p .initial; quiet = insert (p .quiet) e } in
+    fromParts s (set (p .target) e target) (set (p .colour) e 0) (p .family)
 
 -- p with a colour set in its family
 unfoldable pub withSet : Policy → ℕ → Policy

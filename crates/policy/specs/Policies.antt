@@ -5,7 +5,7 @@ use mathlib.Core.List.{List, [], _∷_, map}
 use lib.Dec.{eqb, ltb, leb}
 use lib.ListN.{getD}
 use Rattle.lists.specs.Lists.{all, flat, below}
-use Rattle.masks.specs.Masks.{members, setOf}
+use Rattle.masks.specs.Masks.{has, inside, members, setOf}
 use Rattle.policy.specs.declared.Policy.{Policy}
 
 -- states 1 to 16, letters 1 to 8, colours 1 to 8, states times letters at most 64, one initial state
@@ -31,9 +31,13 @@ module _ (p : Policy) where
   unfoldable pub colourOf : ℕ → ℕ
   colourOf e = getD (p .colour) e 0
 
+  -- a quiet edge has no colour
+  unfoldable pub isQuiet : ℕ → Bool
+  isQuiet e = has (p .quiet) e
+
   -- the colours that reading an edge meets
   unfoldable pub edgeColours : ℕ → List ℕ
-  edgeColours e = colourOf e ∷ []
+  edgeColours e = cond (isQuiet e) [] (colourOf e ∷ [])
 
   -- ---- edge sets
   -- all edges
@@ -56,23 +60,31 @@ module _ (p : Policy) where
   unfoldable pub legalCounts : Bool
   legalCounts = countsFit (p .states) (p .letters) (p .colours) (p .initial)
 
-  -- an edge leads to a state and has a colour; past the last edge both are 0
+  -- an edge leads to a state and has a recorded colour; past the last edge both are 0
   unfoldable pub legalEdge : ℕ → Bool
   legalEdge e = cond (ltb e edges) (ltb (targetOf e) (p .states) && ltb (colourOf e) (p .colours)) (eqb (targetOf e) 0 && eqb (colourOf e) 0)
 
   unfoldable pub legalEdges : Bool
   legalEdges = all legalEdge (below 64)
 
-  -- no member of the family is empty or outside the colours
+  -- the recorded colour of a quiet edge is 0
+  unfoldable pub uncoloured : ℕ → Bool
+  uncoloured e = not (isQuiet e) || eqb (colourOf e) 0
+
+  -- nothing past the last edge is quiet
+  unfoldable pub legalQuiet : Bool
+  legalQuiet = inside (p .quiet) full && all uncoloured (below 64)
+
+  -- no member of the family is outside the colours
   unfoldable pub legalSet : ℕ → Bool
-  legalSet s = not (inFamily s) || (ltb 0 s && ltb s (2 ^ p .colours))
+  legalSet s = not (inFamily s) || ltb s (2 ^ p .colours)
 
   unfoldable pub legalFamily : Bool
   legalFamily = all legalSet (below 256)
 
   -- all but the family
   unfoldable pub legalGraph : Bool
-  legalGraph = legalCounts && legalEdges
+  legalGraph = legalCounts && legalEdges && legalQuiet
 
   unfoldable pub legal : Bool
   legal = legalGraph && legalFamily

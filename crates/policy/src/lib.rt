@@ -1,12 +1,13 @@
 // A policy: a deterministic Muller automaton with 1 to 16 states, 1 to 8 letters, 1 to 8 colours and at most 64 edges.
-// Edge number = state times letters plus letter. Entries past the last edge are 0. family[s] says whether the colour set s is in the family.
+// Edge number = state times letters plus letter. Entries past the last edge are 0. family[s] says whether the colour set s is in the family. The quiet edges, a set, have no
+// colour, and a recorded colour of 0.
 ghost use mathlib.Core.Path.{_≡_};
 ghost use Prim.Native.Nat.{_≤_};
 ghost use mathlib.Core.Bool.{true};
 ghost use lib.ListN.{replicate};
 ghost use Rattle.policy.specs.ByColour.{byColour, tableEdges, tableColours};
 ghost use Rattle.policy.specs.Making.{counted, shapeOf, fromParts};
-ghost use Rattle.policy.specs.Policies.{accepting, countsFit, edges, legal, legalCounts, legalEdges, legalFamily, legalGraph};
+ghost use Rattle.policy.specs.Policies.{accepting, countsFit, edges, legal, legalCounts, legalEdges, legalFamily, legalGraph, legalQuiet};
 
 pub struct Policy {
     pub states: u8,
@@ -16,14 +17,16 @@ pub struct Policy {
     pub target: [u8; 64],
     pub colour: [u8; 64],
     pub family: [bool; 256],
+    pub quiet: u64,
 }
 
-// A policy's counts, and the state begun in.
+// What of a policy is passed by value: its counts, the state begun in, and the quiet edges.
 pub struct Shape {
     pub states: u8,
     pub letters: u8,
     pub colours: u8,
     pub initial: u8,
+    pub quiet: u64,
 }
 
 // How many edges there are.
@@ -35,9 +38,10 @@ pub fn edges(p: Policy) -> usize
 
 // ---- the edges by colour
 
-// The edges of each colour, in a table that is all 0. A table that is given back by value may be copied.
-pub fn collect_by_colour(p: Policy, colours: &[u8; 64], t: &mut [u64; 8])
-    requires { ⌜ (legal p ≡ true) × (now colours ≡ p .colour) × (now t ≡ replicate 8 0) ⌝ }
+// The edges of each colour, and the quiet ones, in a table that is all 0. A quiet edge has the recorded colour 0, so it is taken from there in the end. A table that is given
+// back by value may be copied.
+pub fn collect_by_colour(p: Policy, colours: &[u8; 64], t: &mut [u64; 9])
+    requires { ⌜ (legal p ≡ true) × (now colours ≡ p .colour) × (now t ≡ replicate 9 0) ⌝ }
     ensures { λ _. ⌜ now (t .exit) ≡ byColour p ⌝ }
 {
     let n = edges(p);
@@ -45,23 +49,25 @@ pub fn collect_by_colour(p: Policy, colours: &[u8; 64], t: &mut [u64; 8])
         let c = colours[e] as usize;
         t[c] = masks::with(t[c], e);
     }
+    t[0] = masks::without(t[0], p.quiet);
+    t[8] = p.quiet;
 }
 
 // The same by value.
-pub fn by_colour(p: Policy, colours: &[u8; 64]) -> [u64; 8]
+pub fn by_colour(p: Policy, colours: &[u8; 64]) -> [u64; 9]
     requires { ⌜ (legal p ≡ true) × (now colours ≡ p .colour) ⌝ }
     ensures { λ r. ⌜ r ≡ byColour p ⌝ }
 {
-    let mut t = [0u64; 8];
+    let mut t = [0u64; 9];
     collect_by_colour(p, colours, &mut t);
     t
 }
 
-// The edges of a colour set, by such a table.
-pub fn edges_in(t: &[u64; 8], c: u8) -> u64
+// The edges whose colours lie in a colour set, by such a table.
+pub fn edges_in(t: &[u64; 9], c: u8) -> u64
     ensures { λ r. ⌜ r ≡ tableEdges (now (t .entry)) c ⌝ }
 {
-    let mut m: u64 = 0;
+    let mut m = t[8];
     for k in 0..8u8 {
         if masks::set_has(c, k) {
             m = masks::either(m, t[k as usize]);
@@ -71,7 +77,7 @@ pub fn edges_in(t: &[u64; 8], c: u8) -> u64
 }
 
 // The colours of an edge set, by such a table.
-pub fn colours_in(t: &[u64; 8], m: u64) -> u8
+pub fn colours_in(t: &[u64; 9], m: u64) -> u8
     ensures { λ r. ⌜ r ≡ tableColours (now (t .entry)) m ⌝ }
 {
     let mut s: u8 = 0;
@@ -82,7 +88,7 @@ pub fn colours_in(t: &[u64; 8], m: u64) -> u8
 }
 
 // The verdict of an edge set, by such a table and the family.
-pub fn accepts(p: Policy, by: &[u64; 8], family: &[bool; 256], m: u64) -> bool
+pub fn accepts(p: Policy, by: &[u64; 9], family: &[bool; 256], m: u64) -> bool
     requires { ⌜ (legal p ≡ true) × (now by ≡ byColour p) × (now family ≡ p .family) ⌝ }
     ensures { λ r. ⌜ r ≡ accepting p m ⌝ }
 {
@@ -92,7 +98,7 @@ pub fn accepts(p: Policy, by: &[u64; 8], family: &[bool; 256], m: u64) -> bool
 
 // ---- making a policy
 
-// The policy of these counts, with edges and family all zero.
+// The policy of these counts, with edges and family all zero, and no edge quiet.
 pub fn counted(states: u8, letters: u8, colours: u8, initial: u8) -> Policy
     ensures { λ r. ⌜ r ≡ counted states letters colours initial ⌝ }
 {
@@ -104,6 +110,7 @@ pub fn counted(states: u8, letters: u8, colours: u8, initial: u8) -> Policy
         target: [0; 64],
         colour: [0; 64],
         family: [false; 256],
+        quiet: 0,
     }
 }
 
@@ -116,6 +123,7 @@ pub fn shape_of(p: Policy) -> Shape
         letters: p.letters,
         colours: p.colours,
         initial: p.initial,
+        quiet: p.quiet,
     }
 }
 
@@ -137,6 +145,7 @@ pub fn from_parts(
         target: *heads,
         colour: *colours,
         family: *family,
+        quiet: shape.quiet,
     }
 }
 
@@ -163,7 +172,7 @@ fn has_legal_counts(p: Policy) -> bool
     counts_fit(p.states, p.letters, p.colours, p.initial)
 }
 
-// Whether every edge leads to a state and has a colour, and every entry past the last edge is 0. Numbers of one byte throughout, so that many edges are looked at together.
+// Whether every edge leads to a state and has a recorded colour, and every entry past the last edge is 0. Numbers of one byte throughout, so that many edges are looked at together.
 fn has_legal_edges(p: Policy) -> bool
     requires { ⌜ edges p ≤ 64 ⌝ }
     ensures { λ r. ⌜ r ≡ legalEdges p ⌝ }
@@ -178,13 +187,28 @@ fn has_legal_edges(p: Policy) -> bool
     b
 }
 
-// Whether the family has neither the empty set nor one outside the colours. In two parts, so that what is looked at together was written together.
+// Whether every quiet edge has the recorded colour 0, and nothing past the last edge is quiet. Most policies have no quiet edge.
+fn has_legal_quiet(p: Policy) -> bool
+    requires { ⌜ edges p ≤ 64 ⌝ }
+    ensures { λ r. ⌜ r ≡ legalQuiet p ⌝ }
+{
+    if p.quiet == 0 {
+        return true;
+    }
+    let mut b = masks::inside(p.quiet, masks::full(edges(p)));
+    for e in 0..64 {
+        b = b & (!masks::has(p.quiet, e) | (p.colour[e] == 0));
+    }
+    b
+}
+
+// Whether the family has no set outside the colours. In two parts, so that what is looked at together was written together.
 fn has_legal_family(p: Policy) -> bool
     requires { ⌜ p .colours ≤ 8 ⌝ }
     ensures { λ r. ⌜ r ≡ legalFamily p ⌝ }
 {
     let top: usize = 1 << p.colours;
-    let mut b = !p.family[0];
+    let mut b = true;
     let from = if top < 16 { 16 } else { top };
     for s in top..from {
         b = b & !p.family[s];
@@ -200,7 +224,7 @@ pub fn is_legal_graph(p: Policy) -> bool
     ensures { λ r. ⌜ r ≡ legalGraph p ⌝ }
 {
     if has_legal_counts(p) {
-        return has_legal_edges(p);
+        return has_legal_edges(p) & has_legal_quiet(p);
     }
     false
 }
@@ -210,7 +234,7 @@ pub fn is_legal(p: Policy) -> bool
     ensures { λ r. ⌜ r ≡ legal p ⌝ }
 {
     if has_legal_counts(p) {
-        return has_legal_edges(p) & has_legal_family(p);
+        return has_legal_edges(p) & has_legal_quiet(p) & has_legal_family(p);
     }
     false
 }

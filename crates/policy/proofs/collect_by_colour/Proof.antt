@@ -1,4 +1,4 @@
--- `collect_by_colour` meets its contract: t has the edges passed, by colour. Assumes nothing.
+-- `collect_by_colour` meets its contract: t has the edges passed, by recorded colour. Assumes nothing.
 use Prim.Native.Nat.{ℕ, _-_, _≤_, _<_}
 use native.Mathlib.Omega.{arith}
 use native.Mathlib.Nat.{le-antisymm}
@@ -9,15 +9,15 @@ use borrow.Author.Needs.{needs}
 use Rattle.policy.specs.Policies.{colourOf}
 use Rattle.policy.specs.ByColour.{byColourTo}
 use Rattle.policy.proofs.Laws.{edges-le}
-use Rattle.policy.proofs.ByColour.{by-none, by-more, by-all, colour-few}
+use Rattle.policy.proofs.ByColour.{by-none, by-more, table-made, colour-few}
 use Rattle.policy.proofs.collect_by_colour.Statement.{statement}
 use Rattle.policy.proofs.collect_by_colour.Tie as tie
 
 abbrev Inv-loop : tie.InvT-loop
-Inv-loop colours t₀ n e₀ t e = (e ≤ n) × (t ≡ byColourTo colours e)
+Inv-loop p colours t₀ n e₀ t e = (e ≤ n) × (t ≡ byColourTo colours e)
 
 abbrev μ-loop : tie.MeasureT-loop
-μ-loop colours t₀ n e₀ t e = n - e
+μ-loop p colours t₀ n e₀ t e = n - e
 
 edges-requires : tie.Need-edges-requires Inv-loop μ-loop
 edges-requires c κs = search needs
@@ -43,7 +43,7 @@ mul-with : tie.Need-mul-with Inv-loop μ-loop
 mul-with c = omega (arith, few (c .before))
 
 element-copy-out-with : tie.Need-element-copy-out-with Inv-loop μ-loop
-element-copy-out-with c = few (c .before)
+element-copy-out-with c = omega (arith, few (c .before))
 
 with-requires : tie.Need-with-requires Inv-loop μ-loop
 with-requires c κs = let s = c .before .before .before .before .before in omega (arith, edges-le (s .args .p) (s .pre .0))
@@ -52,7 +52,7 @@ mul-t : tie.Need-mul-t Inv-loop μ-loop
 mul-t c = omega (arith, few (c .before .before .before))
 
 element-write-t : tie.Need-element-write-t Inv-loop μ-loop
-element-write-t c = few (c .before .before .before)
+element-write-t c = omega (arith, few (c .before .before .before))
 
 add-e : tie.Need-add-e Inv-loop μ-loop
 add-e c = omega arith
@@ -61,12 +61,26 @@ loop-less : tie.Need-loop-less Inv-loop μ-loop
 loop-less c = omega arith
 
 loop-again : tie.Need-loop-again Inv-loop μ-loop
-loop-again c = (omega arith, cc (by-more (c .before .before .before .before .before .before .args .colours .now) (c .before .before .before .before .loop .e) (few (c .before .before .before))))
+loop-again c = (omega arith, cc (by-more (c .before .before .before .before .before .before .args .colours .now) (c .before .before .before .before .loop .e) (omega (arith, few (c .before .before .before)))))
+
+element-copy-out-without : tie.Need-element-copy-out-without Inv-loop μ-loop
+element-copy-out-without c = search needs
+
+without-requires : tie.Need-without-requires Inv-loop μ-loop
+without-requires c κs = search needs
+
+element-write-t-2 : tie.Need-element-write-t-2 Inv-loop μ-loop
+element-write-t-2 c = search needs
+
+element-write-t-3 : tie.Need-element-write-t-3 Inv-loop μ-loop
+element-write-t-3 c = search needs
 
 returns : tie.Need-returns Inv-loop μ-loop
 returns c =
-    let s = c .before .before .before in
-    cc (by-all (s .args .p) (s .args .colours .now) (c .before .loop .e) (s .pre .1) (le-antisymm (c .before .loop .inv .0) (c .loop-test .left) ∙ c .before .before .edges .ensures))
+    let d = c .before .before .before in
+    let s = d .before .before in
+    let done = le-antisymm (d .loop .inv .0) (c .before .before .loop-test .left) ∙ d .before .edges .ensures in
+    cc (c .without .ensures, table-made (s .args .p) (s .pre .0) (d .loop .t) (s .args .colours .now) (d .loop .e) (s .pre .1) done (d .loop .inv .1))
 
 pub collect-by-colour-spec : {M : Type 1} → statement M
 collect-by-colour-spec =
@@ -86,4 +100,8 @@ collect-by-colour-spec =
     add-e
     loop-less
     loop-again
+    element-copy-out-without
+    without-requires
+    element-write-t-2
+    element-write-t-3
     returns)

@@ -1,4 +1,4 @@
--- `edges_in` meets its contract: m has the edges of the colours passed. Assumes nothing.
+-- `edges_in` meets its contract: m has the quiet edges, and those of the colours passed. Assumes nothing.
 use Prim.Native.Nat.{_-_, _≤_}
 use native.Mathlib.Omega.{arith}
 use native.Mathlib.Nat.{le-antisymm}
@@ -16,8 +16,11 @@ Inv-loop t c m₀ k₀ m k = (k ≤ 8) × (m ≡ tableEdgesTo t k c)
 abbrev μ-loop : tie.MeasureT-loop
 μ-loop t c m₀ k₀ m k = 8 - k
 
+element-copy-out-m : tie.Need-element-copy-out-m Inv-loop μ-loop
+element-copy-out-m c = search needs
+
 loop-holds : tie.Need-loop-holds Inv-loop μ-loop
-loop-holds c = (omega arith, sym (edges-none (c .args .t .now) (c .args .c)))
+loop-holds c = (omega arith, sym (edges-none (c .before .args .t .now) (c .before .args .c)))
 
 set-has-requires : tie.Need-set-has-requires Inv-loop μ-loop
 set-has-requires c κs = omega arith
@@ -43,8 +46,8 @@ loop-less c = omega arith
 loop-again : tie.Need-loop-again Inv-loop μ-loop
 loop-again c =
     let d = c .before .before in
-    let t = d .before .before .args .t .now in
-    let s = d .before .before .args .c in
+    let t = d .before .before .before .args .t .now in
+    let s = d .before .before .before .args .c in
     let k = d .before .loop .k in
     let h = c .before .set-has .ensures in
     (omega arith, ⊎-elim (λ w. cc (edges-with t k s (sym h ∙ w .0 .taken))) (λ w. cc (edges-without t k s (sym h ∙ w .0 .left))) (c .if1 .came))
@@ -59,6 +62,7 @@ edges-in-spec =
     (tie.spec
     Inv-loop
     μ-loop
+    element-copy-out-m
     loop-holds
     set-has-requires
     cast-either

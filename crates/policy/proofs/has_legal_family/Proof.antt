@@ -1,4 +1,4 @@
--- `has_legal_family` meets its contract: b says whether every set passed is legal. The loops start past the sets of the colours, of which only the empty one is wrong. Assumes nothing.
+-- `has_legal_family` meets its contract: b says whether every set passed is legal. The loops start past the sets of the colours. Assumes nothing.
 use Prim.Native.Nat.{ℕ, _-_, _^_, _≤_}
 use native.Mathlib.Omega.{arith}
 use native.Mathlib.Nat.{le-antisymm}
@@ -32,23 +32,20 @@ cast-top c = search needs
 shl-top : tie.Need-shl-top Inv-loop μ-loop Inv-loop2 μ-loop2
 shl-top c = search needs
 
-element-copy-out-b : tie.Need-element-copy-out-b Inv-loop μ-loop Inv-loop2 μ-loop2
-element-copy-out-b c = search needs
-
 loop-holds : tie.Need-loop-holds Inv-loop μ-loop Inv-loop2 μ-loop2
 unfolding inFamily
 loop-holds c =
-    let p = c .before .before .args .t1 in
-    let top = shl-one 64 (p .colours) (omega (arith, c .before .before .pre)) in
-    let few = pow-mono (c .before .before .pre) in (
+    let p = c .before .args .t1 in
+    let top = shl-one 64 (p .colours) (omega (arith, c .before .pre)) in
+    let few = pow-mono (c .before .pre) in (
       omega (arith, top),
       ⊎-elim (λ w. omega (arith, w .0 .taken, w .1)) (λ w. omega (arith, w .1)) (c .if1 .came),
       ⊎-elim (λ w. omega (arith, w .1)) (λ w. omega (arith, top, few, w .1)) (c .if1 .came),
       legal-sets-within p _ top,
     )
 
-element-copy-out-b-2 : tie.Need-element-copy-out-b-2 Inv-loop μ-loop Inv-loop2 μ-loop2
-element-copy-out-b-2 c = omega arith
+element-copy-out-b : tie.Need-element-copy-out-b Inv-loop μ-loop Inv-loop2 μ-loop2
+element-copy-out-b c = omega arith
 
 add-s : tie.Need-add-s Inv-loop μ-loop Inv-loop2 μ-loop2
 add-s c = omega arith
@@ -60,7 +57,7 @@ loop-again : tie.Need-loop-again Inv-loop μ-loop Inv-loop2 μ-loop2
 unfolding inFamily
 loop-again c =
     let d = c .before .before in
-    let p = d .before .before .before .args .t1 in (
+    let p = d .before .before .args .t1 in (
       omega arith,
       omega arith,
       d .loop .inv .2,
@@ -70,12 +67,12 @@ loop-again c =
 loop2-holds : tie.Need-loop2-holds Inv-loop μ-loop Inv-loop2 μ-loop2
 loop2-holds c =
     let d = c .before in
-    let p = d .before .before .before .args .t1 in
+    let p = d .before .before .args .t1 in
     let done = le-antisymm (d .loop .inv .1) (c .loop-test .left) in
     (omega (arith, d .loop .inv .0), d .loop .inv .2, d .loop .inv .3 ∙ ap (λ (s : ℕ). all (legalSet p) (below s)) done)
 
-element-copy-out-b-3 : tie.Need-element-copy-out-b-3 Inv-loop μ-loop Inv-loop2 μ-loop2
-element-copy-out-b-3 c = omega arith
+element-copy-out-b-2 : tie.Need-element-copy-out-b-2 Inv-loop μ-loop Inv-loop2 μ-loop2
+element-copy-out-b-2 c = omega arith
 
 add-s-2 : tie.Need-add-s-2 Inv-loop μ-loop Inv-loop2 μ-loop2
 add-s-2 c = omega arith
@@ -87,7 +84,7 @@ loop2-again : tie.Need-loop2-again Inv-loop μ-loop Inv-loop2 μ-loop2
 unfolding inFamily
 loop2-again c =
     let d = c .before .before .before in
-    let p = d .before .before .before .before .before .args .t1 in
+    let p = d .before .before .before .before .args .t1 in
     (omega arith, omega arith, all-turn (legalSet p) (d .loop2 .s) _ _ (d .loop2 .inv .2) (sym (legal-set-outside p (d .loop2 .s) (d .loop2 .inv .0))))
 
 returns : tie.Need-returns Inv-loop μ-loop Inv-loop2 μ-loop2
@@ -104,14 +101,13 @@ has-legal-family-spec =
     μ-loop2
     cast-top
     shl-top
-    element-copy-out-b
     loop-holds
-    element-copy-out-b-2
+    element-copy-out-b
     add-s
     loop-less
     loop-again
     loop2-holds
-    element-copy-out-b-3
+    element-copy-out-b-2
     add-s-2
     loop2-less
     loop2-again
