@@ -5,7 +5,7 @@ use native.Mathlib.Nat.{mul-le-mul-right, mul-comm, suc-mul}
 use native.Mathlib.Numerals.{add-one}
 use mathlib.Core.Path.{_≡_, refl, sym, ap, ap₂, _∙_, subst}
 use mathlib.Core.Logic.{_⊎_, inl, inr, _≢_}
-use mathlib.Core.Bool.{Bool, true, false, not, cond, false≢true}
+use mathlib.Core.Bool.{Bool, true, false, not, _&&_, cond, false≢true}
 use mathlib.Core.List.{List, [], _∷_, _++_, map, append-nil, List·Memᴰ}
 use lib.Bits.{bitAnd, bitOr, or-zero-r}
 use lib.Dec.{eqb}
@@ -13,7 +13,7 @@ use lib.ListN.{length, take, getD, set}
 use lib.Pow.{pow-mono}
 use lib.Seq.{take-suc}
 use Rattle.lists.specs.Lists.{filter, flat, below}
-use Rattle.lists.proofs.Bools.{≡eqb, neqb, bool-ext, same-or-not, differs-other, differs-same}
+use Rattle.lists.proofs.Bools.{eqb≡, ≡eqb, neqb, and-l, and-r, bool-ext, same-or-not, differs-other, differs-same}
 use Rattle.lists.proofs.Lists.{flat-next, none-mem}
 use Rattle.lists.proofs.Filters.{filter-append, filter-all, filter-none, filter-same}
 use Rattle.lists.specs.Bools.{differs}
@@ -24,8 +24,8 @@ use Rattle.masks.proofs.Bits.{has-none, mask-ext, inside-all}
 use Rattle.policy.specs.declared.Policy.{Policy}
 use Rattle.policy.specs.Policies.{edges, coloursOf, inFamily, accepting, legal, full}
 use Rattle.policy.specs.ByColour.{byColour, edgesIn, tableEdges, tableColours}
-use Rattle.policy.proofs.Laws.{legal-counts, accepting-is, edge-coloured}
-use Rattle.policy.proofs.ByColour.{edges-in-some, table-edges-are, table-colours-are}
+use Rattle.policy.proofs.Laws.{legal-counts, accepting-is, plain-loud, edge-coloured}
+use Rattle.policy.proofs.ByColour.{edges-in-some, quiet-table, table-edges-are, table-colours-are}
 use Rattle.graph.specs.Through.{cycleThrough}
 use Rattle.graph.proofs.Through.{through-inside}
 use Rattle.candidates.specs.declared.Counts.{Counts}
@@ -189,16 +189,22 @@ module _ (p : Policy) where
     }
 
   -- ---- the candidates of a colour set
-  -- none where the set is empty, since every edge has a colour
-  pub candidates-empty : (c : ℕ) → c ≡ 0 → candidatesOf p c ≡ []
-  candidates-empty c z = none-mem (candidatesOf p c) off
+  -- none where the set is empty and no edge is quiet, since every edge has a colour then
+  pub candidates-empty : legal p ≡ true → (by : List ℕ) (c : ℕ) → by ≡ byColour p → eqb c 0 && eqb (getD by 8 0) 0 ≡ true → candidatesOf p c ≡ []
+  candidates-empty lawful by c eq both = none-mem (candidatesOf p c) off
     where
+      z : c ≡ 0
+      z = eqb≡ c 0 (and-l (eqb c 0) (eqb (getD by 8 0) 0) both)
+
+      plain : p .quiet ≡ 0
+      plain = sym (quiet-table p lawful) ∙ ap (λ (l : List ℕ). getD l 8 0) (sym eq) ∙ eqb≡ (getD by 8 0) 0 (and-r (eqb c 0) (eqb (getD by 8 0) 0) both)
+
       m : ℕ
       m = edgesIn p c
 
       edge : (e : ℕ) → has m e ≡ true → ⊥
       edge e h =
-          let d = edge-coloured p e in
+          let d = edge-coloured p e (plain-loud p plain e) in
           false≢true (sym (has-none (d .0)) ∙ ap (λ (k : ℕ). has k (d .0)) (sym z) ∙ edges-in-some p c e h .1 (d .0) (d .1))
 
       none : (x : ℕ) → inside x m ≡ true → x ≡ 0

@@ -94,7 +94,7 @@ fn fill_cycles(
 
 // Those of the first n cycles whose colours by the table are exactly c, after the first `at` masks of a list.
 fn append_kept(
-    by: &[u64; 8],
+    by: &[u64; 9],
     c: u8,
     cycles: &[u64; 16],
     n: usize,
@@ -118,7 +118,7 @@ fn append_kept(
 
 // The same, in the list of the verdict of c.
 fn append_judged(
-    by: &[u64; 8],
+    by: &[u64; 9],
     c: u8,
     verdict: bool,
     cycles: &[u64; 16],
@@ -147,12 +147,13 @@ fn append_judged(
 }
 
 // The candidates of the colour set c, after those listed so far. Only the edges on cycles count: there are none where c
-// is empty or has a colour that is on no such edge, and where c has all their colours, the largest cycles are the roots.
+// has a colour that is on no such edge, or is empty and no edge is quiet; and where c has all their colours, the largest
+// cycles are the roots.
 // The rows and the cycles are space that is lent.
 fn list_set(
     p: Policy,
     heads: &[u8; 64],
-    by: &[u64; 8],
+    by: &[u64; 9],
     family: &[bool; 256],
     cyclic: u64,
     used: u8,
@@ -167,7 +168,7 @@ fn list_set(
     requires { ⌜ Ready p (now heads) (now by) (now family) cyclic used (now roots) (listed .roots) × (length (now rows) ≡ 16) × (length (now cycles) ≡ 16) × (listed .accepting + p .states ≤ length (now accepting)) × (listed .rejecting + p .states ≤ length (now rejecting)) ⌝ }
     ensures { λ r. ⌜ Put (inFamily p c) (candidatesOf p c) (now (accepting .entry)) (now (accepting .exit)) (now (rejecting .entry)) (now (rejecting .exit)) listed r × (length (now (rows .exit)) ≡ 16) × (length (now (cycles .exit)) ≡ 16) ⌝ }
 {
-    if c == 0 {
+    if (c == 0) & (by[8] == 0) {
         return listed;
     }
     if masks::set_inside(c, used) {
@@ -211,13 +212,13 @@ fn set_count(p: Policy) -> usize
 }
 
 // The candidates of a policy by verdict, each list by falling masks of their colours and then by their lowest states; and
-// the candidates for a root. Places past them stay. `by` has the edges of each colour. It is copied: the compiler reads
+// the candidates for a root. Places past them stay. `by` has the edges of each colour, and the quiet ones. It is copied: the compiler reads
 // all of the copy beforehand, so that the edges of a colour set come of it without a branch. This is an inner layer: its
 // callers have asked whether the policy is legal, and lend enough places.
 pub fn fill_candidates(
     p: Policy,
     heads: &[u8; 64],
-    by: &[u64; 8],
+    by: &[u64; 9],
     family: &[bool; 256],
     accepting: &mut [u64],
     rejecting: &mut [u64],

@@ -29,14 +29,14 @@ scratch-fewer {p} {n} {k} s h = record { long = omega (arith, s .long, mul-le-mu
 pub space-enough : {p : Policy} {n k : ℕ} {a r scratch : List ℕ} → CandidateScratch p n a r scratch → k ≤ n → CandidateScratch p k a r scratch
 space-enough s h = record { accepting-long = omega (arith, s .accepting-long); rejecting-long = omega (arith, s .rejecting-long); scratch-is = scratch-fewer (s .scratch-is) h }
 
--- fresh lists of n places, and ten times as many of scratch
-pub space-of : (p : Policy) → legal p ≡ true → (n : ℕ) {a r scratch : List ℕ} → length a ≡ n → length r ≡ n → scratch ≡ replicate (10 * n) 0 → CandidateScratch p (length a) a r scratch
+-- fresh lists of n places, and eleven times as many of scratch
+pub space-of : (p : Policy) → legal p ≡ true → (n : ℕ) {a r scratch : List ℕ} → length a ≡ n → length r ≡ n → scratch ≡ replicate (11 * n) 0 → CandidateScratch p (length a) a r scratch
 space-of p lawful n {a} {r} {scratch} ea er es = record {
   accepting-long = omega arith;
   rejecting-long = omega arith;
   scratch-is = record {
-    long = omega (arith, ap length es, length-replicate {A = ℕ} (10 * n) 0, ap (λ (k : ℕ). mostLevels p * k) ea, mul-le-mul-right n (most-levels-few p lawful));
-    none = λ i. ap (λ (l : List ℕ). getD l i 0) es ∙ replicate-at (10 * n) i 0;
+    long = omega (arith, ap length es, length-replicate {A = ℕ} (11 * n) 0, ap (λ (k : ℕ). mostLevels p * k) ea, mul-le-mul-right n (most-levels-few p lawful));
+    none = λ i. ap (λ (l : List ℕ). getD l i 0) es ∙ replicate-at (11 * n) i 0;
   };
 }
 

@@ -27,7 +27,7 @@ fn fill_with(
     shape: Shape,
     heads: &[u8; 64],
     colours: &[u8; 64],
-    by: &[u64; 8],
+    by: &[u64; 9],
     family: &[bool; 256],
     accepting: &mut [u64],
     rejecting: &mut [u64],
@@ -75,7 +75,7 @@ fn fill_within(
     shape: Shape,
     heads: &[u8; 64],
     colours: &[u8; 64],
-    by: &[u64; 8],
+    by: &[u64; 9],
     family: &[bool; 256],
     accepting: &mut [u64],
     rejecting: &mut [u64],
@@ -109,7 +109,7 @@ fn fill_within(
     if most <= 256 {
         let mut more_accepting = [0u64; 256];
         let mut more_rejecting = [0u64; 256];
-        let mut more_scratch = [0u16; 2560];
+        let mut more_scratch = [0u16; 2816];
         return fill_within(
             shape,
             heads,
@@ -131,7 +131,7 @@ fn fill_large(
     shape: Shape,
     heads: &[u8; 64],
     colours: &[u8; 64],
-    by: &[u64; 8],
+    by: &[u64; 9],
     family: &[bool; 256],
     masks: &mut [u64],
     parents: &mut [u16],
@@ -144,7 +144,7 @@ fn fill_large(
 {
     let mut accepting = [0u64; 4096];
     let mut rejecting = [0u64; 4096];
-    let mut scratch = [0u16; 40960];
+    let mut scratch = [0u16; 45056];
     fill_within(
         shape,
         heads,
@@ -165,7 +165,7 @@ pub fn fill_columns(
     p: Policy,
     heads: &[u8; 64],
     colours: &[u8; 64],
-    by: &[u64; 8],
+    by: &[u64; 9],
     family: &[bool; 256],
     masks: &mut [u64],
     parents: &mut [u16],
@@ -178,7 +178,7 @@ pub fn fill_columns(
     let shape = policy::shape_of(p);
     let mut accepting = [0u64; 32];
     let mut rejecting = [0u64; 32];
-    let mut scratch = [0u16; 320];
+    let mut scratch = [0u16; 352];
     if most_candidates(p) <= 32 {
         return fill_with(
             shape,

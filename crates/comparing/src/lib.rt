@@ -51,7 +51,7 @@ fn has_same_graph(p: Policy, q: Policy, heads: &[u8; 64], others: &[u8; 64]) -> 
 // ---- one pair of colour sets: t and u are the edges of p and of q by colour
 
 // Whether m has exactly the colours c in p and exactly d in q.
-fn has_exactly(t: &[u64; 8], u: &[u64; 8], c: u8, d: u8, m: u64) -> bool
+fn has_exactly(t: &[u64; 9], u: &[u64; 9], c: u8, d: u8, m: u64) -> bool
     ensures { λ r. ⌜ r ≡ exactlyBy (now (t .entry)) (now (u .entry)) c d m ⌝ }
 {
     (policy::colours_in(t, m) == c) & (policy::colours_in(u, m) == d)
@@ -64,8 +64,8 @@ fn has_no_cycle_at(
     q: Policy,
     heads: &[u8; 64],
     rows: &[u64; 16],
-    t: &[u64; 8],
-    u: &[u64; 8],
+    t: &[u64; 9],
+    u: &[u64; 9],
     c: u8,
     d: u8,
     m: u64,
@@ -87,8 +87,8 @@ fn has_no_cycle(
     q: Policy,
     heads: &[u8; 64],
     rows: &mut [u64; 16],
-    t: &[u64; 8],
-    u: &[u64; 8],
+    t: &[u64; 9],
+    u: &[u64; 9],
     c: u8,
     d: u8,
 ) -> bool
@@ -109,8 +109,8 @@ fn has_no_cycle(
 // Whether the verdicts differ, and the edges with these colours have all of them; where they have not, there is no cycle with exactly these. m is the edges of p in the
 // colours c, used their colours in q, and verdict that of c; family is q's.
 fn needs_search(
-    t: &[u64; 8],
-    u: &[u64; 8],
+    t: &[u64; 9],
+    u: &[u64; 9],
     family: &[bool; 256],
     verdict: bool,
     m: u64,
@@ -148,8 +148,8 @@ fn set_agrees(
     heads: &[u8; 64],
     family: &[bool; 256],
     rows: &mut [u64; 16],
-    t: &[u64; 8],
-    u: &[u64; 8],
+    t: &[u64; 9],
+    u: &[u64; 9],
     c: u8,
     verdict: bool,
 ) -> bool

@@ -21,7 +21,7 @@ pub enum Filled {
 }
 
 // The priority of a root goes by its verdict, where priorities begin at 0.
-fn root_priority(p: Policy, by: &[u64; 8], family: &[bool; 256], m: u64) -> u8
+fn root_priority(p: Policy, by: &[u64; 9], family: &[bool; 256], m: u64) -> u8
     requires lawful { ⌜ legal p ≡ true ⌝ }
     requires lent { ⌜ (now by ≡ byColour p) × (now family ≡ p .family) ⌝ }
     ensures { λ r. ⌜ r ≡ cond (accepting p m) 0 1 ⌝ }
@@ -72,7 +72,7 @@ struct Beginning {
 // is the greatest height before them. Priorities begin at 0 exactly if the greatest height is odd.
 fn number_from_zero(
     p: Policy,
-    by: &[u64; 8],
+    by: &[u64; 9],
     family: &[bool; 256],
     masks: &[u64],
     parents: &[u16],
@@ -140,7 +140,7 @@ fn raise(p: Policy, parents: &[u16], node_priorities: &mut [u8], count: usize)
 // The priorities of all nodes, in a table that is cleared past them. Given back: the lowest of them.
 fn write_priorities(
     p: Policy,
-    by: &[u64; 8],
+    by: &[u64; 9],
     family: &[bool; 256],
     masks: &[u64],
     parents: &[u16],
@@ -179,7 +179,7 @@ pub fn fill_nodes<'a>(
     requires tables { ⌜ (legal p ≡ true) × (length (now parents) ≡ length (now masks)) × (length (now «node_priorities») ≡ length (now masks)) ⌝ }
     ensures { λ r. ⌜ Fills p (nodeTables (now (masks .entry)) (now (parents .entry)) (now («node_priorities» .entry))) r (nodeTables (now (masks .exit)) (now (parents .exit)) (now («node_priorities» .exit))) ⌝ }
 {
-    let mut by = [0u64; 8];
+    let mut by = [0u64; 9];
     policy::collect_by_colour(p, colours, &mut by);
     let count = columns::fill_columns(p, heads, colours, &by, family, masks, parents);
     if tables::places(masks.len()) < count {

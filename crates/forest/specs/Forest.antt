@@ -47,13 +47,17 @@ module _ (p : Policy) where
 
 -- ---- levels
 module _ (p : Policy) where
-  -- how many levels a tree has at most
+  -- one for the empty colour set, if some edge is quiet
+  unfoldable pub quietLevel : ℕ
+  quietLevel = cond (eqb (p .quiet) 0) 0 1
+
+  -- how many levels a tree has at most: as many as there are colours, and one more if some edge is quiet
   unfoldable pub mostLevels : ℕ
-  mostLevels = p .colours
+  mostLevels = p .colours + quietLevel
 
   -- how many there are at most at and below a node with mask m: each level has a colour less
   unfoldable pub levelsLeft : ℕ → ℕ
-  levelsLeft m = ones (coloursOf p m)
+  levelsLeft m = ones (coloursOf p m) + quietLevel
 
 -- an even priority is an accepting node's
 unfoldable pub even : ℕ → Bool

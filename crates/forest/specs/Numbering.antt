@@ -21,7 +21,7 @@ pub record AcceptingMost (p : Policy) (ns : List Node) : Type 0 where
   pub in-tree : List·Memᴰ root (chain ns bottom)
   pub most : (n : ℕ) → n < length ns → node ns n .level ≤ node ns bottom .level
 
--- where a priority lies: from the lowest of all, which is 0 or 1, up to the most levels that a tree can have, the number of colours
+-- where a priority lies: from the lowest of all, which is 0 or 1, up to the most levels that a tree can have
 pub record PriorityBounds (p : Policy) (k : ℕ) : Type 0 where
   pub lowest : transientPriority p ≤ k
   pub most : k ≤ mostLevels p

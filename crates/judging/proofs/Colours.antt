@@ -2,9 +2,9 @@
 use Prim.Native.Nat.{ℕ, _+_, _*_, _^_, _<_}
 use native.Mathlib.Omega.{arith}
 use mathlib.Core.Path.{_≡_, refl, sym, ap, ap₂, _∙_, subst}
-use mathlib.Core.Bool.{true, false}
-use mathlib.Core.List.{List, [], _++_}
-use lib.Bits.{bitOr, or-zero-l}
+use mathlib.Core.Bool.{Bool, true, false, not, cond}
+use mathlib.Core.List.{List, [], _∷_, _++_}
+use lib.Bits.{bitOr, or-zero-l, or-zero-r}
 use borrow.Author.Tests.{lt-ltb}
 use Rattle.recurrence.specs.declared.Search.{Search}
 use Rattle.recurrence.specs.Runs.{after, met, window}
@@ -14,7 +14,7 @@ use Rattle.recurrence.proofs.Seeking.{searchLeft, Numbered, Collects, Searched,
 use Rattle.masks.specs.Masks.{insert, setOf}
 use Rattle.masks.proofs.SetOf.{set-same, set-append}
 use Rattle.policy.specs.declared.Policy.{Policy}
-use Rattle.policy.specs.Policies.{legal, edgeOf, targetOf, colourOf, edgeColours}
+use Rattle.policy.specs.Policies.{legal, edgeOf, targetOf, colourOf, isQuiet, edgeColours}
 use Rattle.policy.proofs.Laws.{legal-counts, legal-target, legal-colour, edges-le, edge-lt}
 use Rattle.running.specs.Running.{policyStep, policyMeets}
 use Rattle.running.proofs.Steps.{policy-moves, policy-within}
@@ -27,13 +27,24 @@ coloured v c = record { state = v; colours = c }
 
 module _ (p : Policy) where
   -- ---- one letter
+  -- the edge's colour is added; none, if it is quiet
+  edge-adds : (s e : ℕ) → cond (not (isQuiet p e)) (insert s (colourOf p e)) s ≡ bitOr s (setOf (edgeColours p e))
+  unfolding setOf insert edgeColours
+  edge-adds s e = go (isQuiet p e)
+    where
+      go : (b : Bool) → cond (not b) (bitOr s (2 ^ colourOf p e)) s ≡ bitOr s (setOf (cond b [] (colourOf p e ∷ [])))
+      go true = sym (or-zero-r s)
+      go false = ap (bitOr s) (sym (or-zero-l (2 ^ colourOf p e)))
+
   pub coloured-moves : (m : Coloured) (a : ℕ) → a < p .letters
-      → (t c : ℕ) → t ≡ targetOf p (m .state * p .letters + a) → c ≡ insert (m .colours) (colourOf p (m .state * p .letters + a)) → record { state = t; colours = c } ≡ colouredStep p m a
-  unfolding colouredStep setOf insert edgeOf edgeColours
-  coloured-moves m a h t c te ce =
+      → (t c : ℕ) (b : Bool) → t ≡ targetOf p (m .state * p .letters + a) → b ≡ isQuiet p (m .state * p .letters + a) → c ≡ cond (not b) (insert (m .colours) (colourOf p (m .state * p .letters + a))) (m .colours)
+      → record { state = t; colours = c } ≡ colouredStep p m a
+  unfolding colouredStep edgeOf
+  coloured-moves m a h t c b te be ce =
       let q = policy-moves p (m .state) a (lt-ltb a (p .letters) h) in
-      let one : 2 ^ colourOf p (m .state * p .letters + a) ≡ setOf (policyMeets p (m .state) a) = sym (ap setOf (q .1) ∙ or-zero-l (2 ^ colourOf p (m .state * p .letters + a))) in
-      ap₂ coloured (te ∙ sym (q .0)) (ce ∙ ap (bitOr (m .colours)) one)
+      let e = m .state * p .letters + a in
+      ap₂ coloured (te ∙ sym (q .0))
+      (ce ∙ ap (λ (b : Bool). cond (not b) (insert (m .colours) (colourOf p e)) (m .colours)) be ∙ edge-adds (m .colours) e ∙ ap (λ (l : List ℕ). bitOr (m .colours) (setOf l)) (sym (q .1)))
 
   pub edge-small : legal p ≡ true → (v a : ℕ) → v < p .states → a < p .letters → v * p .letters + a < 64
   unfolding edgeOf

@@ -4,3 +4,4 @@ pub mod Rows
 pub mod Colours
 pub mod Meaning
 pub mod Answers
+pub mod QuietRuns

@@ -167,7 +167,7 @@ struct Coloured {
     pub colours: u8,
 }
 
-// After a letter more. The targets and the colours are those of p's edges; they are lent beside p, since p's own would be copied at each letter.
+// After a letter more; a quiet edge meets no colour. The targets and the colours are those of p's edges; they are lent beside p, since p's own would be copied at each letter.
 fn coloured_with<'a>(
     p: Policy,
     targets: &'a [u8; 64],
@@ -181,7 +181,7 @@ fn coloured_with<'a>(
     let e = m.state * p.letters as usize + letter as usize;
     Coloured {
         state: targets[e] as usize,
-        colours: masks::set_with(m.colours, colours[e]),
+        colours: masks::set_with_if(m.colours, colours[e], !masks::has(p.quiet, e)),
     }
 }
 

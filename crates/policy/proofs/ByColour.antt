@@ -290,7 +290,7 @@ module _ (p : Policy) where
             ∙ has-and (r .0) m (getD (byColour p) c 0) ∙ both (has m (r .0)) (has (getD (byColour p) c 0) (r .0)) (r .2) (some-table c (r .0) (omega arith) (r .1) (colour-entry (r .0) c (r .3)))))
 
     -- ---- the table is made of the recorded colours: the quiet edges are taken from entry 0, and stand in entry 8
-    quiet-table : getD (byColour p) 8 0 ≡ p .quiet
+    pub quiet-table : getD (byColour p) 8 0 ≡ p .quiet
     unfolding isQuiet
     quiet-table = mask-ext (getD (byColour p) 8 0) (p .quiet) (λ e. bool-ext (has (getD (byColour p) 8 0) e) (has (p .quiet) e) (there e) (back e))
       where

@@ -186,7 +186,7 @@ fn grow(
 // family are lent for the verdicts. This is an inner layer: its callers lend the candidates of a legal policy, and enough scratch.
 pub fn grow_roots(
     p: Policy,
-    by: &[u64; 8],
+    by: &[u64; 9],
     family: &[bool; 256],
     accepting: &[u64],
     rejecting: &[u64],

@@ -2,10 +2,11 @@
 use Prim.Native.Nat.{ℕ, _+_, _*_, _<_}
 use native.Mathlib.Omega.{arith}
 use mathlib.Core.Path.{ap, _∙_, subst, sym}
+use mathlib.Core.Bool.{not, cond}
 use mathlib.Core.List.{List}
 use lib.ListN.{getD}
 use Rattle.masks.specs.Masks.{insert}
-use Rattle.policy.specs.Policies.{targetOf, colourOf}
+use Rattle.policy.specs.Policies.{targetOf, colourOf, isQuiet}
 use Rattle.judging.proofs.Colours.{coloured-moves, edge-small, target-small, colour-small}
 use borrow.Author.Needs.{needs}
 use Rattle.judging.proofs.coloured_with.Statement.{statement}
@@ -35,22 +36,26 @@ cast-t7 c =
     = subst (λ (l : List ℕ). getD l (s .args .m .state * s .args .p .letters + s .args .letter) 0 < 16) (sym (s .pre .0 .targets-are)) (target-small (s .args .p) (s .pre .0 .legal-is) (s .args .m .state) (s .args .letter) (s .pre .0 .among) (s .pre .1)) in
     omega (arith, low)
 
-element-copy-out-set-with : tie.Need-element-copy-out-set-with
-element-copy-out-set-with c = edge (c .before .before .before)
+element-copy-out-set-with-if : tie.Need-element-copy-out-set-with-if
+element-copy-out-set-with-if c = edge (c .before .before .before)
 
-set-with-requires : tie.Need-set-with-requires
+has-requires : tie.Need-has-requires
+has-requires c κs = edge (c .before .before .before .before)
+
+set-with-if-requires : tie.Need-set-with-if-requires
 unfolding colourOf
-set-with-requires c κs =
-    let s = c .before .before .before .before in
+set-with-if-requires c κs =
+    let s = c .before .before .before .before .before in
     subst (λ (l : List ℕ). getD l (s .args .m .state * s .args .p .letters + s .args .letter) 0 < 8) (sym (s .pre .0 .colours-are)) (colour-small (s .args .p) (s .pre .0 .legal-is) (s .args .m .state) (s .args .letter) (s .pre .0 .among) (s .pre .1))
 
 returns : tie.Need-returns
-unfolding targetOf colourOf
+unfolding targetOf colourOf isQuiet
 returns c =
-    let s = c .before .before .before .before .before in
+    let s = c .before .before .before .before .before .before in
     let a = s .args in
     let e = a .m .state * a .p .letters + a .letter in
-    coloured-moves (a .p) (a .m) (a .letter) (s .pre .1) _ _ (ap (λ (l : List ℕ). getD l e 0) (s .pre .0 .targets-are)) (c .set-with .ensures ∙ ap (λ (l : List ℕ). insert (a .m .colours) (getD l e 0)) (s .pre .0 .colours-are))
+    coloured-moves (a .p) (a .m) (a .letter) (s .pre .1) _ _ _ (ap (λ (l : List ℕ). getD l e 0) (s .pre .0 .targets-are)) (c .before .has .ensures)
+    (c .set-with-if .ensures ∙ ap (λ (l : List ℕ). cond (not (c .before .has .result)) (insert (a .m .colours) (getD l e 0)) (a .m .colours)) (s .pre .0 .colours-are))
 
 pub coloured-with-spec : {M : Type 1} → statement M
 coloured-with-spec =
@@ -61,6 +66,7 @@ coloured-with-spec =
     add-e
     element-copy-out-t12
     cast-t7
-    element-copy-out-set-with
-    set-with-requires
+    element-copy-out-set-with-if
+    has-requires
+    set-with-if-requires
     returns)
