@@ -5,7 +5,7 @@ use mathlib.Core.Path.{_≡_, refl}
 use mathlib.Core.List.{map}
 use Rattle.lists.specs.Lists.{greatest, lowest}
 use Rattle.masks.specs.Masks.{has, insert, inside, properly, setOf, members, submasks}
-use Rattle.policy.specs.Policies.{edges, edgeOf, source, targetOf, colourOf, edgeColours, coloursOf, inFamily, accepting, full, countsFit, legalCounts, legalEdge, legalEdges, legalSet, legalFamily, legalGraph, legal}
+use Rattle.policy.specs.Policies.{edges, edgeOf, source, targetOf, colourOf, isQuiet, edgeColours, coloursOf, inFamily, accepting, full, countsFit, legalCounts, legalEdge, legalEdges, uncoloured, legalQuiet, legalSet, legalFamily, legalGraph, legal}
 use Rattle.graph.specs.Cycles.{spread, closure, reach, isCycle, contains, cyclesIn}
 use Rattle.forest.specs.Forest.{before, place, inOrder, largest, roots, opposed, children, trees, tree, forest, greatestLevel, fromZero, rootPriority, priority, transientPriority, node, upFrom, chain, childOf, inRoot}
 use Rattle.forest.specs.Numbering.{plainPriority, OneFewer}
@@ -15,10 +15,10 @@ use Rattle.correctness.specs.Known.{Entry, answer}
 use Rattle.correctness.specs.FirstPriorities.{negative, kinds}
 
 pub kinds-known : map (λ (e : Entry). answer (e .policy) (e .question)) kinds ≡ map (λ (e : Entry). e .answered) kinds
-unfolding has insert inside properly setOf members submasks edges edgeOf source targetOf colourOf edgeColours coloursOf inFamily accepting spread closure reach isCycle contains before place inOrder largest full cyclesIn roots opposed children trees tree forest greatest lowest greatestLevel fromZero rootPriority priority transientPriority next node upFrom chain childOf inRoot holds kids isLeaf leaves firstLeaf statesOver builtStates deepest lead entered firstLeafBelow leafAfter priorityAfter built stateAt number start rowTarget rowPriority
+unfolding has insert inside properly setOf members submasks edges edgeOf source targetOf colourOf isQuiet edgeColours coloursOf inFamily accepting spread closure reach isCycle contains before place inOrder largest full cyclesIn roots opposed children trees tree forest greatest lowest greatestLevel fromZero rootPriority priority transientPriority next node upFrom chain childOf inRoot holds kids isLeaf leaves firstLeaf statesOver builtStates deepest lead entered firstLeafBelow leafAfter priorityAfter built stateAt number start rowTarget rowPriority
 kinds-known = refl
 
 -- the root of the accepting tree has 2, and had 0
 pub negative-fewer : OneFewer negative
-unfolding has insert inside properly setOf members submasks edges source targetOf colourOf edgeColours coloursOf inFamily accepting spread closure reach isCycle before place inOrder largest full cyclesIn roots opposed children trees tree forest greatest greatestLevel fromZero rootPriority priority plainPriority node countsFit legalCounts legalEdge legalEdges legalSet legalFamily legalGraph legal
+unfolding has insert inside properly setOf members submasks edges source targetOf colourOf isQuiet edgeColours coloursOf inFamily accepting spread closure reach isCycle before place inOrder largest full cyclesIn roots opposed children trees tree forest greatest greatestLevel fromZero rootPriority priority plainPriority node countsFit legalCounts legalEdge legalEdges uncoloured legalQuiet legalSet legalFamily legalGraph legal
 negative-fewer = one-fewer negative refl zero (omega arith) (λ e. omega (arith, e))

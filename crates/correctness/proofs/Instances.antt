@@ -10,7 +10,7 @@ use denote.Ref.{RefT}
 use Rattle.masks.specs.Masks.{has, insert, inside, properly, members, submasks, setOf}
 use Rattle.tables.specs.Tables.{padded, zeros, places}
 use Rattle.policy.specs.declared.Policy.{Policy}
-use Rattle.policy.specs.Policies.{edges, edgeOf, source, targetOf, colourOf, edgeColours, coloursOf, inFamily, accepting, countsFit, legalCounts, legalEdge, legalEdges, legalSet, legalFamily, legalGraph, legal, full}
+use Rattle.policy.specs.Policies.{edges, edgeOf, source, targetOf, colourOf, isQuiet, edgeColours, coloursOf, inFamily, accepting, countsFit, legalCounts, legalEdge, legalEdges, uncoloured, legalQuiet, legalSet, legalFamily, legalGraph, legal, full}
 use Rattle.policy.specs.Making.{counted, zeroPolicy, withEdge, withSet, withTables}
 use Rattle.reading.specs.Reading.{operandCount, commandAt, isShape, isEnd, operandsThere, inPlace, withinLimits, firstTime, allGiven, completeAtEnd, emptyDraft, draftAfter, nextOffset, stopMost, stopFrom, stopOf, numberAt, answerAt, readingOf as bytesReadingOf, refusalOf as readRefusalOf, offsetOf, numberOf as readNumberOf}
 use Rattle.reading.specs.declared.Answer.{Answer}
@@ -37,7 +37,7 @@ unfolding has insert edges edgeOf inFamily countsFit legalCounts counted zeroPol
 bytes-give = refl
 
 cases-hold : CasesHold cases
-unfolding has insert inside properly setOf members submasks padded zeros edges edgeOf source targetOf colourOf edgeColours coloursOf inFamily accepting countsFit legalCounts legalEdge legalEdges legalSet legalFamily legalGraph legal counted zeroPolicy spread closure reach isCycle contains before place inOrder largest full cyclesIn roots opposed children trees tree forest greatest lowest greatestLevel fromZero rootPriority priority transientPriority node upFrom chain childOf inRoot nodeMasks nodeParents nodePriorities places next holds kids isLeaf leaves firstLeaf statesOver builtStates deepest lead entered firstLeafBelow leafAfter priorityAfter built stateAt number start rowTarget rowPriority rowTargets rowPriorities stateSources stateLeaves builtFit forestFits sizesFit lengthsFit nodesFit statesFit filled cleared translationOf tablesAfter
+unfolding has insert inside properly setOf members submasks padded zeros edges edgeOf source targetOf colourOf isQuiet edgeColours coloursOf inFamily accepting countsFit legalCounts legalEdge legalEdges uncoloured legalQuiet legalSet legalFamily legalGraph legal counted zeroPolicy spread closure reach isCycle contains before place inOrder largest full cyclesIn roots opposed children trees tree forest greatest lowest greatestLevel fromZero rootPriority priority transientPriority node upFrom chain childOf inRoot nodeMasks nodeParents nodePriorities places next holds kids isLeaf leaves firstLeaf statesOver builtStates deepest lead entered firstLeafBelow leafAfter priorityAfter built stateAt number start rowTarget rowPriority rowTargets rowPriorities stateSources stateLeaves builtFit forestFits sizesFit lengthsFit nodesFit statesFit filled cleared translationOf tablesAfter
 cases-hold = (refl, refl, (refl, refl, (refl, refl, (refl, refl, (refl, refl, tt)))))
 
 pub policy-back : policyOf (recordOf B) ≡ B

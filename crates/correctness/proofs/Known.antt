@@ -5,7 +5,7 @@ use Rattle.lists.specs.Lists.{greatest, lowest}
 use Rattle.recurrence.specs.Iterates.{iter, rounds}
 use Rattle.recurrence.specs.Runs.{after, met, window}
 use Rattle.masks.specs.Masks.{has, insert, inside, properly, setOf, members, submasks}
-use Rattle.policy.specs.Policies.{edges, edgeOf, source, targetOf, colourOf, edgeColours, coloursOf, inFamily, accepting, full}
+use Rattle.policy.specs.Policies.{edges, edgeOf, source, targetOf, colourOf, isQuiet, edgeColours, coloursOf, inFamily, accepting, full}
 use Rattle.graph.specs.Cycles.{spread, closure, reach, isCycle, contains, cyclesIn}
 use Rattle.forest.specs.Forest.{before, place, inOrder, largest, roots, opposed, children, trees, tree, forest, greatestLevel, fromZero, rootPriority, priority, transientPriority, node, upFrom, chain, childOf, inRoot}
 use Rattle.automaton.specs.Automaton.{next, holds, kids, isLeaf, leaves, firstLeaf, statesOver, builtStates, deepest, lead, entered, firstLeafBelow, leafAfter, priorityAfter, built, stateAt, number, start, rowTarget, rowPriority, rowTargets, rowPriorities}
@@ -14,5 +14,5 @@ use Rattle.judging.specs.Judging.{leastOf, leastRecurring}
 use Rattle.correctness.specs.Known.{Entry, table, answer}
 
 pub known : map (λ (e : Entry). answer (e .policy) (e .question)) table ≡ map (λ (e : Entry). e .answered) table
-unfolding iter rounds after met window has insert inside properly setOf members submasks edges edgeOf source targetOf colourOf edgeColours coloursOf inFamily accepting spread closure reach isCycle contains before place inOrder largest full cyclesIn roots opposed children trees tree forest greatest lowest greatestLevel fromZero rootPriority priority transientPriority next node upFrom chain childOf inRoot holds kids isLeaf leaves firstLeaf statesOver builtStates deepest lead entered firstLeafBelow leafAfter priorityAfter built stateAt number start rowTarget rowPriority rowTargets rowPriorities rowStates shaped refusalOf readingOf rowStep rowMeets leastOf leastRecurring
+unfolding iter rounds after met window has insert inside properly setOf members submasks edges edgeOf source targetOf colourOf isQuiet edgeColours coloursOf inFamily accepting spread closure reach isCycle contains before place inOrder largest full cyclesIn roots opposed children trees tree forest greatest lowest greatestLevel fromZero rootPriority priority transientPriority next node upFrom chain childOf inRoot holds kids isLeaf leaves firstLeaf statesOver builtStates deepest lead entered firstLeafBelow leafAfter priorityAfter built stateAt number start rowTarget rowPriority rowTargets rowPriorities rowStates shaped refusalOf readingOf rowStep rowMeets leastOf leastRecurring
 known = refl

@@ -11,3 +11,4 @@ pub mod Agreement
 pub mod Demand3
 pub mod Judgings
 pub mod Instances
+pub mod Heartbeat

@@ -7,7 +7,7 @@ use Rattle.policy.specs.declared.Policy.{Policy}
 use Rattle.correctness.specs.Known.{Entry, entry, listing}
 
 abbrev twoTrees : List Bool → Policy
-twoTrees family = record { states = 2; letters = 2; colours = 3; initial = 0; target = (0 ∷ 1 ∷ 1 ∷ 1 ∷ []) ++ replicate 60 0; colour = (0 ∷ 1 ∷ 1 ∷ 2 ∷ []) ++ replicate 60 0; family = family }
+twoTrees family = record { states = 2; letters = 2; colours = 3; initial = 0; target = (0 ∷ 1 ∷ 1 ∷ 1 ∷ []) ++ replicate 60 0; colour = (0 ∷ 1 ∷ 1 ∷ 2 ∷ []) ++ replicate 60 0; family = family; quiet = 0 }
 
 -- {0} and {1}: an accepting tree of one level, a rejecting one of two
 abbrev pub negative : Policy

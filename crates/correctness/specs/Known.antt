@@ -11,13 +11,13 @@ use Rattle.judging.specs.Judging.{leastRecurring}
 
 -- ---- the policies
 abbrev pub A : Policy
-A = record { states = 1; letters = 3; colours = 3; initial = 0; target = (0 ∷ 0 ∷ 0 ∷ []) ++ replicate 61 0; colour = (0 ∷ 1 ∷ 2 ∷ []) ++ replicate 61 0; family = (false ∷ false ∷ true ∷ true ∷ false ∷ true ∷ []) ++ replicate 250 false }
+A = record { states = 1; letters = 3; colours = 3; initial = 0; target = (0 ∷ 0 ∷ 0 ∷ []) ++ replicate 61 0; colour = (0 ∷ 1 ∷ 2 ∷ []) ++ replicate 61 0; family = (false ∷ false ∷ true ∷ true ∷ false ∷ true ∷ []) ++ replicate 250 false; quiet = 0 }
 
 abbrev pub B : Policy
-B = record { states = 2; letters = 2; colours = 2; initial = 0; target = (0 ∷ 1 ∷ 0 ∷ 1 ∷ []) ++ replicate 60 0; colour = (0 ∷ 1 ∷ 0 ∷ 1 ∷ []) ++ replicate 60 0; family = (false ∷ true ∷ true ∷ []) ++ replicate 253 false }
+B = record { states = 2; letters = 2; colours = 2; initial = 0; target = (0 ∷ 1 ∷ 0 ∷ 1 ∷ []) ++ replicate 60 0; colour = (0 ∷ 1 ∷ 0 ∷ 1 ∷ []) ++ replicate 60 0; family = (false ∷ true ∷ true ∷ []) ++ replicate 253 false; quiet = 0 }
 
 abbrev pub C : Policy
-C = record { states = 2; letters = 1; colours = 1; initial = 0; target = (1 ∷ 1 ∷ []) ++ replicate 62 0; colour = (0 ∷ 0 ∷ []) ++ replicate 62 0; family = (false ∷ true ∷ []) ++ replicate 254 false }
+C = record { states = 2; letters = 1; colours = 1; initial = 0; target = (1 ∷ 1 ∷ []) ++ replicate 62 0; colour = (0 ∷ 0 ∷ []) ++ replicate 62 0; family = (false ∷ true ∷ []) ++ replicate 254 false; quiet = 0 }
 
 -- ---- what can be asked of a policy
 -- its nodes; a built state with its rows; the least priority that recurs on a loop from the start; the whole listing

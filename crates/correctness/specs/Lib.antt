@@ -4,3 +4,4 @@ pub mod Known
 pub mod FirstPriorities
 pub mod Judgings
 pub mod Instances
+pub mod Heartbeat

@@ -24,7 +24,7 @@ use Rattle.forest.specs.Laws.{ForestLaws, maskAt, parentAt, rootAt}
 use Rattle.forest.proofs.Order.{before-irreflexive}
 use Rattle.forest.proofs.Chains.{chain-self, chain-root, by-parent, chain-cases, chain-le, chain-trans}
 use Rattle.forest.proofs.Children.{root-cycle, root-few, root-unique, in-root, child, in-child, child-fewer, ordered-children, ordered-roots}
-use Rattle.forest.proofs.Levels.{levels-most, levels-child, levels-some}
+use Rattle.forest.proofs.Levels.{plain-levels, levels-most, levels-child, levels-some}
 use Rattle.forest.proofs.Priorities.{root-even, child-even, child-larger}
 use Rattle.forest.proofs.Numbered.{Numbered, numbered}
 
@@ -172,3 +172,7 @@ module _ (p : Policy) (ns : List Node) (laws : ForestLaws p ns) where
       go : ((end : ℕ) × (n < end) × (end ≤ length ns) × ((j : ℕ) → j < length ns → (any (eqb n) (chain ns j) ≡ true) ↔ ((n ≤ j) × (j < end))))
           → (end : ℕ) × (n < end) × (end ≤ length ns) × ((j : ℕ) → j < length ns → List·Memᴰ n (chain ns j) ↔ ((n ≤ j) × (j < end)))
       go r = (r .0, r .1, r .2, λ j q. (λ k. r .3 j q .0 (listed j k), λ w. found j (r .3 j q .1 w)))
+
+-- where no edge is quiet, F7 is document 01's: a tree has at most as many levels as there are colours
+pub plain-level : (p : Policy) → legal p ≡ true → p .quiet ≡ 0 → (n : ℕ) → n < length (forest p) → node (forest p) n .level < p .colours
+plain-level p lawful plain n l = omega (arith, forest-laws p lawful .levels n l, plain-levels p plain)

@@ -87,7 +87,7 @@ unfolding placeOf wulfrenda-read-hanoi-call
 library =
     let m = callsMet .of-the-library in
     record {
-      reading = wulfrenda-read-hanoi-call text (replicate 388 0);
+      reading = wulfrenda-read-hanoi-call text (replicate 452 0);
       text-is = refl;
       read = ap (λ (a : Answer). numberOf (a .outcome)) read-is;
       call = m .call;

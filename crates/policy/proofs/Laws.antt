@@ -72,10 +72,6 @@ module _ (p : Policy) where
       let g = and-l (legalCounts p && legalEdges p) (legalQuiet p) h in
       (and-l (legalCounts p) (legalEdges p) g, and-r (legalCounts p) (legalEdges p) g, and-r (legalCounts p && legalEdges p) (legalQuiet p) h)
 
-  pub legal-family : legal p ≡ true → legalFamily p ≡ true
-  unfolding legal
-  legal-family h = and-r (legalGraph p) (legalFamily p) h
-
   pub parts-legal : legalCounts p ≡ true → legalEdges p ≡ true → legalQuiet p ≡ true → legalFamily p ≡ true → legal p ≡ true
   unfolding legal legalGraph
   parts-legal c e q f = both (legalCounts p && legalEdges p && legalQuiet p) (legalFamily p) (both (legalCounts p && legalEdges p) (legalQuiet p) (both (legalCounts p) (legalEdges p) c e) q) f
@@ -157,10 +153,6 @@ module _ (p : Policy) where
   pub loud-colours : (e : ℕ) → isQuiet p e ≡ false → edgeColours p e ≡ colourOf p e ∷ []
   unfolding edgeColours
   loud-colours e f = rw f
-
-  -- where no edge is quiet, each has one colour, as in document 01
-  pub plain-colours : p .quiet ≡ 0 → (e : ℕ) → edgeColours p e ≡ colourOf p e ∷ []
-  plain-colours z e = loud-colours e (plain-loud z e)
 
   pub coloured-loud : (e c : ℕ) → List·Memᴰ c (edgeColours p e) → isQuiet p e ≡ false
   coloured-loud e c m = go (test (isQuiet p e))

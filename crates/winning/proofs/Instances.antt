@@ -12,7 +12,7 @@ use Rattle.lists.proofs.Bools.{test, eqb≡, ≡eqb}
 use Rattle.masks.specs.Masks.{has, insert, inside, properly, members, submasks, setOf}
 use Rattle.tables.specs.Tables.{padded, zeros, places}
 use Rattle.policy.specs.declared.Policy.{Policy}
-use Rattle.policy.specs.Policies.{edges, edgeOf, source, targetOf, colourOf, edgeColours, coloursOf, inFamily, accepting, countsFit, legalCounts, legalEdge, legalEdges, legalSet, legalFamily, legalGraph, legal, full}
+use Rattle.policy.specs.Policies.{edges, edgeOf, source, targetOf, colourOf, isQuiet, edgeColours, coloursOf, inFamily, accepting, countsFit, legalCounts, legalEdge, legalEdges, uncoloured, legalQuiet, legalSet, legalFamily, legalGraph, legal, full}
 use Rattle.policy.proofs.Laws.{legal-counts}
 use Rattle.graph.specs.Cycles.{spread, closure, reach, isCycle, contains, cyclesIn}
 use Rattle.forest.specs.Forest.{before, place, inOrder, largest, roots, opposed, children, trees, tree, forest, greatestLevel, fromZero, rootPriority, priority, transientPriority, node, upFrom, chain, childOf, inRoot, forestFits}
@@ -51,7 +51,7 @@ abbrev wide : List ℕ
 wide = replicate 3 7
 
 b-solved : solvingOf B ownersOfB room wide wide ≡ Translated 3 2 0
-unfolding has insert inside properly setOf members submasks padded zeros edges edgeOf source targetOf colourOf edgeColours coloursOf inFamily accepting countsFit legalCounts legalEdge legalEdges legalSet legalFamily legalGraph legal spread closure reach isCycle contains before place inOrder largest full cyclesIn roots opposed children trees tree forest greatest lowest greatestLevel fromZero rootPriority priority transientPriority node upFrom chain childOf inRoot places next holds kids isLeaf leaves firstLeaf statesOver builtStates deepest lead entered firstLeafBelow leafAfter priorityAfter built stateAt number start rowTarget rowPriority builtFit forestFits sizesFit lengthsFit nodesFit statesFit ownersFit ownersLegal solvingFits solvingOf
+unfolding has insert inside properly setOf members submasks padded zeros edges edgeOf source targetOf colourOf isQuiet edgeColours coloursOf inFamily accepting countsFit legalCounts legalEdge legalEdges uncoloured legalQuiet legalSet legalFamily legalGraph legal spread closure reach isCycle contains before place inOrder largest full cyclesIn roots opposed children trees tree forest greatest lowest greatestLevel fromZero rootPriority priority transientPriority node upFrom chain childOf inRoot places next holds kids isLeaf leaves firstLeaf statesOver builtStates deepest lead entered firstLeafBelow leafAfter priorityAfter built stateAt number start rowTarget rowPriority builtFit forestFits sizesFit lengthsFit nodesFit statesFit ownersFit ownersLegal solvingFits solvingOf
 b-solved = refl
 
 -- ---- a call of solving for every policy, all owners and all tables

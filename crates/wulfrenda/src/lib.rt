@@ -1,4 +1,4 @@
-// The functions of the static library, for C and for Rust (include/wulfrenda.h). A policy crosses the boundary as a record of 388 bytes (crate records), lent with its length;
+// The functions of the static library, for C and for Rust (include/wulfrenda.h). A policy crosses the boundary as a record of 452 bytes (crate records), lent with its length;
 // bytes of another length are no policy's, and refused with 7. Each function that can refuse returns document 01's number, 0 where nothing was refused, and writes what else it answers
 // into places that the caller lends. The seven tables are seven parameters: each crosses as a pointer and a length.
 use comparing::Comparison;
@@ -27,7 +27,7 @@ ghost use Rattle.wulfrenda.specs.Library.{version};
 pub extern "C" fn wulfrenda_version() -> u32
     ensures { λ r. ⌜ r ≡ version ⌝ }
 {
-    3001000
+    4000000
 }
 
 // The colour set at a position of the fixed order.
