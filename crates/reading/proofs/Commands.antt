@@ -7,7 +7,7 @@ use mathlib.Core.Logic.{_⊎_, inl, inr}
 use mathlib.Core.Bool.{Bool, true, false, cond, true≢false}
 use mathlib.Core.List.{List, []}
 use lib.Dec.{eqb, lit≤}
-use lib.ListN.{length, getD, take, drop, length-drop}
+use lib.ListN.{length, getD, set, take, drop, length-drop}
 use lib.Seq.{take-all, drop-length}
 use borrow.Author.Tests.{eqb-true, eqb-false, eq-eqb, ne-eqb}
 use Rattle.lists.proofs.Bools.{test}
@@ -16,11 +16,11 @@ use Rattle.policy.specs.declared.Policy.{Policy}
 use Rattle.policy.specs.Policies.{edgeOf, legalCounts}
 use Rattle.policy.proofs.Laws.{counts}
 use Rattle.policy.specs.declared.Shape as policy-shape
-use Rattle.policy.specs.Making.{counted, fromParts, zeroPolicy, withEdge, withSet, withTables}
+use Rattle.policy.specs.Making.{counted, fromParts, zeroPolicy, withEdge, withQuiet, withSet, withTables}
 use Rattle.reading.specs.declared.Draft.{Draft}
 use Rattle.reading.specs.declared.Answer.{Answer}
 use Rattle.reading.specs.declared.Command.{Command}
-use Rattle.reading.specs.declared.Command.the-variants.{End, Shape, Edge, Accept}
+use Rattle.reading.specs.declared.Command.the-variants.{End, Shape, Edge, Accept, Quiet}
 use Rattle.reading.specs.declared.Outcome.{Outcome}
 use Rattle.reading.specs.declared.Outcome.the-variants.{Read, Refused}
 use Rattle.reading.specs.Reading.{Bounded, HandsBack, ReadsPolicy, draftAfter, answerAt, commandAt, emptyDraft, inPlace, isEnd, isShape, nextOffset, numberAt, numberOf, offsetOf, operandCount, partAfter, readingOf, refusalOf, restOf, stopFrom, stopMost, stopOf, withinLimits}
@@ -75,13 +75,14 @@ unfolding zeroPolicy counted
 bounded-zero = record { few-edges = lit≤ tt; few-colours = lit≤ tt }
 
 pub bounded-after : (d : Draft) (c : Command) → Bounded (d .policy) → withinLimits (d .policy) c ≡ true → Bounded (draftAfter d c .policy)
-unfolding draftAfter counted withTables withEdge withSet legalCounts withinLimits
+unfolding draftAfter counted withTables withEdge withQuiet withSet legalCounts withinLimits
 bounded-after d End h w = h
 bounded-after d (Shape states letters colours initial) h w =
     let f = counts (counted states letters colours initial) w in
     record { few-edges = f .edges-few; few-colours = f .colours-few }
 bounded-after d (Edge state letter target colour) h w = record { few-edges = h .few-edges; few-colours = h .few-colours }
 bounded-after d (Accept s) h w = record { few-edges = h .few-edges; few-colours = h .few-colours }
+bounded-after d (Quiet state letter target) h w = record { few-edges = h .few-edges; few-colours = h .few-colours }
 
 -- from `at` with the draft d, reading stops where it does from the beginning
 pub record Onway (b : List ℕ) (at : ℕ) (d : Draft) : Type 0 where
@@ -141,16 +142,23 @@ module _ {d : Draft} {c : Command} {p : Policy} {given : ℕ} where
   -- the counts are put into a policy that is all zero
   pub taken-shape :
       {v a k i : ℕ} → c ≡ Shape v a k i → d .policy ≡ zeroPolicy →
-      p ≡ fromParts (record { states = v; letters = a; colours = k; initial = i }) (d .policy .target) (d .policy .colour) (d .policy .family) → given ≡ 0 → Taken d c p given
+      p ≡ fromParts (record { states = v; letters = a; colours = k; initial = i; quiet = d .policy .quiet }) (d .policy .target) (d .policy .colour) (d .policy .family) → given ≡ 0 → Taken d c p given
   unfolding draftAfter isEnd zeroPolicy counted
   taken-shape {v} {a} {k} {i} e z q g =
-      let s : policy-shape.Shape = record { states = v; letters = a; colours = k; initial = i } in
-      let made : p ≡ counted v a k i = q ∙ ap (λ (x : Policy). fromParts s (x .target) (x .colour) (x .family)) z in
+      let shape : Policy → policy-shape.Shape = λ (x : Policy). record { states = v; letters = a; colours = k; initial = i; quiet = x .quiet } in
+      let made : p ≡ counted v a k i = q ∙ ap (λ (x : Policy). fromParts (shape x) (x .target) (x .colour) (x .family)) z in
       rw (e, made, g) (record { goes-on = refl; is = refl })
 
   pub taken-edge : {v a t k e : ℕ} → c ≡ Edge v a t k → e ≡ edgeOf (d .policy) v a → p ≡ withEdge (d .policy) e t k → given ≡ insert (d .given) e → Taken d c p given
   unfolding draftAfter isEnd
   taken-edge e n q g = rw (e, q, g, n) (record { goes-on = refl; is = refl })
+
+  pub taken-quiet :
+      {v a t e m : ℕ} → c ≡ Quiet v a t → e ≡ edgeOf (d .policy) v a → m ≡ insert (d .policy .quiet) e →
+      p ≡ fromParts (record { states = d .policy .states; letters = d .policy .letters; colours = d .policy .colours; initial = d .policy .initial; quiet = m }) (set (d .policy .target) e t) (set (d .policy .colour) e 0) (d .policy .family) →
+      given ≡ insert (d .given) e → Taken d c p given
+  unfolding draftAfter isEnd withQuiet
+  taken-quiet e n k q g = rw (e, q, g, k, n) (record { goes-on = refl; is = refl })
 
   pub taken-accept : {s i : ℕ} → c ≡ Accept s → i ≡ s → p ≡ withSet (d .policy) i → given ≡ d .given → Taken d c p given
   unfolding draftAfter isEnd

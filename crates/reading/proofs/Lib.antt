@@ -1,3 +1,4 @@
 pub mod Legal
 pub mod Questions
 pub mod Commands
+pub mod Plain

@@ -20,7 +20,7 @@ use Rattle.policy.specs.Policies.{edges, edgeOf}
 use Rattle.policy.proofs.Laws.{edge-lt}
 use Rattle.reading.specs.declared.Draft.{Draft}
 use Rattle.reading.specs.declared.Command.{Command}
-use Rattle.reading.specs.declared.Command.the-variants.{Edge}
+use Rattle.reading.specs.declared.Command.the-variants.{Edge, Quiet}
 use Rattle.reading.specs.Reading.{Bounded, allGiven, commandAt, commandKnown, completeAtEnd, firstTime, inPlace, operandCount, operandsThere, refusalOf, withinLimits}
 
 -- ---- operands
@@ -36,6 +36,10 @@ pub accept-count : {c : ℕ} → c ≡ 3 → operandCount c ≡ 1
 unfolding operandCount
 accept-count {c} e = rw e
 
+pub quiet-count : {c : ℕ} → c ≡ 4 → operandCount c ≡ 3
+unfolding operandCount
+quiet-count {c} e = rw e
+
 module _ (b : List ℕ) (at n : ℕ) where
   pub room : operandsThere b at ≡ true → operandCount (getD b at 0) ≡ n → at < length b → at + n < length b
   unfolding operandsThere
@@ -47,15 +51,19 @@ module _ (b : List ℕ) (at n : ℕ) where
 
 -- ---- edges
 module _ {p : Policy} (bounded : Bounded p) where
-  pub edge-within : (v a t k : ℕ) → withinLimits p (Edge v a t k) ≡ true → edgeOf p v a < 64
+  pub quiet-within : (v a t : ℕ) → withinLimits p (Quiet v a t) ≡ true → edgeOf p v a < 64
   unfolding withinLimits edges
-  edge-within v a t k e =
+  quiet-within v a t e =
       let in-states = ltb v (p .states) in
       let in-letters = ltb a (p .letters) in
-      let r = and-l (in-states && in-letters) (ltb t (p .states)) (and-l (in-states && in-letters && ltb t (p .states)) (ltb k (p .colours)) e) in
+      let r = and-l (in-states && in-letters) (ltb t (p .states)) e in
       let w = and-l in-states in-letters r in
       let u = and-r in-states in-letters r in
       omega (arith, edge-lt p v a (ltb-true v (p .states) w) (ltb-true a (p .letters) u), bounded .few-edges)
+
+  pub edge-within : (v a t k : ℕ) → withinLimits p (Edge v a t k) ≡ true → edgeOf p v a < 64
+  unfolding withinLimits
+  edge-within v a t k e = quiet-within v a t (and-l (ltb v (p .states) && ltb a (p .letters) && ltb t (p .states)) (ltb k (p .colours)) e)
 
 -- every edge below n is given exactly where the full set of them lies inside the given one
 pub full-given : (given n : ℕ) → inside (2 ^ n - 1) given ≡ allGiven given n

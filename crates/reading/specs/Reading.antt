@@ -11,21 +11,21 @@ use Rattle.lists.specs.Questions.{ask}
 use Rattle.masks.specs.Masks.{has, insert}
 use Rattle.policy.specs.declared.Policy.{Policy}
 use Rattle.policy.specs.Policies.{edges, edgeOf, inFamily, countsFit}
-use Rattle.policy.specs.Making.{counted, zeroPolicy, withEdge, withSet}
+use Rattle.policy.specs.Making.{counted, zeroPolicy, withEdge, withQuiet, withSet}
 use Rattle.reading.specs.declared.Draft.{Draft}
 use Rattle.reading.specs.declared.Answer.{Answer}
 use Rattle.reading.specs.declared.Outcome.{Outcome}
 use Rattle.reading.specs.declared.Outcome.the-variants.{Read, Refused}
 use Rattle.reading.specs.declared.Command.{Command}
-use Rattle.reading.specs.declared.Command.the-variants.{End, Shape, Edge, Accept}
+use Rattle.reading.specs.declared.Command.the-variants.{End, Shape, Edge, Accept, Quiet}
 
 -- ---- commands
--- 0x00 end, 0x01 shape, 0x02 edge, 0x03 accept
+-- 0x00 end, 0x01 shape, 0x02 edge, 0x03 accept, 0x04 quiet edge
 abbrev pub commandKnown : ℕ → Bool
-commandKnown code = leb code 3
+commandKnown code = leb code 4
 
 unfoldable pub operandCount : ℕ → ℕ
-operandCount code = cond (eqb code 1) 4 (cond (eqb code 2) 4 (cond (eqb code 3) 1 0))
+operandCount code = cond (eqb code 1) 4 (cond (eqb code 2) 4 (cond (eqb code 3) 1 (cond (eqb code 4) 3 0)))
 
 -- the command at an offset, with its operands
 unfoldable pub commandAt : List ℕ → ℕ → Command
@@ -34,19 +34,22 @@ commandAt bytes at =
     let operand : ℕ → ℕ = λ (i : ℕ). getD bytes (at + i) 0 in
     cond (eqb code 1) (Shape (operand 1) (operand 2) (operand 3) (operand 4))
     (cond (eqb code 2) (Edge (operand 1) (operand 2) (operand 3) (operand 4))
-    (cond (eqb code 3) (Accept (operand 1)) End))
+    (cond (eqb code 3) (Accept (operand 1))
+    (cond (eqb code 4) (Quiet (operand 1) (operand 2) (operand 3)) End)))
 
 unfoldable pub isShape : Command → Bool
 isShape End = false
 isShape (Shape states letters colours initial) = true
 isShape (Edge state letter target colour) = false
 isShape (Accept s) = false
+isShape (Quiet state letter target) = false
 
 unfoldable pub isEnd : Command → Bool
 isEnd End = true
 isEnd (Shape states letters colours initial) = false
 isEnd (Edge state letter target colour) = false
 isEnd (Accept s) = false
+isEnd (Quiet state letter target) = false
 
 -- ---- the questions
 -- Is there another byte?
@@ -61,19 +64,21 @@ operandsThere bytes at = leb (operandCount (getD bytes at 0)) (length bytes - (a
 unfoldable pub inPlace : ℕ → Command → Bool
 inPlace at c = cond (eqb at 0) (isShape c) (not (isShape c))
 
--- Are the operands within the limits and the declared counts, and an accepted set non-empty?
+-- Are the operands within the limits and the declared counts?
 unfoldable pub withinLimits : Policy → Command → Bool
 withinLimits p End = true
 withinLimits p (Shape states letters colours initial) = countsFit states letters colours initial
 withinLimits p (Edge state letter target colour) = ltb state (p .states) && ltb letter (p .letters) && ltb target (p .states) && ltb colour (p .colours)
-withinLimits p (Accept s) = ltb 0 s && ltb s (2 ^ p .colours)
+withinLimits p (Accept s) = ltb s (2 ^ p .colours)
+withinLimits p (Quiet state letter target) = ltb state (p .states) && ltb letter (p .letters) && ltb target (p .states)
 
--- Is this edge, or this set, given for the first time?
+-- Is this edge, with a colour or quiet, or this set, given for the first time?
 unfoldable pub firstTime : Draft → Command → Bool
 firstTime d End = true
 firstTime d (Shape states letters colours initial) = true
 firstTime d (Edge state letter target colour) = not (has (d .given) (edgeOf (d .policy) state letter))
 firstTime d (Accept s) = not (inFamily (d .policy) s)
+firstTime d (Quiet state letter target) = not (has (d .given) (edgeOf (d .policy) state letter))
 
 -- every edge below n has been given
 unfoldable pub allGiven : ℕ → ℕ → Bool
@@ -85,6 +90,7 @@ completeAtEnd d End = allGiven (d .given) (edges (d .policy))
 completeAtEnd d (Shape states letters colours initial) = true
 completeAtEnd d (Edge state letter target colour) = true
 completeAtEnd d (Accept s) = true
+completeAtEnd d (Quiet state letter target) = true
 
 -- the number of the first question that is answered "no"; 0 where there is none
 unfoldable pub refusalOf : List ℕ → ℕ → Draft → ℕ
@@ -111,6 +117,9 @@ draftAfter d (Edge state letter target colour) =
     let e = edgeOf (d .policy) state letter in
     record { policy = withEdge (d .policy) e target colour; given = insert (d .given) e }
 draftAfter d (Accept s) = record { policy = withSet (d .policy) s; given = d .given }
+draftAfter d (Quiet state letter target) =
+    let e = edgeOf (d .policy) state letter in
+    record { policy = withQuiet (d .policy) e target; given = insert (d .given) e }
 
 -- where the next command begins
 unfoldable pub nextOffset : List ℕ → ℕ → ℕ

@@ -16,6 +16,8 @@ pub enum Command {
     Edge(u8, u8, u8, u8),
     // colour set
     Accept(u8),
+    // state, letter, target
+    Quiet(u8, u8, u8),
 }
 
 // The policy so far, and the set of the edges given so far.
@@ -47,7 +49,7 @@ fn wide(x: u8) -> usize
 fn is_known(code: u8) -> bool
     ensures { λ r. ⌜ r ≡ commandKnown code ⌝ }
 {
-    code <= 3
+    code <= 4
 }
 
 fn operand_count(code: u8) -> usize
@@ -57,6 +59,7 @@ fn operand_count(code: u8) -> usize
         1 => 4,
         2 => 4,
         3 => 1,
+        4 => 3,
         _ => 0,
     }
 }
@@ -75,6 +78,9 @@ fn command_at(bytes: &[u8], at: usize) -> Command
     if code == 3 {
         return Command::Accept(bytes[at + 1]);
     }
+    if code == 4 {
+        return Command::Quiet(bytes[at + 1], bytes[at + 2], bytes[at + 3]);
+    }
     Command::End
 }
 
@@ -87,6 +93,7 @@ fn is_in_place(at: usize, c: Command) -> bool
         Command::Shape(_, _, _, _) => at == 0,
         Command::Edge(_, _, _, _) => at != 0,
         Command::Accept(_) => at != 0,
+        Command::Quiet(_, _, _) => at != 0,
     }
 }
 
@@ -110,7 +117,10 @@ fn is_within_limits(p: policy::Policy, c: Command) -> bool
         Command::Edge(state, letter, target, colour) => {
             (state < p.states) & (letter < p.letters) & (target < p.states) & (colour < p.colours)
         }
-        Command::Accept(set) => (0 < set) & (wide(set) < sets_of(p.colours)),
+        Command::Accept(set) => wide(set) < sets_of(p.colours),
+        Command::Quiet(state, letter, target) => {
+            (state < p.states) & (letter < p.letters) & (target < p.states)
+        }
     }
 }
 
@@ -134,6 +144,7 @@ fn is_first_time(d: Draft, family: &[bool; 256], c: Command) -> bool
             let i = wide(set);
             !family[i]
         }
+        Command::Quiet(state, letter, _) => !masks::has(d.given, edge_of(p, state, letter)),
     }
 }
 
@@ -154,6 +165,7 @@ fn is_complete_at_end(d: Draft, c: Command) -> bool
         Command::Shape(_, _, _, _) => true,
         Command::Edge(_, _, _, _) => true,
         Command::Accept(_) => true,
+        Command::Quiet(_, _, _) => true,
     }
 }
 
@@ -231,6 +243,13 @@ pub fn read(bytes: &[u8]) -> Answer
             Command::Accept(set) => {
                 let s = wide(set);
                 p.family[s] = true;
+            }
+            Command::Quiet(state, letter, target) => {
+                let e = edge_of(p, state, letter);
+                p.target[e] = target;
+                p.colour[e] = 0;
+                p.quiet = masks::with(p.quiet, e);
+                given = masks::with(given, e);
             }
         }
         at = at + 1 + operand_count(bytes[at]);

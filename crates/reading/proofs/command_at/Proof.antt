@@ -4,7 +4,7 @@ use native.Mathlib.Omega.{arith}
 use borrow.Author.Tests.{eq-eqb, ne-eqb}
 use borrow.Author.Needs.{needs}
 use Rattle.reading.specs.Reading.{commandAt}
-use Rattle.reading.proofs.Questions.{room, shape-count, edge-count, accept-count}
+use Rattle.reading.proofs.Questions.{room, shape-count, edge-count, accept-count, quiet-count}
 use Rattle.reading.proofs.command_at.Statement.{statement}
 use Rattle.reading.proofs.command_at.Tie as tie
 
@@ -77,9 +77,31 @@ returns-3 : tie.Need-returns-3
 unfolding commandAt
 returns-3 c = simp (ne-eqb _ _ (c .before .before .before .if1 .left), ne-eqb _ _ (c .before .before .if2 .left), eq-eqb _ _ (c .before .if3 .taken))
 
+add-t34 : tie.Need-add-t34
+add-t34 c = search needs
+
+shared-slice-read-t36 : tie.Need-shared-slice-read-t36
+shared-slice-read-t36 c = omega (arith, room _ _ 3 (c .before .before .before .before .before .before .pre .1) (quiet-count (c .before .if4 .taken)) (c .before .before .before .before .before .before .pre .0))
+
+add-t37 : tie.Need-add-t37
+add-t37 c = search needs
+
+shared-slice-read-t39 : tie.Need-shared-slice-read-t39
+shared-slice-read-t39 c = omega (arith, room _ _ 3 (c .before .before .before .before .before .before .before .pre .1) (quiet-count (c .before .before .if4 .taken)) (c .before .before .before .before .before .before .before .pre .0))
+
+add-t40 : tie.Need-add-t40
+add-t40 c = search needs
+
+shared-slice-read-t42 : tie.Need-shared-slice-read-t42
+shared-slice-read-t42 c = omega (arith, room _ _ 3 (c .before .before .before .before .before .before .before .before .pre .1) (quiet-count (c .before .before .before .if4 .taken)) (c .before .before .before .before .before .before .before .before .pre .0))
+
 returns-4 : tie.Need-returns-4
 unfolding commandAt
-returns-4 c = simp (ne-eqb _ _ (c .before .before .if1 .left), ne-eqb _ _ (c .before .if2 .left), ne-eqb _ _ (c .if3 .left))
+returns-4 c = simp (ne-eqb _ _ (c .before .before .before .before .before .before .if1 .left), ne-eqb _ _ (c .before .before .before .before .before .if2 .left), ne-eqb _ _ (c .before .before .before .before .if3 .left), eq-eqb _ _ (c .before .before .before .if4 .taken))
+
+returns-5 : tie.Need-returns-5
+unfolding commandAt
+returns-5 c = simp (ne-eqb _ _ (c .before .before .before .if1 .left), ne-eqb _ _ (c .before .before .if2 .left), ne-eqb _ _ (c .before .if3 .left), ne-eqb _ _ (c .if4 .left))
 
 pub command-at-spec : {M : Type 1} → statement M
 command-at-spec =
@@ -107,4 +129,11 @@ command-at-spec =
     add-t31
     shared-slice-read-t33
     returns-3
-    returns-4)
+    add-t34
+    shared-slice-read-t36
+    add-t37
+    shared-slice-read-t39
+    add-t40
+    shared-slice-read-t42
+    returns-4
+    returns-5)

@@ -33,6 +33,9 @@ enum-told-3 c = search needs
 enum-told-4 : tie.Need-enum-told-4
 enum-told-4 c = search needs
 
+enum-told-5 : tie.Need-enum-told-5
+enum-told-5 c = search needs
+
 returns : tie.Need-returns
 unfolding completeAtEnd edges
 returns c = rw (c .all-given .ensures, c .before .before .wide .ensures .0, c .before .wide2 .ensures .0) (sym (ap (completeAtEnd (c .before .before .before .before .before .before .args .d)) (c .before .before .before .enum-told .given .1)))
@@ -49,6 +52,10 @@ returns-4 : tie.Need-returns-4
 unfolding completeAtEnd
 returns-4 c = sym (ap (completeAtEnd (c .before .before .before .args .d)) (c .enum-told4 .given .1))
 
+returns-5 : tie.Need-returns-5
+unfolding completeAtEnd
+returns-5 c = sym (ap (completeAtEnd (c .before .before .before .args .d)) (c .enum-told5 .given .1))
+
 pub is-complete-at-end-spec : {M : Type 1} → statement M
 is-complete-at-end-spec =
     tie.close
@@ -61,7 +68,9 @@ is-complete-at-end-spec =
     enum-told-2
     enum-told-3
     enum-told-4
+    enum-told-5
     returns
     returns-2
     returns-3
-    returns-4)
+    returns-4
+    returns-5)

@@ -19,6 +19,9 @@ enum-told-3 c = search needs
 enum-told-4 : tie.Need-enum-told-4
 enum-told-4 c = search needs
 
+enum-told-5 : tie.Need-enum-told-5
+enum-told-5 c = search needs
+
 returns : tie.Need-returns
 unfolding inPlace isShape
 returns c = rw (c .enum-told .given .1) (cond-not (eqb (c .before .before .args .at) 0))
@@ -35,7 +38,11 @@ returns-4 : tie.Need-returns-4
 unfolding inPlace isShape
 returns-4 c = rw (c .enum-told4 .given .1) (cond-not (eqb (c .before .before .args .at) 0))
 
+returns-5 : tie.Need-returns-5
+unfolding inPlace isShape
+returns-5 c = rw (c .enum-told5 .given .1) (cond-not (eqb (c .before .before .args .at) 0))
+
 pub is-in-place-spec : {M : Type 1} → statement M
 is-in-place-spec =
     tie.close
-    (tie.spec enum-told enum-told-2 enum-told-3 enum-told-4 returns returns-2 returns-3 returns-4)
+    (tie.spec enum-told enum-told-2 enum-told-3 enum-told-4 enum-told-5 returns returns-2 returns-3 returns-4 returns-5)

@@ -27,6 +27,9 @@ wide-requires c κs = search needs
 sets-of-requires : tie.Need-sets-of-requires
 sets-of-requires c κs = search needs
 
+enum-known-c-4 : tie.Need-enum-known-c-4
+enum-known-c-4 c = search needs
+
 returns : tie.Need-returns
 unfolding withinLimits
 returns c = sym (ap (withinLimits (c .before .before .args .p)) (c .enum-told .given .1))
@@ -43,6 +46,10 @@ returns-4 : tie.Need-returns-4
 unfolding withinLimits
 returns-4 c = rw (c .before .wide .ensures .0, c .sets-of .ensures) (sym (ap (withinLimits (c .before .before .before .before .before .args .p)) (c .before .before .before .c3 .given .1)))
 
+returns-5 : tie.Need-returns-5
+unfolding withinLimits
+returns-5 c = sym (ap (withinLimits (c .before .before .before .before .before .before .args .p)) (c .before .before .before .before .c4 .given .1))
+
 pub is-within-limits-spec : {M : Type 1} → statement M
 is-within-limits-spec =
     tie.close
@@ -54,7 +61,9 @@ is-within-limits-spec =
     enum-known-c-3
     wide-requires
     sets-of-requires
+    enum-known-c-4
     returns
     returns-2
     returns-3
-    returns-4)
+    returns-4
+    returns-5)

@@ -19,7 +19,12 @@ returns-3 c = rw (c .match .keys3)
 
 returns-4 : tie.Need-returns-4
 unfolding operandCount
-returns-4 c = rw (ne-eqb (c .before .args .code) 1 (c .match .rest .0 .0 .1), ne-eqb (c .before .args .code) 2 (c .match .rest .0 .1), ne-eqb (c .before .args .code) 3 (c .match .rest .1))
+returns-4 c = rw (c .match .keys4)
+
+returns-5 : tie.Need-returns-5
+unfolding operandCount
+returns-5 c =
+    rw (ne-eqb (c .before .args .code) 1 (c .match .rest .0 .0 .0 .1), ne-eqb (c .before .args .code) 2 (c .match .rest .0 .0 .1), ne-eqb (c .before .args .code) 3 (c .match .rest .0 .1), ne-eqb (c .before .args .code) 4 (c .match .rest .1))
 
 pub operand-count-spec : {M : Type 1} → statement M
-operand-count-spec = tie.close (tie.spec returns returns-2 returns-3 returns-4)
+operand-count-spec = tie.close (tie.spec returns returns-2 returns-3 returns-4 returns-5)

@@ -9,8 +9,8 @@ use borrow.Author.Needs.{needs}
 use Rattle.policy.specs.Making.{withEdge, withSet, withTables}
 use Rattle.reading.specs.declared.Draft.{Draft}
 use Rattle.reading.specs.Reading.{isEnd, refusalOf, withinLimits}
-use Rattle.reading.proofs.Questions.{passed, edge-within}
-use Rattle.reading.proofs.Commands.{Onway, onway-start, onway-shape, onway-refused, onway-end, onway-on, Taken, taken-shape, taken-edge, taken-accept, reads}
+use Rattle.reading.proofs.Questions.{passed, edge-within, quiet-within}
+use Rattle.reading.proofs.Commands.{Onway, onway-start, onway-shape, onway-refused, onway-end, onway-on, Taken, taken-shape, taken-edge, taken-quiet, taken-accept, reads}
 use Rattle.reading.proofs.read.Statement.{statement}
 use Rattle.reading.proofs.read.Tie as tie
 
@@ -37,6 +37,13 @@ in-mask c =
     rw (c .edge-of .ensures)
     (edge-within (c .before .before .before .before .before .before .before .before .before .loop .inv .bounded) _ _ _ _ (ap (withinLimits (c .before .before .before .before .before .before .before .before .before .loop .p)) is-edge ∙ w .within))
 
+in-mask-2 : (c : tie.After-edge-of2 Inv-loop μ-loop) → c .edge-of2 .result < 64
+in-mask-2 c =
+    let w = passed (accepted (c .before .before .before .before .before)) in
+    let is-edge = sym (c .before .before .state2 .given .1) ∙ c .before .before .before .before .command-at .ensures in
+    rw (c .edge-of2 .ensures)
+    (quiet-within (c .before .before .before .before .before .before .before .before .before .loop .inv .bounded) _ _ _ (ap (withinLimits (c .before .before .before .before .before .before .before .before .before .loop .p)) is-edge ∙ w .within))
+
 -- the draft after it
 taken : (c : tie.At-match-came Inv-loop μ-loop) → Taken (draft (c .before .before .before .before .before .before)) (c .before .command-at .result) (c .match .p) (c .match .given)
 unfolding withTables withEdge withSet
@@ -45,7 +52,9 @@ taken c =
     (λ w. taken-shape (w .1 .given .1) (onway-shape (c .before .before .before .before .before .before .loop .inv) (accepted (c .before .before)) (sym (c .before .command-at .ensures) ∙ w .1 .given .1)) (w .3) (w .4))
     (⊎-elim
     (λ w. taken-edge (w .1 .given .1) (w .3 .ensures) (w .5) (w .6 ∙ w .4 .ensures))
-    (λ w. taken-accept (w .1 .given .1) (w .3 .ensures .0) (w .4) (w .5)))
+    (⊎-elim
+    (λ w. taken-accept (w .1 .given .1) (w .3 .ensures .0) (w .4) (w .5))
+    (λ w. taken-quiet (w .1 .given .1) (w .3 .ensures) (w .4 .ensures) (w .6) (w .7 ∙ w .5 .ensures))))
     (c .match .came)
 
 -- the next turn is on the way too
@@ -107,6 +116,24 @@ wide-requires c κs = search needs
 element-write-p-3 : tie.Need-element-write-p-3 Inv-loop μ-loop
 element-write-p-3 c = search needs
 
+enum-known-state-2 : tie.Need-enum-known-state-2 Inv-loop μ-loop
+enum-known-state-2 c = search needs
+
+edge-of-requires-2 : tie.Need-edge-of-requires-2 Inv-loop μ-loop
+edge-of-requires-2 c κs = search needs
+
+element-write-p-4 : tie.Need-element-write-p-4 Inv-loop μ-loop
+element-write-p-4 c = in-mask-2 c
+
+element-write-p-5 : tie.Need-element-write-p-5 Inv-loop μ-loop
+element-write-p-5 c = in-mask-2 c
+
+with-requires-2 : tie.Need-with-requires-2 Inv-loop μ-loop
+with-requires-2 c κs = in-mask-2 c
+
+with-requires-3 : tie.Need-with-requires-3 Inv-loop μ-loop
+with-requires-3 c κs = in-mask-2 (c .before)
+
 add-at : tie.Need-add-at Inv-loop μ-loop
 add-at c = omega (arith, passed (accepted (c .before .before)) .byte)
 
@@ -148,6 +175,12 @@ read-spec =
     enum-known-set
     wide-requires
     element-write-p-3
+    enum-known-state-2
+    edge-of-requires-2
+    element-write-p-4
+    element-write-p-5
+    with-requires-2
+    with-requires-3
     add-at
     shared-slice-read-operand-count
     operand-count-requires
