@@ -3,4 +3,4 @@ use Prim.Native.Nat.{ℕ, _+_, _*_}
 
 -- major, minor, patch; another length of the record, other arguments of a call and other tables for a policy are another major version
 abbrev pub version : ℕ
-version = 3 * 1000000 + 1 * 1000 + 0
+version = 4 * 1000000 + 0 * 1000 + 0
