@@ -1,15 +1,15 @@
 -- A policy without quiet edges, and without the empty set in its family: what document 02's S-5 changed has document 01's text again. Assumes nothing.
 use Prim.Native.Nat.{ℕ, zero, suc, _^_}
 use native.Mathlib.Omega.{arith}
-use mathlib.Core.Path.{_≡_, refl, sym, ap, ap₂, _∙_}
-use mathlib.Core.Bool.{Bool, true, false, not, _&&_, _||_, and-true}
-use mathlib.Core.List.{List, [], _∷_, map}
+use mathlib.Core.Path.{_≡_, sym, ap, ap₂, _∙_}
+use mathlib.Core.Bool.{Bool, false, not, _&&_, _||_, and-true}
+use mathlib.Core.List.{[], _∷_, map}
 use lib.Dec.{ltb}
 use borrow.Author.Tests.{lt-ltb}
 use Rattle.lists.specs.Lists.{all, flat, below}
 use Rattle.masks.specs.Masks.{members, setOf}
 use Rattle.policy.specs.declared.Policy.{Policy}
-use Rattle.policy.specs.Policies.{edges, colourOf, edgeColours, coloursOf, inFamily, accepting, legalCounts, legalEdges, legalQuiet, legalSet, legalFamily, legalGraph, legal}
+use Rattle.policy.specs.Policies.{edges, colourOf, edgeColours, coloursOf, inFamily, accepting, legalCounts, legalEdges, legalSet, legalFamily, legalGraph, legal}
 use Rattle.policy.proofs.Laws.{plain-loud, loud-colours}
 use Rattle.policy.proofs.LegalTests.{legal-quiet-none}
 

@@ -2,7 +2,6 @@
 use mathlib.Core.Path.{refl, ap, _∙_, subst}
 use borrow.Author.Tests.{eq-eqb, ne-eqb}
 use borrow.Author.Needs.{needs}
-use denote.Ref.{now}
 use Rattle.hanoi.specs.declared.Answer.{Answer}
 use Rattle.hanoi.specs.Answers.{numberOf, sharedOf, Answers}
 use Rattle.hanoi.proofs.Answering.{answers}
