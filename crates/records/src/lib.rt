@@ -1,14 +1,14 @@
-// A policy as a record of 388 bytes, and back. Bytes of another length are no record. Inner layer: a place that a record is stored in is as long as one.
+// A policy as a record of 452 bytes, and back. Bytes of another length are no record. Inner layer: a place that a record is stored in is as long as one.
 use policy::Policy;
 ghost use mathlib.Core.Path.{_≡_};
 ghost use mathlib.Core.List.{map};
 ghost use Prim.Native.Nat.{_+_, _≤_};
 ghost use lib.ListN.{length};
 ghost use lib.Seq.{sets};
-ghost use Rattle.records.specs.Records.{flag, recordLength, bytesAt, flagsAt, policyOf, recordOf};
+ghost use Rattle.records.specs.Records.{flag, recordLength, bytesAt, flagsAt, anyQuiet, quietAt, quietFlags, policyOf, recordOf};
 
 // How long a record is (recordLength).
-pub const LENGTH: usize = 388;
+pub const LENGTH: usize = 452;
 
 // ---- from a record
 // 64 bytes of a record, from a place on.
@@ -23,7 +23,7 @@ fn bytes_at(packed: &[u8], at: usize) -> [u8; 64]
     bytes
 }
 
-// The last 256 bytes of a record, each as yes or no.
+// The 256 bytes of the family, each as yes or no.
 fn flags_at(packed: &[u8]) -> [bool; 256]
     requires { ⌜ recordLength ≤ length (now packed) ⌝ }
     ensures { λ r. ⌜ r ≡ flagsAt (now (packed .entry)) 132 256 ⌝ }
@@ -33,6 +33,33 @@ fn flags_at(packed: &[u8]) -> [bool; 256]
         flags[i] = packed[132 + i] != 0;
     }
     flags
+}
+
+// Whether the record has a quiet edge; without a branch, so that many bytes are looked at together.
+fn has_quiet(packed: &[u8]) -> bool
+    requires { ⌜ recordLength ≤ length (now packed) ⌝ }
+    ensures { λ r. ⌜ r ≡ anyQuiet (now (packed .entry)) ⌝ }
+{
+    let mut b = false;
+    for i in 0..64 {
+        b = b | (packed[388 + i] != 0);
+    }
+    b
+}
+
+// The last 64 bytes of a record, as an edge set. Most records have no quiet edge.
+fn quiet_at(packed: &[u8]) -> u64
+    requires { ⌜ recordLength ≤ length (now packed) ⌝ }
+    ensures { λ r. ⌜ r ≡ quietAt (now (packed .entry)) ⌝ }
+{
+    if !has_quiet(packed) {
+        return 0;
+    }
+    let mut m: u64 = 0;
+    for i in 0..64 {
+        m = masks::with_if(m, i, packed[388 + i] != 0);
+    }
+    m
 }
 
 // The policy of a record; the zero policy, which is not legal, if the bytes are none.
@@ -50,6 +77,7 @@ pub fn policy_of(packed: &[u8]) -> Policy
         target: bytes_at(packed, 4),
         colour: bytes_at(packed, 68),
         family: flags_at(packed),
+        quiet: quiet_at(packed),
     }
 }
 
@@ -81,11 +109,22 @@ fn put_flags(packed: &mut [u8], at: usize, flags: &[bool])
     }
 }
 
-// The record of a policy.
-fn record_of(p: Policy) -> [u8; 388]
+// An edge set as 64 times yes or no.
+fn quiet_flags(m: u64) -> [bool; 64]
+    ensures { λ r. ⌜ r ≡ quietFlags m ⌝ }
+{
+    let mut flags = [false; 64];
+    for i in 0..64 {
+        flags[i] = masks::has(m, i);
+    }
+    flags
+}
+
+// The record of a policy. Most policies have no quiet edge: the last 64 bytes are 0 already.
+fn record_of(p: Policy) -> [u8; 452]
     ensures { λ r. ⌜ r ≡ recordOf p ⌝ }
 {
-    let mut packed = [0; 388];
+    let mut packed = [0; 452];
     packed[0] = p.states;
     packed[1] = p.letters;
     packed[2] = p.colours;
@@ -93,6 +132,11 @@ fn record_of(p: Policy) -> [u8; 388]
     put_bytes(&mut packed, 4, &p.target);
     put_bytes(&mut packed, 68, &p.colour);
     put_flags(&mut packed, 132, &p.family);
+    if p.quiet == 0 {
+        return packed;
+    }
+    let quiet = quiet_flags(p.quiet);
+    put_flags(&mut packed, 388, &quiet);
     packed
 }
 

@@ -2,7 +2,6 @@
 use mathlib.Core.Path.{sym, _∙_}
 use borrow.Author.Needs.{needs}
 use Rattle.policy.proofs.Making.{zero-counted}
-use Rattle.policy.specs.Making.{counted, withTables}
 use Rattle.records.specs.Records.{unpacked}
 use Rattle.records.proofs.Packing.{policy-of, policy-of-other}
 use Rattle.records.proofs.policy_of.Statement.{statement}
@@ -35,13 +34,17 @@ bytes-at-requires-2 c κs = search needs
 flags-at-requires : tie.Need-flags-at-requires
 flags-at-requires c κs = search needs
 
+quiet-at-requires : tie.Need-quiet-at-requires
+quiet-at-requires c κs = search needs
+
 returns-2 : tie.Need-returns-2
-unfolding counted withTables unpacked
+unfolding unpacked
 returns-2 c =
-    let target = c .before .before .bytes-at .ensures in
-    let colour = c .before .bytes-at2 .ensures in
-    let family = c .flags-at .ensures in
-    rw (policy-of _ (c .before .before .before .before .before .before .before .if1 .left), target, colour, family)
+    let target = c .before .before .before .bytes-at .ensures in
+    let colour = c .before .before .bytes-at2 .ensures in
+    let family = c .before .flags-at .ensures in
+    let quiet = c .quiet-at .ensures in
+    rw (policy-of _ (c .before .before .before .before .before .before .before .before .if1 .left), target, colour, family, quiet)
 
 pub policy-of-spec : {M : Type 1} → statement M
 policy-of-spec =
@@ -56,4 +59,5 @@ policy-of-spec =
     bytes-at-requires
     bytes-at-requires-2
     flags-at-requires
+    quiet-at-requires
     returns-2)

@@ -1,9 +1,14 @@
--- `records::record_of` meets its contract: four stores and three calls make the record. Assumes nothing.
+-- `records::record_of` meets its contract: four stores and three calls make the record, and a fourth call where an edge is quiet. Assumes nothing.
+use native.Mathlib.Omega.{arith}
 use mathlib.Core.Path.{refl}
-use Rattle.records.proofs.Packing.{Sized, stores}
+use Rattle.records.proofs.Packing.{Sized, stores-loud, stores-quiet}
 use borrow.Author.Needs.{needs}
 use Rattle.records.proofs.record_of.Statement.{statement}
 use Rattle.records.proofs.record_of.Tie as tie
+
+-- the policy that came in
+sized : (c : tie.Start) → Sized (c .args .t1)
+sized c = record { targets = search needs; colours = search needs; sets = search needs; quiet-lt = omega arith }
 
 array-write-packed : tie.Need-array-write-packed
 array-write-packed c = search needs
@@ -37,11 +42,31 @@ put-flags-requires c κs = search needs
 
 returns : tie.Need-returns
 returns c =
-    let last = c .before in
-    let second = last .before .before .before .before .before .before in
+    let third = c .before .before in
+    let second = third .before .before .before .before .before .before in
     let first = second .before .before .before .before .before .before in
-    let sized : Sized (first .before .before .before .before .before .args .t1) = record { targets = search needs; colours = search needs; sets = search needs } in
-    stores _ sized _ _ _ _ refl refl (first .put-bytes .ensures) (second .put-bytes2 .ensures) (last .put-flags .ensures)
+    stores-loud _ (sized (first .before .before .before .before .before)) _ _ _ _ refl refl (first .put-bytes .ensures) (second .put-bytes2 .ensures) (third .put-flags .ensures) refl (c .if1 .taken)
+
+quiet-flags-requires : tie.Need-quiet-flags-requires
+quiet-flags-requires c κs = search needs
+
+slice-aggregate-put-flags-2 : tie.Need-slice-aggregate-put-flags-2
+slice-aggregate-put-flags-2 c = search needs
+
+slice-aggregate-put-flags-3 : tie.Need-slice-aggregate-put-flags-3
+slice-aggregate-put-flags-3 c = search needs
+
+put-flags-requires-2 : tie.Need-put-flags-requires-2
+put-flags-requires-2 c κs = search needs
+
+returns-2 : tie.Need-returns-2
+returns-2 c =
+    let fourth = c .before in
+    let flags = fourth .before .before .before in
+    let third = flags .before .before .before in
+    let second = third .before .before .before .before .before .before in
+    let first = second .before .before .before .before .before .before in
+    stores-quiet _ (sized (first .before .before .before .before .before)) _ _ _ _ refl refl (first .put-bytes .ensures) (second .put-bytes2 .ensures) (third .put-flags .ensures) (flags .quiet-flags .ensures) (fourth .put-flags2 .ensures)
 
 pub record-of-spec : {M : Type 1} → statement M
 record-of-spec =
@@ -57,4 +82,9 @@ record-of-spec =
     put-bytes-requires-2
     slice-aggregate-put-flags
     put-flags-requires
-    returns)
+    returns
+    quiet-flags-requires
+    slice-aggregate-put-flags-2
+    slice-aggregate-put-flags-3
+    put-flags-requires-2
+    returns-2)
