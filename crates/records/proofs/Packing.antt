@@ -12,7 +12,7 @@ use lib.ListN.{length, getD, set, take, drop, take-append-drop, replicate, lengt
 use lib.Seq.{sets, length-sets, take-all, drop-set-lt, ext-getD, getD-append-add}
 use borrow.Author.Tests.{eq-eqb, ne-eqb}
 use Rattle.lists.specs.Lists.{any, below}
-use Rattle.lists.proofs.Lists.{length-below, getD-map-below, none-any, mem-below}
+use Rattle.lists.proofs.Lists.{length-below, getD-map-below, none-any, none-true, mem-below}
 use Rattle.lists.proofs.AnyAll.{any-snoc}
 use Rattle.masks.specs.Masks.{has, insert, maskOf}
 use Rattle.masks.proofs.Bits.{mask-ext-to, has-none}
@@ -193,3 +193,12 @@ unfolding anyQuiet quietAt
 quiet-none b f =
     let t : ℕ → Bool = quietByte b in
     sym (mask-ext-to 64 (maskOf t 64) 0 (mask-of-lt t 64) (lit< tt) (λ i l. has-mask-of t 64 i l ∙ none-any t (below 64) f i (mem-below 64 i l) ∙ sym (has-none i)))
+
+-- ---- without quiet edges: the record is that of the 388 bytes before it, with 64 zeros; and such zeros give no quiet edge
+pub plain-record : (p : Policy) → p .quiet ≡ 0 → recordOf p ≡ p .states ∷ p .letters ∷ p .colours ∷ p .initial ∷ (p .target ++ p .colour ++ map flag (p .family) ++ replicate 64 0)
+unfolding recordOf quietFlags has
+plain-record p plain = ap (λ (m : ℕ). p .states ∷ p .letters ∷ p .colours ∷ p .initial ∷ (p .target ++ p .colour ++ map flag (p .family) ++ map flag (quietFlags m))) plain
+
+pub plain-unpacked : (b : List ℕ) → ((i : ℕ) → getD b (388 + i) 0 ≡ 0) → unpacked b .quiet ≡ 0
+unfolding unpacked anyQuiet
+plain-unpacked b zeros = sym (quiet-none b (none-true (quietByte b) (below 64) (λ i m. ap isSet (zeros i))))
