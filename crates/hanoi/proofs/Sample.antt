@@ -36,6 +36,6 @@ says = record {
   text-is = refl;
 }
 
-policy : policyOf d ≡ record { states = 2; letters = 2; colours = 3; initial = 1; target = (1 ∷ 0 ∷ 1 ∷ 0 ∷ []) ++ replicate 60 0; colour = (0 ∷ 1 ∷ 0 ∷ 2 ∷ []) ++ replicate 60 0; family = (false ∷ false ∷ true ∷ true ∷ []) ++ replicate 252 false }
+policy : policyOf d ≡ record { states = 2; letters = 2; colours = 3; initial = 1; target = (1 ∷ 0 ∷ 1 ∷ 0 ∷ []) ++ replicate 60 0; colour = (0 ∷ 1 ∷ 0 ∷ 2 ∷ []) ++ replicate 60 0; family = (false ∷ false ∷ true ∷ true ∷ []) ++ replicate 252 false; quiet = 0 }
 unfolding has insert letters holds setOf firsts colourIn unionAt markSet edgesOf markSets colourOf named policyOf
 policy = refl

@@ -46,8 +46,9 @@ module _ (d : Document) where
   unfoldable pub named : ℕ → Bool
   named s = ltb 0 s && ltb s (2 ^ length markSets) && holds (unionAt markSets s (length markSets)) (d .formula)
 
+  -- no edge is quiet: one without marks has the colour of the empty mark set
   unfoldable pub policyOf : Policy
-  policyOf = fromParts (record { states = d .states; letters = letters d; colours = length markSets; initial = d .start }) (filled 64 (map targetOf edgesOf)) (filled 64 (map colourOf edgesOf)) (map named (below 256))
+  policyOf = fromParts (record { states = d .states; letters = letters d; colours = length markSets; initial = d .start; quiet = 0 }) (filled 64 (map targetOf edgesOf)) (filled 64 (map colourOf edgesOf)) (map named (below 256))
 
   -- ---- its own runs: a letter takes the edge of the state and the valuation, and meets the edge's marks; another letter is refused
   unfoldable pub edgeAt : ℕ → ℕ → Edge

@@ -83,6 +83,7 @@ pub fn read(text: &[u8]) -> Answer
             target,
             colour,
             family,
+            quiet: 0,
         },
     }
 }
