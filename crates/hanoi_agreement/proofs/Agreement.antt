@@ -23,7 +23,7 @@ use Rattle.recurrence.proofs.Periods.{rounds-mem}
 use Rattle.recurrence.proofs.Runs.{recurring-window}
 use Rattle.policy.specs.declared.Policy.{Policy}
 use Rattle.policy.specs.Policies.{legal, edgeOf, inFamily, colourOf}
-use Rattle.policy.proofs.Laws.{edge-colour-is, is-edge-colour, edge-coloured}
+use Rattle.policy.proofs.Laws.{plain-loud, edge-colour-is, is-edge-colour, edge-coloured}
 use Rattle.running.specs.Running.{policyStep, policyMeets}
 use Rattle.running.proofs.Steps.{policy-moves, policy-stays, policy-within}
 use Rattle.judging.specs.Judging.{recurringColours}
@@ -38,7 +38,7 @@ use Rattle.correctness.proofs.Sequences.{recurs-along}
 use Rattle.hanoi_agreement.specs.Agreement.{textState, marksMet, Agreement}
 use Rattle.mark_sets.proofs.Unions.{union-has}
 use Rattle.hanoi.proofs.Documents.{colour-lt, colour-has, edges-long, edge-in}
-use Rattle.hanoi_agreement.proofs.PolicyOf.{letters-are, colour-at, step-same, family-at, named-is}
+use Rattle.hanoi_agreement.proofs.PolicyOf.{letters-are, no-quiet, colour-at, step-same, family-at, named-is}
 use Rattle.hanoi_agreement.proofs.Legal.{read-parts, read-legal}
 use Rattle.hanoi_agreement.proofs.Recurring.{recurs-with}
 
@@ -77,7 +77,7 @@ module _ (d : Document) (ok : lawful d ≡ true) where
       met-colour c m = edge-colour-is p (edgeOf p v a) c (subst (List·Memᴰ c) (policy-moves p v a (ap (ltb a) (letters-are d) ∙ t) .1) m) ∙ colour-is
 
       colour-met : List·Memᴰ colour (policyMeets p v a)
-      colour-met = subst (List·Memᴰ colour) (sym (policy-moves p v a (ap (ltb a) (letters-are d) ∙ t) .1)) (is-edge-colour p (edgeOf p v a) colour (sym colour-is))
+      colour-met = subst (List·Memᴰ colour) (sym (policy-moves p v a (ap (ltb a) (letters-are d) ∙ t) .1)) (is-edge-colour p (edgeOf p v a) colour (plain-loud p (no-quiet d) (edgeOf p v a)) (sym colour-is))
 
       -- its marks are the ones met
       has-marks : (m : ℕ) → Has colour m ↔ List·Memᴰ m (meets d v a)
@@ -117,7 +117,7 @@ module _ (d : Document) (ok : lawful d ≡ true) where
       go : (ltb a (letters d) ≡ true) ⊎ (ltb a (letters d) ≡ false) → (any (λ a. ltb a (letters d)) w ≡ true → (c : ℕ) × List·Memᴰ c (met (policyStep p) (policyMeets p) w (policyStep p v a)))
           → (c : ℕ) × List·Memᴰ c (met (policyStep p) (policyMeets p) (a ∷ w) v)
       go (inl t) ih =
-          let c = edge-coloured p (edgeOf p v a) in
+          let c = edge-coloured p (edgeOf p v a) (plain-loud p (no-quiet d) (edgeOf p v a)) in
           (c .0, Memᴰ·append-left rest (subst (List·Memᴰ (c .0)) (sym (policy-moves p v a (ap (ltb a) (letters-are d) ∙ t) .1)) (c .1)))
       go (inr f) ih = let c = ih (rw f at e) in (c .0, Memᴰ·append-right (policyMeets p v a) (c .1))
 

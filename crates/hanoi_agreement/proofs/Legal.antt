@@ -13,6 +13,7 @@ use Rattle.lists.proofs.Lists.{each-all, below-lt, getD-mem}
 use Rattle.policy.specs.declared.Policy.{Policy}
 use Rattle.policy.specs.Policies.{edges, targetOf, colourOf, inFamily, countsFit, legalCounts, legalEdge, legalEdges, legalSet, legalFamily, legal}
 use Rattle.policy.proofs.Laws.{parts-legal}
+use Rattle.policy.proofs.LegalTests.{legal-quiet-none}
 use Rattle.mark_sets.specs.MarkSets.{unionAt}
 use Rattle.hanoi.specs.declared.Answer.{Answer}
 use Rattle.hanoi.specs.declared.Outcome.{Outcome}
@@ -21,7 +22,7 @@ use Rattle.hanoi.specs.Documents.{plain, Document, letters, lawful}
 use Rattle.hanoi.specs.Meaning.{holds, edgesOf, markSets, named, policyOf}
 use Rattle.hanoi.specs.Answers.{answerOf}
 use Rattle.hanoi.proofs.Documents.{colour-lt, start-lt, letters-some, letters-few, edges-long, edge-target, colours-some}
-use Rattle.hanoi_agreement.proofs.PolicyOf.{edge, target-at, colour-at, past-target, past-colour, family-at}
+use Rattle.hanoi_agreement.proofs.PolicyOf.{edge, target-at, colour-at, past-target, past-colour, no-quiet, family-at}
 
 -- ---- the answer
 abbrev pub isRead : Outcome → Bool
@@ -100,13 +101,15 @@ module _ (d : Document) (ok : lawful d ≡ true) (r : IsRead d) where
   unfolding legalSet named policyOf
   set-legal s l (inl t) =
       let h = sym (family-at d s l) ∙ t in
-      rw t (and-l (ltb 0 s && ltb s (2 ^ length (markSets d))) (holds (unionAt (markSets d) s (length (markSets d))) (d .formula)) h)
+      let within = and-l (ltb 0 s && ltb s (2 ^ length (markSets d))) (holds (unionAt (markSets d) s (length (markSets d))) (d .formula)) h in
+      rw t (and-r (ltb 0 s) (ltb s (2 ^ length (markSets d))) within)
   set-legal s l (inr f) = rw f refl
 
   pub policy-legal : legal p ≡ true
   unfolding legalEdges legalFamily
   policy-legal =
       parts-legal p counts-fit (each-all (legalEdge p) (below 64) (λ e m. edge-legal e (test (ltb e (edges p)))))
+      (sym (legal-quiet-none p (no-quiet d)))
       (each-all (legalSet p) (below 256) (λ s m. set-legal s (below-lt 256 s m) (test (inFamily p s))))
 
 pub read-legal : (d : Document) → lawful d ≡ true → answerOf d .outcome ≡ Read → legal (policyOf d) ≡ true

@@ -29,6 +29,11 @@ module _ (d : Document) where
   unfolding policyOf
   letters-are = refl
 
+  -- no edge is quiet
+  pub no-quiet : p .quiet ≡ 0
+  unfolding policyOf
+  no-quiet = refl
+
   -- edge e of the document
   abbrev pub edge : ℕ → Edge
   edge e = getD (edgesOf d) e (plain 0)

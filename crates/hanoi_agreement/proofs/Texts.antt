@@ -5,7 +5,7 @@ use mathlib.Core.Path.{_≡_, refl, sym, ap, _∙_, subst}
 use mathlib.Core.Logic.{_⊎_, inl, inr}
 use mathlib.Core.Bool.{Bool, true, false, _&&_, cond}
 use mathlib.Core.List.{List, map}
-use lib.Dec.{leb}
+use lib.Dec.{leb, lit<}
 use lib.ListN.{length, replicate, length-append, length-map, length-replicate}
 use Rattle.lists.specs.Questions.{ask}
 use Rattle.lists.proofs.Bools.{test}
@@ -100,6 +100,7 @@ policy-sized d ok r =
       targets = filled-long (map targetOf (edgesOf d)) (subst (λ (n : ℕ). n ≤ 64) (sym (length-map (edgesOf d) targetOf)) few);
       colours = filled-long (map (colourOf d) (edgesOf d)) (subst (λ (n : ℕ). n ≤ 64) (sym (length-map (edgesOf d) (colourOf d))) few);
       sets = length-map-below (named d) 256;
+      quiet-lt = lit< tt;
     }
   where
     filled-long : (l : List ℕ) → length l ≤ 64 → length (filled 64 l) ≡ 64
