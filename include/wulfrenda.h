@@ -25,11 +25,14 @@ extern "C" {
 
 /* ---- version
  *
- * This file's: major times 1,000,000 plus minor times 1,000 plus patch, here 3.1.0. wulfrenda_version gives the archive's. A record of another length, a
+ * This file's: major times 1,000,000 plus minor times 1,000 plus patch, here 4.0.0. wulfrenda_version gives the archive's. A record of another length, a
  * call with other arguments and other tables for one policy are another major version; other macros and calls are another minor one. Since 3.0.0
  * priorities begin at 1 where no tree with the most levels has an accepting root (see wulfrenda_translate); since 3.1.0 there is wulfrenda_read_hanoi.
+ * Since 4.0.0 an edge may have no colour, by command 0x04, and a family may have the empty set, by 0x03 with 0. The record says which edges have none, and is
+ * 64 bytes longer for it: 452, where it had 388. Policies without either are read and translated as before. A record of 388 bytes, lent with that length, is
+ * refused with 7; with 64 bytes of 0 behind it, it is the record of the same policy.
  */
-#define WULFRENDA_VERSION 3001000
+#define WULFRENDA_VERSION 4000000
 
 /* ---- limits */
 
@@ -56,33 +59,39 @@ extern "C" {
 
 /* ---- a policy's record
  *
- * A policy crosses as 388 bytes, lent with their number. Another number is refused with 7 and nothing of them is read or written, since
- * another version's record may be longer or shorter:
+ * A policy crosses as 452 bytes, lent with their number. Another number is refused with 7 and nothing of them is read or written, since
+ * another version's record may be longer or shorter; those of versions before 4.0.0 have 388:
  *
  *   byte 0          states, 1 to 16
  *   byte 1          letters, 1 to 8
  *   byte 2          colours, 1 to 8
  *   byte 3          the initial state
  *   bytes 4..67     the target of each edge; edge = state times letters plus letter; 0 past the last edge
- *   bytes 68..131   the colour of each edge; 0 past the last edge
- *   bytes 132..387  for each colour set, an 8-bit mask: not 0 if the set is in the family
+ *   bytes 68..131   the colour of each edge; 0 for a quiet edge, and past the last edge
+ *   bytes 132..387  for each colour set, an 8-bit mask, from the empty set, 0, to 255: not 0 if the set is in the family
+ *   bytes 388..451  for each edge: not 0 if it is quiet; 0 past the last edge
  *
- * wulfrenda_read and wulfrenda_read_hanoi write 1 for a set in the family. A record may also be filled in by hand: one that is not legal is refused with 7 by the
- * calls that take it. Legal: the counts within their limits, states times letters at most 64, the initial state and every target a state,
- * every edge's colour a colour, 0 past the last edge, and no member of the family empty or with a bit at or above the number of colours.
+ * A quiet edge has no colour. The colours of a cycle are those of its edges that are not quiet; a cycle of quiet edges alone has the empty set, and is accepting
+ * exactly if set 0 is in the family.
+ *
+ * wulfrenda_read and wulfrenda_read_hanoi write 1 for a set in the family and for a quiet edge. A record may also be filled in by hand: one that is not legal is
+ * refused with 7 by the calls that take it. Legal: the counts within their limits (colours 1 to 8 also where every edge is quiet), states times letters at most
+ * 64, the initial state and every target a state, every edge's colour a colour and a quiet edge's 0, 0 past the last edge, and no member of the family with a bit
+ * at or above the number of colours.
  */
-#define WULFRENDA_RECORD_BYTES 388
+#define WULFRENDA_RECORD_BYTES 452
 #define WULFRENDA_RECORD_TARGETS 4
 #define WULFRENDA_RECORD_COLOURS 68
 #define WULFRENDA_RECORD_FAMILY 132
+#define WULFRENDA_RECORD_QUIET 388
 
 /* ---- answers: 0, or the number of the first question that was answered "no". The questions are put in the order that each call names. */
 
 #define WULFRENDA_OK 0
 #define WULFRENDA_TRUNCATED 1           /* Is there another byte? Are a command's operands all there? */
-#define WULFRENDA_UNKNOWN_COMMAND 2     /* Is the command's byte 0 to 3? */
+#define WULFRENDA_UNKNOWN_COMMAND 2     /* Is the command's byte 0 to 4? */
 #define WULFRENDA_MISPLACED 3           /* Is it shape if first, and not shape if later? */
-#define WULFRENDA_OUT_OF_RANGE 4        /* Are the operands within the limits and the declared counts, and an accepted set non-empty? Of a text: are its counts? */
+#define WULFRENDA_OUT_OF_RANGE 4        /* Are the operands within the limits and the declared counts? Of a text: are its counts? */
 #define WULFRENDA_REPEATED 5            /* Is this edge, or this set, given for the first time? */
 #define WULFRENDA_INCOMPLETE 6          /* At end: has every edge been given? */
 #define WULFRENDA_ILLEGAL_POLICY 7      /* Is the policy legal? */
@@ -111,8 +120,9 @@ uint32_t wulfrenda_version(void);
 uint8_t wulfrenda_colour_set(uint8_t position);
 
 /*
- * Reads a policy from command bytes: 0x01 shape (states, letters, colours, initial), 0x02 edge (state, letter, target, colour), 0x03 accept
- * (colour set), 0x00 end. Shape comes first, the others in any order, and reading stops after the end command.
+ * Reads a policy from command bytes: 0x01 shape (states, letters, colours, initial), 0x02 edge (state, letter, target, colour), 0x04 quiet edge
+ * (state, letter, target), 0x03 accept (colour set, 0 too), 0x00 end. Shape comes first, the others in any order, and reading stops after the end command.
+ * Each edge is given once, by 0x02 or by 0x04.
  *
  *   bytes, bytes_length   the command bytes, and whatever follows them
  *   record, record_length the policy's record; the length is WULFRENDA_RECORD_BYTES
@@ -139,7 +149,7 @@ uint8_t wulfrenda_read(const uint8_t *bytes, size_t bytes_length, uint8_t *recor
  *
  * Letter a of a state is its edge a; name i holds there if bit i of a is set. Each different mark set on an edge, the empty one included, is a colour, numbered by first
  * appearance. A non-empty colour set is in the family exactly if the formula holds of the union of its mark sets: Inf(m) if m is in it, Fin(m) if not. So the
- * policy accepts a stem and a loop exactly if the text does.
+ * policy accepts a stem and a loop exactly if the text does. No edge is quiet, and set 0 is not in the family.
  *
  *   text, text_length     the text, of any length
  *   record, record_length the policy's record; the length is WULFRENDA_RECORD_BYTES
@@ -164,9 +174,10 @@ uint8_t wulfrenda_read_hanoi(const uint8_t *text, size_t text_length, uint8_t *r
  *   row_priorities   its priority
  *   counts           three numbers: how many nodes, how many built states, and the built state begun in
  *
- * Priorities lie between 0 and the number of colours. If some tree with the most levels has an accepting root, accepting roots have 0 and rejecting ones 1;
- * otherwise rejecting roots have 1 and accepting ones 2, and no priority is 0. Each level adds 1. A row whose edge is in no cycle has the lowest
- * priority that any node has.
+ * A tree has at most as many levels as there are colours, and one more where an edge is quiet. So priorities lie between 0 and the number of colours, or one more
+ * where an edge is quiet: 0 to 9. If some tree with the most levels has an accepting root, accepting roots have 0 and rejecting ones 1; otherwise rejecting roots
+ * have 1 and accepting ones 2, and no priority is 0. Each level adds 1. A row whose edge is in no cycle has the lowest priority that any node has. A row whose edge
+ * is quiet has a priority like any other.
  *
  * 7. 8: the node tables are of one length, the state tables of one length, and each row table letters times the latter. 9. 10.
  *
@@ -291,10 +302,10 @@ uint8_t wulfrenda_run(uint8_t letters,
  *   state                 the policy state begun in
  *   stem, stem_length     the letters before the loop
  *   loop, loop_length     the letters of the loop
- *   colours               the set of the colours that recur
+ *   colours               the set of the colours that recur; 0, the empty set, if only quiet edges recur
  *   accepted              1 if that set is in the family, else 0
  *
- * 7, 11, 14, 12. After a refusal *colours and *accepted are 0.
+ * 7, 11, 14, 12. After a refusal *colours and *accepted are 0. The number that is answered tells a refusal from a run on quiet edges alone.
  */
 uint8_t wulfrenda_judge_policy(const uint8_t *record, size_t record_length, uint8_t state,
                                const uint8_t *stem, size_t stem_length,
@@ -316,8 +327,8 @@ uint8_t wulfrenda_judge_rows(uint8_t letters,
                              uint8_t *least);
 
 /*
- * Compares two policies, by their records, over one graph: *same is 1 if every cycle, reached or not, has the same verdict in both, else 0. Colours and initial
- * state may differ. 7 of either, 15. After a refusal *same is 0.
+ * Compares two policies, by their records, over one graph: *same is 1 if every cycle, reached or not, has the same verdict in both, else 0. Colours, initial state
+ * and which edges are quiet may differ. 7 of either, 15. After a refusal *same is 0.
  */
 uint8_t wulfrenda_compare(const uint8_t *first, size_t first_length,
                           const uint8_t *second, size_t second_length,
