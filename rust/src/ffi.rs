@@ -1,4 +1,5 @@
-//! The functions of the static library, as `include/wulfrenda.h` declares them. A slice crosses as a pointer and a number of elements. What the header calls `loop` is `period` here.
+//! The functions of the static library, as `include/wulfrenda.h` declares them. A slice crosses as a pointer and a number of elements, a record too: `RECORD_LEN` of
+//! them, and any other number is refused. What the header calls `loop` is `period` here.
 
 extern "C" {
     pub fn wulfrenda_version() -> u32;

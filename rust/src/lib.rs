@@ -14,6 +14,38 @@
 //! assert!(judge_policy(&policy, 0, &[], &[0])?.accepted);
 //! # Ok::<(), Box<dyn std::error::Error>>(())
 //! ```
+//!
+//! # Command bytes
+//!
+//! | command | operands |
+//! |---|---|
+//! | 1 shape | states, letters, colours, initial state |
+//! | 2 edge | state, letter, target, colour |
+//! | 4 quiet edge | state, letter, target |
+//! | 3 accept | colour set |
+//! | 0 end | none |
+//!
+//! Shape comes first, the others in any order. Each edge is given once, with a colour or quiet. What was read is held as a record of [`RECORD_LEN`] bytes,
+//! [`Policy::record`], which can be stored and given back to [`Policy::from_record`]. A record of 388 bytes, of a version before 4.0.0, needs 64 bytes of 0 behind it.
+//!
+//! # Quiet edges
+//!
+//! A quiet edge has no colour: a heartbeat, say, that is no event of any kind. What recurs on a run is the colours of the other edges. A run on quiet edges alone has
+//! the empty recurring set, and is accepted exactly if set 0 was named.
+//!
+//! ```
+//! use wulfrenda::{judge_policy, Policy, Verdict};
+//!
+//! // shape: one state, two letters, one colour; an event of colour 0; a heartbeat; accept {0}; end
+//! let bytes = [1, 1, 2, 1, 0, 2, 0, 0, 0, 0, 4, 0, 1, 0, 3, 1, 0];
+//! let (policy, _) = Policy::read(&bytes)?;
+//! assert!(policy.is_quiet(1) && !policy.is_quiet(0));
+//! // events again and again, with a heartbeat between them
+//! assert_eq!(judge_policy(&policy, 0, &[], &[0, 1])?, Verdict { colours: 1, accepted: true });
+//! // from some time on heartbeats alone: nothing recurs, and set 0 was not named
+//! assert_eq!(judge_policy(&policy, 0, &[0], &[1])?, Verdict { colours: 0, accepted: false });
+//! # Ok::<(), Box<dyn std::error::Error>>(())
+//! ```
 #![no_std]
 #![deny(missing_docs)]
 
@@ -37,7 +69,7 @@ pub const PLANT: u8 = 1;
 pub const NO_LETTER: u8 = 255;
 
 /// The version that this layer is built for: major times 1,000,000 plus minor times 1,000 plus patch. [`version`] gives the archive's.
-pub const VERSION: u32 = 3_001_000;
+pub const VERSION: u32 = 4_000_000;
 
 /// Stack enough for any call.
 pub const STACK_BYTES: usize = 262_144;
@@ -45,8 +77,10 @@ pub const STACK_BYTES: usize = 262_144;
 /// The seven tables that [`translate`] fills in. The lengths of the three node tables are equal, those of the two state tables too, and each row table is letters
 /// times as long as a state table. Row = built state times letters plus letter.
 ///
-/// Priorities lie between 0 and the number of colours. If some tree with the most levels has an accepting root, accepting roots have 0 and rejecting ones 1; otherwise
-/// rejecting roots have 1 and accepting ones 2, and no priority is 0. Each level adds 1. A row whose edge is in no cycle has the lowest priority that any node has.
+/// A tree has at most as many levels as there are colours, and one more where an edge is quiet. So priorities lie between 0 and the number of colours, or one more
+/// where an edge is quiet: 0 to 9. If some tree with the most levels has an accepting root, accepting roots have 0 and rejecting ones 1; otherwise rejecting roots
+/// have 1 and accepting ones 2, and no priority is 0. Each level adds 1. A row whose edge is in no cycle has the lowest priority that any node has. A row whose edge is
+/// quiet has a priority like any other.
 #[derive(Debug)]
 pub struct Tables<'a> {
     /// The edges of each node, bit e for edge e.
@@ -345,7 +379,7 @@ impl Run {
 /// What judging a policy gives.
 #[derive(Clone, Copy, Debug, PartialEq, Eq, Hash)]
 pub struct Verdict {
-    /// The set of the colours that recur.
+    /// The set of the colours that recur; 0, the empty set, if only quiet edges recur.
     pub colours: u8,
     /// Whether that set is in the family.
     pub accepted: bool,
@@ -402,7 +436,7 @@ pub fn judge_rows(rows: &Rows<'_>, state: u16, stem: &[u8], period: &[u8]) -> Re
     Refusal::check(number).map(|()| least)
 }
 
-/// Whether every cycle, reached or not, has the same verdict in both policies. Refused with 7 or 15.
+/// Whether every cycle, reached or not, has the same verdict in both policies. Colours, initial state and which edges are quiet may differ. Refused with 7 or 15.
 pub fn compare(first: &Policy, second: &Policy) -> Result<bool, Refusal> {
     let mut same = 0;
     // SAFETY: the pointers are those of two arrays and a local.

@@ -5,16 +5,17 @@ use core::fmt;
 use crate::ffi;
 use crate::refusal::{HanoiError, ReadError, Refusal};
 
-/// How many bytes a policy's record has: states, letters, colours, initial state; the targets of 64 edges; their colours; and for each of the 256 colour sets
-/// whether it is in the family.
-pub const RECORD_LEN: usize = 388;
+/// How many bytes a policy's record has: states, letters, colours, initial state; the targets of 64 edges; their colours; for each of the 256 colour sets whether
+/// it is in the family; and for each of the 64 edges whether it is quiet.
+pub const RECORD_LEN: usize = 452;
 
 const TARGETS: usize = 4;
 const COLOURS: usize = 68;
 const FAMILY: usize = 132;
+const QUIET: usize = 388;
 
-/// A policy: a deterministic Muller automaton. Edge number = state times letters plus letter. One made by [`Policy::from_record`] need not be legal; the calls
-/// that take policies refuse it then with 7.
+/// A policy: a deterministic Muller automaton. Edge number = state times letters plus letter. An edge has a colour, or it is quiet and has none. A policy made by
+/// [`Policy::from_record`] need not be legal; the calls that take policies refuse it then with 7.
 #[derive(Clone, Copy, PartialEq, Eq)]
 pub struct Policy {
     record: [u8; RECORD_LEN],
@@ -42,7 +43,7 @@ impl Policy {
     }
 
     /// The policy of a text in the Hanoi Omega-Automata format, version 1, as far as the subset goes that `include/wulfrenda.h` describes. Letters are the valuations of
-    /// the names, and each different mark set on an edge is a colour. Refused with 18, 4 or 19.
+    /// the names, and each different mark set on an edge is a colour, the empty one too: no edge is quiet. Refused with 18, 4 or 19.
     ///
     /// ```
     /// use wulfrenda::{judge_policy, Policy, Refusal};
@@ -77,8 +78,10 @@ impl Policy {
         }
     }
 
-    /// The policy of a record. A set whose byte is not 0 is in the family; the policy's own record has a 1 there.
+    /// The policy of a record. A set whose byte is not 0 is in the family, and an edge whose byte is not 0 is quiet; the policy's own record has a 1 there. A quiet
+    /// edge that has a colour other than 0, or lies past the last edge, makes the policy illegal.
     pub fn from_record(mut record: [u8; RECORD_LEN]) -> Policy {
+        // the family, and the quiet edges behind it
         for byte in &mut record[FAMILY..] {
             *byte = (*byte != 0) as u8;
         }
@@ -118,7 +121,7 @@ impl Policy {
         self.record[TARGETS..COLOURS][edge]
     }
 
-    /// The colour of an edge; 0 past the last edge.
+    /// The colour of an edge; 0 for a quiet edge, and past the last edge. [`Policy::is_quiet`] tells an edge of colour 0 from one that has none.
     ///
     /// # Panics
     /// If the number is 64 or more.
@@ -126,9 +129,17 @@ impl Policy {
         self.record[COLOURS..FAMILY][edge]
     }
 
-    /// Whether a colour set is in the family.
+    /// Whether an edge is quiet, that is, has no colour; past the last edge none is.
+    ///
+    /// # Panics
+    /// If the number is 64 or more.
+    pub fn is_quiet(&self, edge: usize) -> bool {
+        self.record[QUIET..][edge] != 0
+    }
+
+    /// Whether a colour set is in the family. Set 0 is that of a run on quiet edges alone.
     pub fn accepts(&self, set: u8) -> bool {
-        self.record[FAMILY..][usize::from(set)] != 0
+        self.record[FAMILY..QUIET][usize::from(set)] != 0
     }
 }
 
@@ -143,7 +154,19 @@ impl fmt::Debug for Policy {
             .field("initial", &self.initial())
             .field("targets", &&self.record[TARGETS..][..edges])
             .field("edge_colours", &&self.record[COLOURS..][..edges])
+            .field("quiet", &Quiet(self))
             .field("family", &Family(self))
+            .finish()
+    }
+}
+
+/// The quiet edges of a policy, for printing.
+struct Quiet<'a>(&'a Policy);
+
+impl fmt::Debug for Quiet<'_> {
+    fn fmt(&self, f: &mut fmt::Formatter<'_>) -> fmt::Result {
+        f.debug_set()
+            .entries((0..RECORD_LEN - QUIET).filter(|&edge| self.0.is_quiet(edge)))
             .finish()
     }
 }

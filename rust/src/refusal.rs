@@ -9,13 +9,13 @@ use core::fmt;
 pub enum Refusal {
     /// 1: the command bytes end inside the policy.
     Truncated = 1,
-    /// 2: a command's first byte is none of 0 to 3.
+    /// 2: a command's first byte is none of 0 to 4.
     UnknownCommand = 2,
     /// 3: the first command is not shape, or a later one is.
     Misplaced = 3,
-    /// 4: an operand is outside the limits or the declared counts, or an accepted set is empty; a text has too many states, or states times letters.
+    /// 4: an operand is outside the limits or the declared counts; a text has too many states, or states times letters.
     OutOfRange = 4,
-    /// 5: an edge or a set is given again.
+    /// 5: an edge or a set is given again; an edge with a colour and without one too.
     Repeated = 5,
     /// 6: an edge has not been given when the end command comes.
     Incomplete = 6,
