@@ -1,4 +1,5 @@
-//! The known policies, texts, the edges of the limits, what the tables hold after each refusal, solutions, runs, judgings and comparings, through the safe layer.
+//! The known policies, texts, quiet edges, the edges of the limits, what the tables hold after each refusal, solutions, runs, judgings and comparings, through the safe
+//! layer.
 
 use wulfrenda::{
     colour_set_at, compare, judge_policy, judge_rows, solve, solve_bytes, translate,
@@ -17,6 +18,9 @@ const A: [u8; 27] = [
 
 /// Policy C: two states, one letter, one colour, both targets 1, family mask 1.
 const C: [u8; 18] = [1, 2, 1, 1, 0, 2, 0, 0, 1, 0, 2, 1, 0, 1, 0, 3, 1, 0];
+
+/// One state; letter 0 is quiet, letter 1 has colour 0; the family is the empty set alone.
+const SILENT: [u8; 17] = [1, 1, 2, 1, 0, 4, 0, 0, 0, 2, 0, 1, 0, 0, 3, 0, 0];
 
 fn policy(bytes: &[u8]) -> Policy {
     Policy::read(bytes).unwrap().0
@@ -148,6 +152,7 @@ fn header_layer_and_archive_are_of_one_version() {
     let number = package.fold(0, |n, part| 1000 * n + part.parse::<u32>().unwrap());
     assert_eq!(number, VERSION);
     assert_eq!(in_header("WULFRENDA_RECORD_BYTES"), RECORD_LEN);
+    assert_eq!(in_header("WULFRENDA_RECORD_QUIET") + 64, RECORD_LEN);
     assert_eq!(in_header("WULFRENDA_NONE"), usize::from(NONE));
     assert_eq!(in_header("WULFRENDA_STACK_BYTES"), STACK_BYTES);
     for (name, value) in [
@@ -195,14 +200,14 @@ fn reading_refuses_in_order() {
     refused(&[], Refusal::Truncated, 0);
     refused(&B[..29], Refusal::Truncated, 29);
     refused(&B[..7], Refusal::Truncated, 5);
-    refused(&[4], Refusal::UnknownCommand, 0);
+    refused(&[5], Refusal::UnknownCommand, 0);
     refused(&[0], Refusal::Misplaced, 0);
     refused(&[1, 2, 2, 2, 0, 1, 2, 2, 2, 0], Refusal::Misplaced, 5);
     refused(&[1, 9, 8, 1, 0], Refusal::OutOfRange, 0);
     refused(&[1, 8, 8, 1, 0, 0], Refusal::Incomplete, 5);
     refused(&[1, 1, 1, 3, 0, 3, 7, 3, 8], Refusal::OutOfRange, 7);
-    refused(&[1, 1, 1, 3, 0, 3, 0], Refusal::OutOfRange, 5);
     refused(&[1, 1, 1, 3, 0, 3, 7, 3, 7], Refusal::Repeated, 7);
+    refused(&[1, 1, 1, 3, 0, 3, 0, 3, 0], Refusal::Repeated, 7);
     refused(
         &[1, 1, 1, 1, 0, 2, 0, 0, 0, 0, 2, 0, 0, 0, 0],
         Refusal::Repeated,
@@ -427,7 +432,7 @@ fn from_command_bytes_to_tables() {
         29,
         unread.clone(),
     );
-    refused(unread.clone(), &[4], Refusal::UnknownCommand, 0, unread);
+    refused(unread.clone(), &[5], Refusal::UnknownCommand, 0, unread);
     refused(whole.clone(), &bytes, Refusal::Lengths, 0, whole);
     let cleared = |nodes, states| Lent::filled(nodes, states, 2 * states, 0);
     let full = |nodes, states| Lent::new(nodes, states, 2 * states);
@@ -438,7 +443,8 @@ fn from_command_bytes_to_tables() {
 #[test]
 fn an_illegal_policy_leaves_the_tables_unchanged() {
     let b = *policy(&B).record();
-    // states 0 and 17, letters 0 and 9, colours 0 and 9, initial state 2, a target 2, a colour 2, an entry past the last edge, the empty set, set 4
+    // states 0 and 17, letters 0 and 9, colours 0 and 9, initial state 2, a target 2, a colour 2, an entry past the last edge, set 4; a quiet edge that has colour 1,
+    // and one past the last edge
     for (at, value) in [
         (0, 0),
         (0, 17),
@@ -451,8 +457,11 @@ fn an_illegal_policy_leaves_the_tables_unchanged() {
         (68, 2),
         (67, 1),
         (131, 1),
-        (132, 1),
         (136, 1),
+        (389, 1),
+        (391, 200),
+        (392, 1),
+        (451, 1),
     ] {
         let mut record = b;
         record[at] = value;
@@ -504,6 +513,358 @@ fn the_stack_that_is_named_is_enough() {
     let owners = [0, 1, 0, 1, 0, 1, 0, 1];
     let deep = move || Game::new(65_535, 65_535, 8 * 65_535).solve(&largest(3), &owners);
     assert_eq!(thread.spawn(deep).unwrap().join().unwrap(), Ok(built));
+    // nine levels
+    let thread = std::thread::Builder::new().stack_size(STACK_BYTES + 16 * 1024);
+    let deep = || Lent::new(9, 16, 64).translate(&ring(16, 4, 1));
+    assert_eq!(
+        thread.spawn(deep).unwrap().join().unwrap(),
+        counts(9, 16, 0)
+    );
+}
+
+// ---- quiet edges
+
+/// The bytes of hexadecimal text with comments.
+fn listed(text: &str) -> Vec<u8> {
+    let words = text.lines().flat_map(|line| {
+        let (bytes, _) = line.split_once('#').unwrap_or((line, ""));
+        bytes.split_whitespace()
+    });
+    words.map(|w| u8::from_str_radix(w, 16).unwrap()).collect()
+}
+
+/// One state with this family; letter 0 is quiet, letter 1 has colour 0.
+fn beside_a_heartbeat(family: &[u8]) -> Policy {
+    let mut bytes = SILENT[..14].to_vec();
+    for &set in family {
+        bytes.extend([3, set]);
+    }
+    bytes.push(0);
+    policy(&bytes)
+}
+
+#[test]
+fn quiet_edges_are_read() {
+    let (p, rest) = Policy::read(&SILENT).unwrap();
+    assert_eq!(rest, []);
+    let mut record = [0; RECORD_LEN];
+    record[..4].copy_from_slice(&[1, 2, 1, 0]);
+    (record[132], record[388]) = (1, 1);
+    assert_eq!(p.record(), &record);
+    assert!(p.is_quiet(0) && (1..64).all(|edge| !p.is_quiet(edge)));
+    assert_eq!((p.colour(0), p.colour(1)), (0, 0));
+    assert!(p.accepts(0) && (1..=255).all(|set| !p.accepts(set)));
+    assert!(format!("{p:?}").contains("quiet: {0}, family: {0}"));
+    // edges and sets come in any order
+    let bytes = [1, 1, 2, 1, 0, 3, 0, 2, 0, 1, 0, 0, 4, 0, 0, 0, 0, 4];
+    assert_eq!(Policy::read(&bytes), Ok((p, &[4][..])));
+}
+
+#[test]
+fn reading_quiet_edges_refuses_in_order() {
+    let refused = |bytes: &[u8], refusal, offset| {
+        let answer = Policy::read(bytes);
+        assert_eq!(answer, Err(ReadError { refusal, offset }), "{bytes:?}");
+    };
+    let after = |more: &[u8], refusal, offset: usize| {
+        // two states, three letters, two colours; edge 1 is quiet, edge 2 has colour 1
+        let begun = [1, 2, 3, 2, 0, 4, 0, 1, 1, 2, 0, 2, 1, 1];
+        refused(&[&begun, more].concat(), refusal, begun.len() + offset);
+    };
+    refused(&[4], Refusal::Truncated, 0);
+    refused(&[4, 0, 0], Refusal::Truncated, 0);
+    refused(&[4, 0, 0, 0], Refusal::Misplaced, 0);
+    after(&[4], Refusal::Truncated, 0);
+    after(&[4, 0, 1], Refusal::Truncated, 0);
+    after(&[5], Refusal::UnknownCommand, 0);
+    after(&[255, 0, 0, 0], Refusal::UnknownCommand, 0);
+    after(&[4, 1, 2, 1], Refusal::Truncated, 4);
+    // state, letter and target are within their counts
+    after(&[4, 2, 0, 0], Refusal::OutOfRange, 0);
+    after(&[4, 0, 3, 0], Refusal::OutOfRange, 0);
+    after(&[4, 0, 0, 2], Refusal::OutOfRange, 0);
+    after(&[4, 0, 1, 2], Refusal::OutOfRange, 0);
+    after(&[3, 0, 3, 4], Refusal::OutOfRange, 2);
+    // twice quiet; with a colour after quiet, and the other way round
+    after(&[4, 0, 1, 0], Refusal::Repeated, 0);
+    after(&[4, 1, 1, 0, 4, 1, 1, 0], Refusal::Repeated, 4);
+    after(&[2, 0, 1, 1, 0], Refusal::Repeated, 0);
+    after(&[4, 0, 2, 1], Refusal::Repeated, 0);
+    after(&[3, 0, 3, 1, 3, 0], Refusal::Repeated, 4);
+    // a colour that is none comes before that
+    after(&[2, 0, 1, 1, 2], Refusal::OutOfRange, 0);
+    let quiet = [4, 0, 0, 0, 4, 1, 0, 0, 4, 1, 1, 0, 4, 1, 2, 0];
+    after(&[&quiet[..12], &[0]].concat(), Refusal::Incomplete, 12);
+    after(&quiet, Refusal::Truncated, 16);
+}
+
+#[test]
+fn records_with_quiet_edges() {
+    let p = policy(&SILENT);
+    assert_eq!(Policy::from_record(*p.record()), p);
+    let mut record = *p.record();
+    (record[388], record[132]) = (200, 7);
+    assert_eq!(Policy::from_record(record), p);
+    record[388] = 0;
+    let coloured = Policy::from_record(record);
+    assert!(!coloured.is_quiet(0));
+    assert_ne!(coloured, p);
+    assert_eq!(
+        judge_policy(&coloured, 0, &[], &[0]).unwrap().colours,
+        1,
+        "an edge that is not quiet has colour 0"
+    );
+    // a record of 388 bytes and 64 bytes of 0
+    let mut older = [0; RECORD_LEN];
+    older[..388].copy_from_slice(&policy(&B).record()[..388]);
+    assert_eq!(Policy::from_record(older), policy(&B));
+    // each place but the counts, made 1, 2 or 255: no quiet edge has a colour and none lies past the last edge, and no set lies outside the colour
+    for at in 4..RECORD_LEN {
+        for value in [1, 2, 255] {
+            let mut record = *p.record();
+            record[at] = value;
+            let damaged = Policy::from_record(record);
+            let legal = matches!(at, 132 | 133 | 388 | 389);
+            let answer = judge_policy(&damaged, 0, &[], &[0, 1]);
+            assert_eq!(answer.is_ok(), legal, "place {at}, {value}");
+            if !legal {
+                assert_eq!(answer, Err(Refusal::IllegalPolicy));
+                let mut g = Game::new(2, 1, 2);
+                assert_eq!(g.solve(&damaged, &[0]), Err(Refusal::IllegalPolicy));
+                assert_eq!(g, Game::new(2, 1, 2));
+                assert_eq!(compare(&damaged, &p), Err(Refusal::IllegalPolicy));
+                assert_eq!(compare(&p, &damaged), Err(Refusal::IllegalPolicy));
+            }
+        }
+    }
+}
+
+#[test]
+#[should_panic]
+fn there_are_64_edges_that_may_be_quiet() {
+    policy(&SILENT).is_quiet(64);
+}
+
+#[test]
+fn a_heartbeat_beside_an_event() {
+    // the family; the masks of the nodes; the priorities of the nodes, and of the two rows
+    let cases: [(&[u8], &[u64], &[u8], [u8; 2]); 4] = [
+        (&[], &[3], &[1], [1, 1]),
+        (&[0], &[3, 1], &[1, 2], [2, 1]),
+        (&[1], &[3, 1], &[0, 1], [1, 0]),
+        (&[0, 1], &[3], &[0], [0, 0]),
+    ];
+    for (family, masks, node_priorities, priorities) in cases {
+        let p = beside_a_heartbeat(family);
+        let nodes = masks.len();
+        let mut t = Lent::new(nodes, 1, 2);
+        assert_eq!(t.translate(&p), counts(nodes as u16, 1, 0));
+        assert_eq!(t.node_masks, masks);
+        assert_eq!(t.node_parents, [NONE, 0][..nodes]);
+        assert_eq!(t.node_priorities, node_priorities);
+        assert_eq!(
+            (t.state_sources[0], t.state_leaves[0]),
+            (0, nodes as u16 - 1)
+        );
+        assert_eq!(t.row_targets, [0, 0]);
+        assert_eq!(t.row_priorities, priorities);
+        for (period, colours) in [(&[0u8][..], 0), (&[1], 1), (&[0, 1], 1), (&[0, 0, 1, 0], 1)] {
+            let accepted = family.contains(&colours);
+            let verdict = judge_policy(&p, 0, &[1, 0], period);
+            assert_eq!(verdict, Ok(Verdict { colours, accepted }));
+            let least = judge_rows(&t.rows(2, 1), 0, &[1, 0], period).unwrap();
+            assert_eq!(least % 2 == 0, accepted);
+        }
+    }
+}
+
+#[test]
+fn all_edges_quiet() {
+    for (named, priority) in [(false, 1), (true, 0)] {
+        // B's graph
+        let mut bytes = vec![
+            1, 2, 2, 8, 1, 4, 0, 0, 0, 4, 0, 1, 1, 4, 1, 0, 0, 4, 1, 1, 1,
+        ];
+        bytes.extend([3, 0].repeat(named.into()));
+        bytes.extend([3, 255, 3, 7, 0]);
+        let p = policy(&bytes);
+        let mut t = Lent::new(1, 2, 4);
+        assert_eq!(t.translate(&p), counts(1, 2, 1));
+        assert_eq!((t.node_masks[0], t.node_parents[0]), (15, NONE));
+        assert_eq!(t.node_priorities, [priority]);
+        assert_eq!(
+            (&t.state_sources[..], &t.state_leaves[..]),
+            (&[0, 1][..], &[0, 0][..])
+        );
+        assert_eq!(t.row_targets, [0, 1, 0, 1]);
+        assert_eq!(t.row_priorities, [priority; 4]);
+        for (stem, period) in [(&[][..], &[0u8][..]), (&[1, 0], &[1]), (&[1], &[0, 1, 1])] {
+            let verdict = Verdict {
+                colours: 0,
+                accepted: named,
+            };
+            assert_eq!(judge_policy(&p, 0, stem, period), Ok(verdict));
+        }
+        // nothing recurs, and nothing was judged: the number tells them apart
+        assert_eq!(judge_policy(&p, 2, &[], &[0]), Err(Refusal::NoSuchState));
+        assert_eq!(judge_policy(&p, 0, &[], &[2]), Err(Refusal::NoSuchLetter));
+    }
+}
+
+#[test]
+fn a_quiet_edge_in_no_cycle_has_the_lowest_priority() {
+    // C's graph; state 0 leads to state 1 by a quiet edge, and the loop of state 1 has colour 0 or none
+    let cases: [(&[u8], &[u8], u8); 4] = [
+        (&[2, 1, 0, 1, 0], &[0], 1),
+        (&[2, 1, 0, 1, 0], &[1], 0),
+        (&[4, 1, 0, 1], &[0], 0),
+        (&[4, 1, 0, 1], &[1], 1),
+    ];
+    for (edge, family, priority) in cases {
+        let mut bytes = vec![1, 2, 1, 1, 0, 4, 0, 0, 1];
+        bytes.extend(edge);
+        for &set in family {
+            bytes.extend([3, set]);
+        }
+        bytes.push(0);
+        let mut t = Lent::new(1, 2, 2);
+        assert_eq!(t.translate(&policy(&bytes)), counts(1, 2, 0));
+        assert_eq!((t.node_masks[0], t.node_priorities[0]), (2, priority));
+        assert_eq!(t.state_leaves, [NONE, 0]);
+        assert_eq!(t.row_targets, [1, 1]);
+        assert_eq!(t.row_priorities, [priority; 2]);
+    }
+}
+
+#[test]
+fn priorities_begin_at_1_where_only_a_rejecting_tree_has_the_most_levels() {
+    // state 0: a quiet loop, and a quiet edge to state 1; state 1: a quiet loop, and one of colour 0; the empty set is accepted
+    let bytes = [
+        1, 2, 2, 1, 0, 4, 0, 0, 0, 4, 0, 1, 1, 4, 1, 0, 1, 2, 1, 1, 1, 0, 3, 0, 0,
+    ];
+    let mut t = Lent::new(3, 2, 4);
+    assert_eq!(t.translate(&policy(&bytes)), counts(3, 2, 0));
+    assert_eq!(t.node_masks, [1, 12, 4]);
+    assert_eq!(t.node_parents, [NONE, NONE, 1]);
+    assert_eq!(t.node_priorities, [2, 1, 2]);
+    assert_eq!(t.state_leaves, [0, 2]);
+    assert_eq!(t.row_targets, [0, 1, 1, 1]);
+    assert_eq!(t.row_priorities, [2, 1, 2, 1]);
+}
+
+/// States that quiet edges join in a ring, by letter 0. The other edges are loops: the first eight have colours 0 to 7, the rest are quiet. A set is accepted if its
+/// least colour, 8 for the empty set, is even or if it is odd.
+fn ring(states: u8, letters: u8, odd: u8) -> Policy {
+    let mut bytes = vec![1, states, letters, 8, 0];
+    let mut colours = 0..8;
+    for edge in 0..states * letters {
+        let (state, letter) = (edge / letters, edge % letters);
+        if letter == 0 {
+            bytes.extend([4, state, 0, (state + 1) % states]);
+        } else if let Some(colour) = colours.next() {
+            bytes.extend([2, state, letter, state, colour]);
+        } else {
+            bytes.extend([4, state, letter, state]);
+        }
+    }
+    for set in (0..=255u8).filter(|set| set.trailing_zeros() as u8 % 2 == odd) {
+        bytes.extend([3, set]);
+    }
+    bytes.push(0);
+    policy(&bytes)
+}
+
+#[test]
+fn nine_levels() {
+    for (states, letters, odd) in [(2, 8, 0), (2, 8, 1), (16, 4, 1), (8, 8, 0)] {
+        let p = ring(states, letters, odd);
+        let edges = usize::from(states * letters);
+        let mut t = Lent::new(9, states.into(), edges);
+        assert_eq!(t.translate(&p), counts(9, states.into(), 0));
+        // an edge of colour c is in the nodes 0 to c, and a quiet one in all
+        let level = |edge| if p.is_quiet(edge) { 8 } else { p.colour(edge) };
+        for node in 0..9u8 {
+            let at = usize::from(node);
+            let inside = (0..edges).filter(|&edge| level(edge) >= node);
+            let mask: u64 = inside.map(|edge| 1 << edge).sum();
+            assert_eq!(t.node_masks[at], mask);
+            assert_eq!(
+                t.node_parents[at],
+                node.checked_sub(1).map_or(NONE, u16::from)
+            );
+            assert_eq!(t.node_priorities[at], node + odd);
+        }
+        assert_eq!(t.state_sources, (0..states).collect::<Vec<u8>>());
+        assert!(t.state_leaves.iter().all(|&leaf| leaf == 8));
+        for row in 0..edges {
+            assert_eq!(t.row_targets[row], p.target(row).into());
+            assert_eq!(t.row_priorities[row], level(row) + odd);
+        }
+    }
+}
+
+#[test]
+fn the_listing_of_the_example() {
+    let p = policy(&listed(include_str!("../../examples/heartbeat.hex")));
+    let mut t = Lent::new(5, 4, 12);
+    let built = t.translate(&p).unwrap();
+    let or_dash = |n: u16| if n == NONE { "-".into() } else { n.to_string() };
+    let mut listing = format!("nodes {} states {}\n", built.nodes, built.states);
+    for n in 0..5 {
+        let (mask, parent) = (t.node_masks[n], or_dash(t.node_parents[n]));
+        listing += &format!("n {n} {mask} {parent} {}\n", t.node_priorities[n]);
+    }
+    for s in 0..4 {
+        let leaf = or_dash(t.state_leaves[s]);
+        listing += &format!("s {s} {} {leaf}\n", t.state_sources[s]);
+    }
+    for row in 0..12 {
+        let (target, priority) = (t.row_targets[row], t.row_priorities[row]);
+        listing += &format!("t {} {} {target} {priority}\n", row / 3, row % 3);
+    }
+    listing += &format!("start {}\n", built.start);
+    assert_eq!(listing, include_str!("../../examples/heartbeat.txt"));
+}
+
+#[test]
+fn comparing_quiet_edges() {
+    // one state and two letters; which cycles accept: those of letter 0, of letter 1, of both
+    let quiet = policy(&SILENT); // letter 0 alone
+    let coloured = policy(&[1, 1, 2, 2, 0, 2, 0, 0, 0, 0, 2, 0, 1, 0, 1, 3, 1, 0]);
+    let silent = policy(&[1, 1, 2, 1, 0, 4, 0, 0, 0, 4, 0, 1, 0, 3, 0, 0]); // all
+    let all = policy(&[1, 1, 2, 1, 0, 2, 0, 0, 0, 0, 2, 0, 1, 0, 0, 3, 1, 0]);
+    let other = policy(&[1, 1, 2, 1, 0, 2, 0, 0, 0, 0, 4, 0, 1, 0, 3, 0, 0]); // letter 1 alone
+    for (first, second, same) in [
+        (&quiet, &quiet, true),
+        (&quiet, &coloured, true),
+        (&quiet, &silent, false),
+        (&quiet, &other, false),
+        (&silent, &all, true),
+        (&silent, &coloured, false),
+        (&beside_a_heartbeat(&[0, 1]), &silent, true),
+        (&beside_a_heartbeat(&[]), &quiet, false),
+    ] {
+        assert_eq!(compare(first, second), Ok(same), "{first:?} {second:?}");
+        assert_eq!(compare(second, first), Ok(same), "{second:?} {first:?}");
+    }
+    let target = policy(&[1, 2, 1, 1, 0, 4, 0, 0, 0, 4, 1, 0, 0, 0]);
+    assert_eq!(compare(&policy(&C), &target), Err(Refusal::DifferentGraphs));
+}
+
+#[test]
+fn solving_with_quiet_edges() {
+    let p = policy(&SILENT);
+    // the supervisor wants heartbeats alone, the plant an event again and again
+    for (owner, letter) in [(SUPERVISOR, 0), (PLANT, 1)] {
+        let mut g = Game::new(2, 1, 2);
+        assert_eq!(g.solve(&p, &[owner]), counts(2, 1, 0));
+        assert_eq!((g.winners[0], g.letters[0]), (owner, letter));
+        assert_eq!(g.tables.row_priorities, [2, 1]);
+        let mut read = Game::new(2, 1, 2);
+        let (built, rest) = read.solve_bytes(&SILENT, &[owner]).unwrap();
+        assert_eq!((Ok(built), rest.len()), (counts(2, 1, 0), 0));
+        assert_eq!(read, g);
+    }
 }
 
 // ---- solving
@@ -578,7 +939,7 @@ fn letters_win(g: &Game, rows: &Rows<'_>, states: usize, owners: &[u8]) -> bool 
     })
 }
 
-/// One of many small policies: up to 5 states, 3 letters and 4 colours, and the rest by chance.
+/// One of many small policies: up to 5 states, 3 letters and 4 colours, and the rest by chance. In one of two an edge may be quiet and the empty set accepted.
 fn small(chance: &mut u64) -> Policy {
     let mut below = |limit: u8| {
         *chance ^= *chance << 13;
@@ -588,10 +949,16 @@ fn small(chance: &mut u64) -> Policy {
     };
     let (states, letters, colours) = (1 + below(5), 1 + below(3), 1 + below(4));
     let mut bytes = vec![1, states, letters, colours, below(states)];
+    let plain = below(2);
     for e in 0..states * letters {
-        bytes.extend([2, e / letters, e % letters, below(states), below(colours)]);
+        let (state, letter, target) = (e / letters, e % letters, below(states));
+        if plain == 0 && below(3) == 0 {
+            bytes.extend([4, state, letter, target]);
+        } else {
+            bytes.extend([2, state, letter, target, below(colours)]);
+        }
     }
-    for set in 1..1 << colours {
+    for set in plain..1 << colours {
         if below(2) == 0 {
             bytes.extend([3, set]);
         }
@@ -603,7 +970,7 @@ fn small(chance: &mut u64) -> Policy {
 #[test]
 fn whoever_follows_the_letters_wins() {
     let mut chance = 1;
-    let mut policies: Vec<Policy> = [&A[..], &B, &C].map(policy).to_vec();
+    let mut policies: Vec<Policy> = [&A[..], &B, &C, &SILENT].map(policy).to_vec();
     policies.extend((0..300).map(|_| small(&mut chance)));
     let mut shared = 0;
     for p in policies {
@@ -727,7 +1094,7 @@ fn from_command_bytes_to_a_solution() {
         // command bytes that are refused come first
         for (bytes, refusal, offset) in [
             (&B[..29], Refusal::Truncated, 29),
-            (&[4], Refusal::UnknownCommand, 0),
+            (&[5], Refusal::UnknownCommand, 0),
             (&[1, 1, 1, 1, 0, 0], Refusal::Incomplete, 5),
         ] {
             let mut g = before.clone();
@@ -781,9 +1148,10 @@ fn running_refuses_in_order() {
 
 #[test]
 fn judgings_agree() {
-    for bytes in [&A[..], &B, &C] {
+    let heartbeat = listed(include_str!("../../examples/heartbeat.hex"));
+    for bytes in [&A[..], &B, &C, &SILENT, &heartbeat] {
         let p = policy(bytes);
-        let mut t = Lent::new(6, 3, 3 * usize::from(p.letters()));
+        let mut t = Lent::new(6, 4, 4 * usize::from(p.letters()));
         let built = t.translate(&p).unwrap();
         let rows = t.rows(p.letters(), built.states);
         let words: Vec<Vec<u8>> = (0..81u16)
