@@ -31,6 +31,9 @@ static const uint8_t B[] = {
 
 #define RECORD WULFRENDA_RECORD_BYTES
 
+/* How long it was before version 4.0.0. */
+#define OLDER_RECORD 388
+
 static uint8_t record[RECORD];
 
 static void read_b(void) {
@@ -197,15 +200,27 @@ static const struct {
     uint8_t number;
     size_t offset;
     size_t length;
-    uint8_t bytes[12];
+    uint8_t bytes[14];
 } refused[] = {
     {WULFRENDA_TRUNCATED, 0, 0, {0}},
     {WULFRENDA_TRUNCATED, 5, 7, {1, 1, 1, 1, 0, 2, 0}},
-    {WULFRENDA_UNKNOWN_COMMAND, 0, 1, {4}},
+    {WULFRENDA_UNKNOWN_COMMAND, 0, 1, {5}},
     {WULFRENDA_MISPLACED, 0, 1, {0}},
     {WULFRENDA_OUT_OF_RANGE, 0, 5, {1, 17, 1, 1, 0}},
     {WULFRENDA_REPEATED, 7, 9, {1, 1, 1, 1, 0, 3, 1, 3, 1}},
     {WULFRENDA_INCOMPLETE, 5, 6, {1, 1, 1, 1, 0, 0}},
+    /* a quiet edge: without its target, first, with a state, a letter or a target that is none, twice, with a colour too, alone where there are two edges */
+    {WULFRENDA_TRUNCATED, 5, 8, {1, 1, 1, 1, 0, 4, 0, 0}},
+    {WULFRENDA_MISPLACED, 0, 4, {4, 0, 0, 0}},
+    {WULFRENDA_OUT_OF_RANGE, 5, 9, {1, 1, 1, 1, 0, 4, 1, 0, 0}},
+    {WULFRENDA_OUT_OF_RANGE, 5, 9, {1, 1, 1, 1, 0, 4, 0, 1, 0}},
+    {WULFRENDA_OUT_OF_RANGE, 5, 9, {1, 1, 1, 1, 0, 4, 0, 0, 1}},
+    {WULFRENDA_REPEATED, 9, 13, {1, 1, 1, 1, 0, 4, 0, 0, 0, 4, 0, 0, 0}},
+    {WULFRENDA_REPEATED, 9, 14, {1, 1, 1, 1, 0, 4, 0, 0, 0, 2, 0, 0, 0, 0}},
+    {WULFRENDA_REPEATED, 10, 14, {1, 1, 1, 1, 0, 2, 0, 0, 0, 0, 4, 0, 0, 0}},
+    {WULFRENDA_INCOMPLETE, 9, 10, {1, 1, 2, 1, 0, 4, 0, 0, 0, 0}},
+    /* the empty set is read, and not twice */
+    {WULFRENDA_REPEATED, 7, 9, {1, 1, 1, 1, 0, 3, 0, 3, 0}},
 };
 
 static void reading(void) {
@@ -214,7 +229,8 @@ static void reading(void) {
     CHECK(!memcmp(record, front, sizeof front));
     CHECK(record[WULFRENDA_RECORD_COLOURS] == 0 && record[WULFRENDA_RECORD_COLOURS + 1] == 1);
     CHECK(record[WULFRENDA_RECORD_FAMILY + 1] == 1 && record[WULFRENDA_RECORD_FAMILY + 2] == 1 && record[WULFRENDA_RECORD_FAMILY + 3] == 0);
-    CHECK(WULFRENDA_RECORD_FAMILY + 256 == RECORD);
+    CHECK(WULFRENDA_RECORD_FAMILY + 256 == WULFRENDA_RECORD_QUIET && WULFRENDA_RECORD_QUIET + WULFRENDA_MAX_EDGES == RECORD);
+    CHECK(all(record + WULFRENDA_RECORD_QUIET, WULFRENDA_MAX_EDGES, 0));
 
     size_t offset;
     for (size_t i = 0; i < LENGTH(refused); i++) {
@@ -227,7 +243,7 @@ static void reading(void) {
 
     /* another length than a record's is asked about first, whatever the bytes are */
     static uint8_t longer[RECORD + 1];
-    static const size_t lengths[] = {0, 1, RECORD - 1, RECORD + 1};
+    static const size_t lengths[] = {0, 1, OLDER_RECORD, RECORD - 1, RECORD + 1};
     for (size_t i = 0; i < LENGTH(lengths); i++) {
         memset(longer, 9, sizeof longer);
         offset = 99;
@@ -290,7 +306,7 @@ static void reading_texts(void) {
 
     /* another length than a record's is asked about first, whatever the text is */
     static uint8_t longer[RECORD + 1];
-    static const size_t lengths[] = {0, 1, RECORD - 1, RECORD + 1};
+    static const size_t lengths[] = {0, 1, OLDER_RECORD, RECORD - 1, RECORD + 1};
     for (size_t i = 0; i < LENGTH(lengths); i++) {
         memset(longer, 9, sizeof longer);
         shared = 99;
@@ -527,6 +543,139 @@ static void comparing(void) {
     CHECK(wulfrenda_compare(record, RECORD, other, RECORD, &same) == WULFRENDA_DIFFERENT_GRAPHS && same == 0);
 }
 
+/* ---- quiet edges: one state, whose letter 0 is quiet and whose letter 1 has colour 0 of two; the family is the empty set alone */
+
+static const uint8_t SILENT[] = {1, 1, 2, 2, 0, 4, 0, 0, 0, 2, 0, 1, 0, 0, 3, 0, 0};
+
+/* The record of it, filled in by hand. */
+static void fill_in(void) {
+    memset(record, 0, RECORD);
+    record[0] = 1;
+    record[1] = 2;
+    record[2] = 2;
+    record[WULFRENDA_RECORD_FAMILY + 0] = 1;
+    record[WULFRENDA_RECORD_QUIET + 0] = 1;
+}
+
+static void reading_quiet_edges(void) {
+    static uint8_t read[RECORD];
+    size_t offset = 99;
+    fill_in();
+    memset(read, 9, RECORD);
+    CHECK(wulfrenda_read(SILENT, sizeof SILENT, read, RECORD, &offset) == WULFRENDA_OK);
+    CHECK(offset == sizeof SILENT && !memcmp(read, record, RECORD));
+}
+
+/* Whether the tables hold its forest, {0, 1} above {0}, and its automaton, and 0 past them. */
+static int tables_hold_silent(void) {
+    static const uint64_t masks[NODES] = {3, 1};
+    static const uint16_t parents[NODES] = {WULFRENDA_NONE, 0};
+    static const uint8_t node_priorities[NODES] = {1, 2};
+    static const uint16_t leaves[STATES] = {1};
+    static const uint8_t priorities[ROWS] = {2, 1};
+    return !memcmp(t.node_masks, masks, sizeof masks) && !memcmp(t.node_parents, parents, sizeof parents) &&
+           !memcmp(t.node_priorities, node_priorities, sizeof node_priorities) && all(t.state_sources, STATES, 0) &&
+           !memcmp(t.state_leaves, leaves, sizeof leaves) && all(t.row_targets, sizeof t.row_targets, 0) &&
+           !memcmp(t.row_priorities, priorities, sizeof priorities) && counts_are(2, 1, 0);
+}
+
+static void translating_quiet_edges(void) {
+    fill_in();
+    CHECK(translate(RECORD, NODES, STATES, ROWS) == WULFRENDA_OK);
+    CHECK(tables_hold_silent());
+    CHECK(translate_bytes(SILENT, sizeof SILENT, NODES, STATES, ROWS) == WULFRENDA_OK);
+    CHECK(tables_hold_silent() && t.offset == sizeof SILENT);
+    /* any byte but 0 says quiet */
+    record[WULFRENDA_RECORD_QUIET] = 255;
+    CHECK(translate(RECORD, NODES, STATES, ROWS) == WULFRENDA_OK);
+    CHECK(tables_hold_silent());
+    /* with colour 0 in its place there is one rejecting cycle */
+    record[WULFRENDA_RECORD_QUIET] = 0;
+    CHECK(translate(RECORD, NODES, STATES, ROWS) == WULFRENDA_OK);
+    CHECK(counts_are(1, 1, 0) && t.node_masks[0] == 3 && t.node_priorities[0] == 1);
+
+    /* the owner wins: the supervisor by heartbeats alone, the plant by the other letter */
+    fill_in();
+    for (uint8_t owner = WULFRENDA_SUPERVISOR; owner <= WULFRENDA_PLANT; owner++) {
+        CHECK(solve(RECORD, &owner, 1, whole) == WULFRENDA_OK);
+        CHECK(tables_hold_silent() && t.state_winners[0] == owner && t.state_letters[0] == owner);
+        CHECK(solve_bytes(SILENT, sizeof SILENT, &owner, 1, whole) == WULFRENDA_OK);
+        CHECK(tables_hold_silent() && t.state_winners[0] == owner && t.state_letters[0] == owner);
+    }
+}
+
+static void judging_quiet_edges(void) {
+    static const uint8_t letters[] = {1, 0, 0};
+    uint8_t colours = 9, accepted = 9;
+    fill_in();
+    CHECK(wulfrenda_judge_policy(record, RECORD, 0, letters, 1, letters + 1, 2, &colours, &accepted) == WULFRENDA_OK);
+    CHECK(colours == 0 && accepted == 1);
+    CHECK(wulfrenda_judge_policy(record, RECORD, 0, letters, 0, letters, 3, &colours, &accepted) == WULFRENDA_OK);
+    CHECK(colours == 1 && accepted == 0);
+    /* the empty set, not accepted: only the number says that this is no refusal */
+    record[WULFRENDA_RECORD_FAMILY] = 0;
+    colours = accepted = 9;
+    CHECK(wulfrenda_judge_policy(record, RECORD, 0, letters, 1, letters + 1, 2, &colours, &accepted) == WULFRENDA_OK);
+    CHECK(colours == 0 && accepted == 0);
+    colours = accepted = 9;
+    CHECK(wulfrenda_judge_policy(record, RECORD, 1, letters, 1, letters + 1, 2, &colours, &accepted) == WULFRENDA_NO_SUCH_STATE);
+    CHECK(colours == 0 && accepted == 0);
+}
+
+/* Which edges are quiet may differ. */
+static void comparing_quiet_edges(void) {
+    static uint8_t other[RECORD];
+    uint8_t same = 9;
+    fill_in();
+    memcpy(other, record, RECORD);
+    other[WULFRENDA_RECORD_COLOURS + 0] = 1;
+    other[WULFRENDA_RECORD_QUIET + 0] = 0;
+    other[WULFRENDA_RECORD_FAMILY + 2] = 1;
+    CHECK(wulfrenda_compare(record, RECORD, other, RECORD, &same) == WULFRENDA_OK && same == 1);
+    other[WULFRENDA_RECORD_COLOURS + 0] = 0;
+    other[WULFRENDA_RECORD_FAMILY + 2] = 0;
+    CHECK(wulfrenda_compare(record, RECORD, other, RECORD, &same) == WULFRENDA_OK && same == 0);
+}
+
+/* Every call that takes a record refuses it with 7, leaves the tables as they were, and answers 0 beside the number. */
+static void refused_with_7(size_t record_length) {
+    static const uint8_t letter[] = {0};
+    static uint8_t legal[RECORD];
+    size_t offset;
+    uint8_t colours = 9, accepted = 9, same = 9;
+    CHECK(wulfrenda_read(SILENT, sizeof SILENT, legal, RECORD, &offset) == WULFRENDA_OK);
+    CHECK(translate(record_length, NODES, STATES, ROWS) == WULFRENDA_ILLEGAL_POLICY);
+    CHECK(tables_hold(9, NODES, STATES, ROWS) && counts_are(0, 0, 0));
+    CHECK(solve(record_length, letter, 1, whole) == WULFRENDA_ILLEGAL_POLICY);
+    CHECK(nine_hold(9, whole) && counts_are(0, 0, 0));
+    CHECK(wulfrenda_judge_policy(record, record_length, 0, letter, 0, letter, 1, &colours, &accepted) == WULFRENDA_ILLEGAL_POLICY);
+    CHECK(colours == 0 && accepted == 0);
+    CHECK(wulfrenda_compare(record, record_length, legal, RECORD, &same) == WULFRENDA_ILLEGAL_POLICY && same == 0);
+    same = 9;
+    CHECK(wulfrenda_compare(legal, RECORD, record, record_length, &same) == WULFRENDA_ILLEGAL_POLICY && same == 0);
+}
+
+static void refusing_quiet_edges(void) {
+    /* a quiet edge with colour 1, which is a colour; quiet places past the last edge */
+    fill_in();
+    record[WULFRENDA_RECORD_COLOURS] = 1;
+    refused_with_7(RECORD);
+    record[WULFRENDA_RECORD_QUIET] = 0;
+    CHECK(translate(RECORD, NODES, STATES, ROWS) == WULFRENDA_OK);
+    for (size_t edge = 2; edge < WULFRENDA_MAX_EDGES; edge++) {
+        fill_in();
+        record[WULFRENDA_RECORD_QUIET + edge] = 1;
+        refused_with_7(RECORD);
+    }
+    /* the record of an earlier version: refused as it is, and the same policy with 64 bytes of 0 behind it */
+    read_b();
+    memset(record + OLDER_RECORD, 9, RECORD - OLDER_RECORD);
+    refused_with_7(OLDER_RECORD);
+    memset(record + OLDER_RECORD, 0, RECORD - OLDER_RECORD);
+    CHECK(translate(RECORD, NODES, STATES, ROWS) == WULFRENDA_OK);
+    CHECK(tables_hold_b());
+}
+
 int main(void) {
     version();
     colour_set();
@@ -540,6 +689,11 @@ int main(void) {
     judging_policies();
     judging_rows();
     comparing();
+    reading_quiet_edges();
+    translating_quiet_edges();
+    judging_quiet_edges();
+    comparing_quiet_edges();
+    refusing_quiet_edges();
     printf("tests/c/calls.c: %u of %u checks hold\n", checks - failures, checks);
     return failures != 0;
 }

@@ -40,6 +40,25 @@ int main() {
         std::fprintf(stderr, "tests/c/header.cpp: solving answers %u, winner %u, letter %u\n", number, winners[0], letters[0]);
         return 1;
     }
+    // the same edge without a colour: nothing recurs, and the empty set is accepted
+    const std::array<uint8_t, 12> quiet_bytes{1, 1, 1, 1, 0, 4, 0, 0, 0, 3, 0, 0};
+    const std::array<uint8_t, 1> loop{0};
+    uint8_t colours = 9, accepted = 9;
+    number = wulfrenda_read(quiet_bytes.data(), quiet_bytes.size(), read.data(), read.size(), &offset);
+    if (number == WULFRENDA_OK && read[WULFRENDA_RECORD_QUIET] == 1) {
+        number = wulfrenda_judge_policy(read.data(), read.size(), 0, loop.data(), 0, loop.data(), loop.size(), &colours, &accepted);
+    }
+    if (number != WULFRENDA_OK || colours != 0 || accepted != 1) {
+        std::fprintf(stderr, "tests/c/header.cpp: judging a quiet loop answers %u, colours %u, accepted %u\n", number, colours, accepted);
+        return 1;
+    }
+    // both policies accept their one cycle
+    uint8_t same = 9;
+    number = wulfrenda_compare(record.data(), record.size(), read.data(), read.size(), &same);
+    if (number != WULFRENDA_OK || same != 1) {
+        std::fprintf(stderr, "tests/c/header.cpp: comparing answers %u, %u\n", number, same);
+        return 1;
+    }
     std::printf("tests/c/header.cpp: version %u\n", unsigned{wulfrenda_version()});
     return 0;
 }
