@@ -1,4 +1,5 @@
-//! A quick translator: children of a cycle by taking colours away from it, one at a time, and splitting what is left into strongly connected components.
+//! A quick translator: children of a cycle by taking colours away from it, one at a time, and splitting what is left into strongly connected components. Quiet edges
+//! are taken away by no colour, so that where all colours are gone cycles of quiet edges are left.
 //! A [`Translator`] keeps its buffers from one policy to the next.
 
 use crate::policy::Policy;
@@ -28,7 +29,7 @@ type Masks = HashSet<u64, BuildHasherDefault<Mix>>;
 #[derive(Default)]
 struct Graph {
     states: usize,
-    /// The edges of each colour.
+    /// The edges of each colour; quiet ones are in none.
     by_colour: Vec<u64>,
     /// The edges that leave each state.
     leaving: Vec<u64>,
@@ -53,7 +54,9 @@ impl Graph {
         self.target.clear();
         self.family.clone_from(&p.family);
         for (e, edge) in p.edges.iter().enumerate() {
-            self.by_colour[edge.1] |= 1u64 << e;
+            if let Some(colour) = edge.1 {
+                self.by_colour[colour] |= 1u64 << e;
+            }
             self.leaving[e / p.letters] |= 1u64 << e;
             self.source.push((e / p.letters) as u8);
             self.target.push(edge.0 as u8);

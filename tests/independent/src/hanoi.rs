@@ -46,7 +46,7 @@ impl Document {
         1 << self.names.len()
     }
 
-    /// Its policy: a colour for each different mark set, by first appearance. Refused with 4 or 19.
+    /// Its policy: a colour for each different mark set, by first appearance, the empty one too. No edge is quiet, and set 0 is not in the family. Refused with 4 or 19.
     pub fn policy(&self) -> Result<Policy, Refusal> {
         if self.states > 16 || self.states * self.letters() > 64 {
             return Err(4);
@@ -59,7 +59,7 @@ impl Document {
             if known.is_none() {
                 sets.push(marks);
             }
-            edges.push((target, colour));
+            edges.push((target, Some(colour)));
         }
         if sets.len() > 8 {
             return Err(19);

@@ -40,9 +40,11 @@ pub fn policy(
         began[v] = met.len();
         let mut set = 0;
         for &a in period {
-            let edge = p.edges[v * p.letters + a as usize];
-            set |= 1 << edge.1;
-            v = edge.0;
+            let (target, colour) = p.edges[v * p.letters + a as usize];
+            if let Some(colour) = colour {
+                set |= 1 << colour;
+            }
+            v = target;
         }
         met.push(set);
     }

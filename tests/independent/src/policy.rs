@@ -2,14 +2,17 @@
 
 use crate::Refusal;
 
+/// How many bytes a record has.
+pub const RECORD: usize = 452;
+
 #[derive(Clone, Debug, Default, PartialEq, Eq)]
 pub struct Policy {
     pub states: usize,
     pub letters: usize,
     pub colours: usize,
     pub initial: usize,
-    /// Target and colour of each edge.
-    pub edges: Vec<(usize, usize)>,
+    /// Target and colour of each edge; a quiet one has no colour.
+    pub edges: Vec<(usize, Option<usize>)>,
     /// Which colour sets are accepted.
     pub family: Vec<bool>,
 }
@@ -52,18 +55,17 @@ impl Policy {
             && self.edges.len() == self.states * self.letters
             && self.edges.len() <= 64
             && self.family.len() == 1 << self.colours
-            && !self.family[0]
-            && self
-                .edges
-                .iter()
-                .all(|&(target, colour)| target < self.states && colour < self.colours)
+            && self.edges.iter().all(|&(target, colour)| {
+                target < self.states && colour.is_none_or(|c| c < self.colours)
+            })
     }
 
+    /// The colours on the edges of a set; a quiet edge adds none.
     pub fn colours_of(&self, mask: u64) -> usize {
         let mut set = 0;
         for (e, edge) in self.edges.iter().enumerate() {
-            if mask >> e & 1 == 1 {
-                set |= 1 << edge.1;
+            if let (1, Some(colour)) = (mask >> e & 1, edge.1) {
+                set |= 1 << colour;
             }
         }
         set
@@ -78,15 +80,18 @@ impl Policy {
         self.bytes().iter().map(|b| format!("{b:02x}")).collect()
     }
 
-    /// The policy as a record: counts and initial state, 64 targets, 64 colours, and a byte for each of the 256 colour sets.
-    pub fn record(&self) -> [u8; 388] {
-        let mut out = [0; 388];
+    /// The policy as a record: counts and initial state, 64 targets, 64 colours, a byte for each of the 256 colour sets, and 64 bytes that say which edges are quiet.
+    pub fn record(&self) -> [u8; RECORD] {
+        let mut out = [0; RECORD];
         out[..4].copy_from_slice(
             &[self.states, self.letters, self.colours, self.initial].map(|x| x as u8),
         );
         for (e, edge) in self.edges.iter().enumerate() {
             out[4 + e] = edge.0 as u8;
-            out[68 + e] = edge.1 as u8;
+            match edge.1 {
+                Some(colour) => out[68 + e] = colour as u8,
+                None => out[388 + e] = 1,
+            }
         }
         for (set, &member) in self.family.iter().enumerate() {
             out[132 + set] = member as u8;
@@ -103,14 +108,10 @@ impl Policy {
             self.colours as u8,
             self.initial as u8,
         ];
-        for (e, edge) in self.edges.iter().enumerate() {
-            out.extend([
-                2,
-                self.source(e) as u8,
-                (e % self.letters) as u8,
-                edge.0 as u8,
-                edge.1 as u8,
-            ]);
+        for (e, &(target, colour)) in self.edges.iter().enumerate() {
+            out.push(if colour.is_some() { 2 } else { 4 });
+            out.extend([self.source(e), e % self.letters, target].map(|x| x as u8));
+            out.extend(colour.map(|c| c as u8));
         }
         for (set, &member) in self.family.iter().enumerate() {
             if member {
@@ -123,7 +124,7 @@ impl Policy {
 }
 
 /// The policy of a record, if it is legal.
-pub fn from_record(r: &[u8; 388]) -> Option<Policy> {
+pub fn from_record(r: &[u8; RECORD]) -> Option<Policy> {
     let [states, letters, colours, initial] = [r[0], r[1], r[2], r[3]].map(|x| x as usize);
     let edges = states * letters;
     let counts = (1..=16).contains(&states)
@@ -135,21 +136,28 @@ pub fn from_record(r: &[u8; 388]) -> Option<Policy> {
         return None;
     }
     let (targets, rest) = r[4..].split_at(64);
-    let (colour, family) = rest.split_at(64);
+    let (colour, rest) = rest.split_at(64);
+    let (family, quiet) = rest.split_at(256);
     let inside =
         (0..edges).all(|e| (targets[e] as usize) < states && (colour[e] as usize) < colours);
-    let zero = targets[edges..]
+    let uncoloured = (0..edges).all(|e| quiet[e] == 0 || colour[e] == 0);
+    let zero = [targets, colour, quiet]
         .iter()
-        .chain(&colour[edges..])
-        .all(|&x| x == 0);
-    let sets = family[0] == 0 && family[1 << colours..].iter().all(|&x| x == 0);
-    (inside && zero && sets).then(|| Policy {
+        .all(|part| part[edges..].iter().all(|&x| x == 0));
+    let sets = family[1 << colours..].iter().all(|&x| x == 0);
+    (inside && uncoloured && zero && sets).then(|| Policy {
         states,
         letters,
         colours,
         initial,
         edges: (0..edges)
-            .map(|e| (targets[e] as usize, colour[e] as usize))
+            .map(|e| {
+                let has_colour = quiet[e] == 0;
+                (
+                    targets[e] as usize,
+                    has_colour.then_some(colour[e] as usize),
+                )
+            })
             .collect(),
         family: family[..1 << colours].iter().map(|&x| x != 0).collect(),
     })
@@ -177,6 +185,7 @@ impl Policy {
                 0 => 0,
                 1 | 2 => 4,
                 3 => 1,
+                4 => 3,
                 _ => return refuse(2),
             };
             if bytes.len() - at - 1 < operands {
@@ -202,11 +211,12 @@ impl Policy {
                     shaped = true;
                     self.clear(o);
                 }
-                2 => {
+                2 | 4 => {
+                    let colour = (code == 2).then_some(o[3]);
                     if o[0] >= self.states
                         || o[1] >= self.letters
                         || o[2] >= self.states
-                        || o[3] >= self.colours
+                        || colour.is_some_and(|c| c >= self.colours)
                     {
                         return refuse(4);
                     }
@@ -215,10 +225,10 @@ impl Policy {
                         return refuse(5);
                     }
                     given |= 1 << e;
-                    self.edges[e] = (o[2], o[3]);
+                    self.edges[e] = (o[2], colour);
                 }
                 3 => {
-                    if o[0] == 0 || o[0] >= self.family.len() {
+                    if o[0] >= self.family.len() {
                         return refuse(4);
                     }
                     if std::mem::replace(&mut self.family[o[0]], true) {
@@ -236,12 +246,12 @@ impl Policy {
         }
     }
 
-    /// The counts, every edge to state 0 with colour 0, an empty family.
+    /// The counts, every edge to state 0 and quiet, an empty family.
     fn clear(&mut self, [states, letters, colours, initial]: [usize; 4]) {
         (self.states, self.letters, self.colours, self.initial) =
             (states, letters, colours, initial);
         self.edges.clear();
-        self.edges.resize(states * letters, (0, 0));
+        self.edges.resize(states * letters, (0, None));
         self.family.clear();
         self.family.resize(1 << colours, false);
     }

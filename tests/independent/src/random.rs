@@ -17,6 +17,7 @@ pub struct Shape {
     pub edges: usize,
     pub targets: Targets,
     pub family: Family,
+    pub quiet: Quiet,
     /// Any initial state, and not always 0.
     pub initial: bool,
 }
@@ -35,6 +36,7 @@ pub enum Targets {
     Mixed,
 }
 
+/// The non-empty sets of the family; of set 0, see [`Quiet`].
 #[derive(Clone, Copy, Debug)]
 pub enum Family {
     /// Each set with this chance in a hundred.
@@ -42,6 +44,16 @@ pub enum Family {
     /// The sets with an even number of members.
     Even,
     /// One of these, from empty to full.
+    Mixed,
+}
+
+#[derive(Clone, Copy, Debug)]
+pub enum Quiet {
+    /// No edge is quiet, and set 0 is not in the family.
+    No,
+    /// Each edge is with this chance in a hundred, and set 0 is in the family half of the time.
+    Chance(usize),
+    /// The same, with one of several chances, from none to all.
     Mixed,
 }
 
@@ -55,6 +67,7 @@ impl Shape {
             edges,
             targets: Targets::Mixed,
             family: Family::Mixed,
+            quiet: Quiet::No,
             initial: true,
         }
     }
@@ -68,6 +81,14 @@ impl Shape {
             targets: Targets::Parts,
             family: Family::Chance(50),
             ..Shape::any(edges)
+        }
+    }
+
+    /// The same policies with some edges quiet, from none to all, and half of the time with set 0.
+    pub fn with_quiet(self) -> Self {
+        Shape {
+            quiet: Quiet::Mixed,
+            ..self
         }
     }
 }
@@ -163,10 +184,18 @@ impl Random {
             Targets::Parts => 1 + self.below(states.min(4)),
             _ => 1,
         };
+        let quiet = match shape.quiet {
+            Quiet::No => None,
+            Quiet::Chance(percent) => Some(percent),
+            Quiet::Mixed => Some([0, 10, 33, 33, 50, 80, 100][self.below(7)]),
+        };
+        // without the switch no random number is taken for it
         let edges = (0..states * letters)
             .map(|e| {
                 let target = self.target(targets, states, parts, e / letters);
-                (target, self.below(colours))
+                let colour = self.below(colours);
+                let is_quiet = quiet.is_some_and(|percent| self.chance(percent));
+                (target, (!is_quiet).then_some(colour))
             })
             .collect();
         let family = match shape.family {
@@ -175,7 +204,10 @@ impl Random {
             one => one,
         };
         let family = (0..1usize << colours)
-            .map(|set| set != 0 && self.member(family, set))
+            .map(|set| match set {
+                0 => quiet.is_some() && self.chance(50),
+                _ => self.member(family, set),
+            })
             .collect();
         let initial = if shape.initial { self.below(states) } else { 0 };
         Policy {

@@ -32,8 +32,9 @@ static COUNTING: Counting = Counting;
 fn nothing_is_allocated_again() {
     const PLACES: usize = 1024;
     let mut random = Random::new(4);
-    let policies: Vec<Vec<u8>> = (0..200)
-        .map(|_| random.policy(&Shape::any(64)).bytes())
+    let shapes = [Shape::any(64), Shape::any(64).with_quiet()];
+    let policies: Vec<Vec<u8>> = (0..400)
+        .map(|i| random.policy(&shapes[i % 2]).bytes())
         .collect();
     let (mut translator, mut solver) = (Translator::default(), Solver::default());
     let mut kept = Policy::default();
@@ -71,7 +72,7 @@ fn nothing_is_allocated_again() {
         fitting
     };
     for solving in [false, true] {
-        assert!(each(solving) > 100);
+        assert!(each(solving) > 200);
         let before = CALLS.get();
         each(solving);
         assert_eq!(CALLS.get(), before, "solving: {solving}");

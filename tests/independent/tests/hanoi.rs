@@ -1,6 +1,7 @@
 //! The reader of the Hanoi format: texts with known answers, documents written out and read back, beginnings of every length, and the policy beside the text's own run.
 
 use independent::hanoi::{begins, longest, parse, read};
+use independent::policy::RECORD;
 use independent::random::Random;
 use independent::texts::{READ, REFUSED};
 use independent::{alike, judge};
@@ -13,7 +14,7 @@ fn known_texts() {
         alike(answer, Err((18, shared.len())), text);
     }
     for &(text, counts, targets, colours, family) in READ {
-        let mut record = [0; 388];
+        let mut record = [0; RECORD];
         record[..4].copy_from_slice(&counts);
         record[4..][..targets.len()].copy_from_slice(targets);
         record[68..][..colours.len()].copy_from_slice(colours);
@@ -124,6 +125,8 @@ fn policy_and_text_agree() {
         };
         answers[0] += 1;
         assert!(p.is_legal(), "{d:?}");
+        let plain = !p.family[0] && p.edges.iter().all(|e| e.1.is_some());
+        assert!(plain, "{d:?}");
         for _ in 0..5 {
             let (stem, mut period) = (random.letters(p.letters, 5), random.letters(p.letters, 9));
             period.push(random.below(p.letters) as u8);
