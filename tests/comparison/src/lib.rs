@@ -1,4 +1,5 @@
-//! What the comparisons and the benchmark share: tables to lend and the check of a solution, policies as hexadecimal text, seeds, damage, and the program.
+//! What the comparisons and the benchmark share: tables to lend and the check of a solution, policies as hexadecimal text, seeds, commands in any order, damage, and the
+//! program.
 
 use independent::fast::Translator;
 use independent::random::Random;
@@ -269,9 +270,80 @@ pub fn policies(usual: u64) -> u64 {
     number("POLICIES", usual)
 }
 
-/// Bytes with some of them changed, cut off, put in or taken out.
+/// How many operands a command has.
+fn operands(code: u8) -> Option<usize> {
+    match code {
+        0 => Some(0),
+        1 | 2 => Some(4),
+        3 => Some(1),
+        4 => Some(3),
+        _ => None,
+    }
+}
+
+/// Command bytes as a list of commands, up to the end command; what follows it, or a command that breaks off or is none, is the last of the list, which may be empty.
+pub fn commands(bytes: &[u8]) -> Vec<Vec<u8>> {
+    let (mut list, mut rest, mut ended) = (Vec::new(), bytes, false);
+    while let Some(&code) = rest.first() {
+        let whole = operands(code).map(|n| n + 1).filter(|&n| n <= rest.len());
+        let Some(n) = whole.filter(|_| !ended) else {
+            break;
+        };
+        ended = code == 0;
+        list.push(rest[..n].to_vec());
+        rest = &rest[n..];
+    }
+    list.push(rest.to_vec());
+    list
+}
+
+/// The command bytes of a policy, its edges and sets in any order.
+pub fn shuffled(random: &mut Random, p: &independent::policy::Policy) -> Vec<u8> {
+    let mut list = commands(&p.bytes());
+    // the shape stays first, and behind the end command there is nothing
+    let end = list.len() - 2;
+    for i in (2..end).rev() {
+        list.swap(i, 1 + random.below(i));
+    }
+    list.concat()
+}
+
+/// Bytes with a command put in, taken out, moved or cut off: an edge again, most often by the other of its two commands, set 0, any command again.
+fn damage_commands(random: &mut Random, bytes: &[u8]) -> Vec<u8> {
+    let mut list = commands(bytes);
+    let (to, from) = (random.below(list.len()), random.below(list.len()));
+    let edges = list.iter().filter(|c| matches!(c.first(), Some(2 | 4)));
+    let mut edges: Vec<Vec<u8>> = edges.cloned().collect();
+    match random.below(9) {
+        0 | 1 if !edges.is_empty() => {
+            let mut edge = edges.swap_remove(random.below(edges.len()));
+            if random.chance(70) {
+                edge[0] = 6 - edge[0];
+                edge.resize(if edge[0] == 2 { 5 } else { 4 }, 0);
+            }
+            list.insert(to, edge);
+        }
+        2 | 3 => list.insert(to, vec![3, 0]),
+        4 => list.insert(to, list[from].clone()),
+        5 => drop(list.remove(from)),
+        6 => drop(list.remove(0)),
+        7 => {
+            list.truncate(from + 1);
+            list[from].pop();
+        }
+        _ => list.swap(to, from),
+    }
+    list.concat()
+}
+
+/// Bytes with some of them, or some commands, changed, cut off, put in or taken out.
 pub fn damaged(random: &mut Random, mut bytes: Vec<u8>) -> Vec<u8> {
+    let of_commands = random.chance(40);
     for _ in 0..=random.below(3) {
+        if of_commands && bytes.len() > 1 {
+            bytes = damage_commands(random, &bytes);
+            continue;
+        }
         if bytes.is_empty() {
             break;
         }

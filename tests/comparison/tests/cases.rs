@@ -12,7 +12,7 @@
 //! A list may be empty, and N*M in a list is N, M times. POLICY is a name, or `bytes HEX..`; `first N` takes the first N bytes alone.
 //!
 //! ```text
-//! read POLICY                                 where the rest begins, the counts and the initial state, each edge, the family
+//! read POLICY                                 where the rest begins, the counts and the initial state, each edge, the family; the quiet edges, if there are any
 //! translate POLICY [nodes N states N rows N]  the listing, or the number and what became of the tables; 1,024 nodes and states
 //!                                             if no lengths are given, and the program then prints the same
 //! forest POLICY                               the nodes
@@ -33,9 +33,9 @@ use independent::{brute, judge, policy};
 use std::collections::HashMap;
 use std::fs;
 use std::path::Path;
-use wulfrenda::{Counts, Policy, Refusal, Rows, Run, NONE, NO_LETTER};
+use wulfrenda::{Counts, Policy, Refusal, Rows, Run, NONE, NO_LETTER, RECORD_LEN};
 
-type Record = [u8; 388];
+type Record = [u8; RECORD_LEN];
 
 /// What a definition gives.
 #[derive(Clone)]
@@ -175,7 +175,7 @@ impl Definitions {
             "record" => {
                 let of = words.next().expect("a policy's name");
                 let mut record = if of == "zero" {
-                    [0; 388]
+                    [0; RECORD_LEN]
                 } else {
                     *self.proved(of).record()
                 };
@@ -519,14 +519,18 @@ fn read(bytes: &[u8]) -> Answers {
                 part[..edges.max(most)].to_vec()
             };
             let family = (0..256).filter(|set| record[132 + set] != 0);
-            [
+            let mut lines = vec![
                 format!("up to {end}"),
                 join("counts", &record[..4]),
                 join("targets", values(&record[4..68])),
                 join("colours", values(&record[68..132])),
                 join("family", family),
-            ]
-            .join("\n")
+            ];
+            let quiet: Vec<usize> = (0..64).filter(|e| record[388 + e] != 0).collect();
+            if !quiet.is_empty() {
+                lines.push(join("quiet", quiet));
+            }
+            lines.join("\n")
         }
     };
     let ours = Policy::read(bytes)

@@ -1,24 +1,33 @@
-//! The proved library answers what the independent translator, solver and reader do, on policies and texts of every shape, valid and damaged, and in tables too short,
-//! just right and longer.
+//! The proved library answers what the independent translator, solver and reader do, on policies and texts of every shape, with quiet edges and without, valid and
+//! damaged, and in tables too short, just right and longer.
 //! SEED and POLICIES change the fixed seed and the number of policies, for a longer run by hand.
 
-use comparison::{counts, damaged, hex, policies, random, root, unhex, OwnedTables, SolvedTables};
+use comparison::{commands, counts, damaged, hex, policies, random, root, shuffled, unhex};
+use comparison::{OwnedTables, SolvedTables};
 use independent::fast::{self, Translator};
 use independent::policy::{from_record, Policy};
-use independent::random::{kind, Random, Shape};
+use independent::random::{kind, Family, Quiet, Random, Shape};
 use independent::solve::Solver;
 use independent::texts::{READ, REFUSED};
-use independent::{alike, hanoi, judge, policy};
+use independent::{alike, brute, hanoi, judge, policy};
+use std::collections::HashMap;
 use std::fs;
-use wulfrenda::{Counts, ReadError, Refusal, Rows, Run, PLANT, SUPERVISOR};
+use wulfrenda::{Counts, ReadError, Refusal, Rows, Run, PLANT, RECORD_LEN, SUPERVISOR};
 
-/// Policies of every shape, a third of them in parts: those at place i of a test have at most so many edges.
+type Record = [u8; RECORD_LEN];
+
+/// Policies of every shape, every other one with quiet edges and set 0, a third in parts: those at place i of a test have at most so many edges.
 fn shape(i: u64) -> Shape {
-    let edges = [4, 8, 16, 32, 64][i as usize % 5];
-    if i / 5 % 3 == 2 {
+    let edges = [4, 8, 16, 32, 64][i as usize / 2 % 5];
+    let shape = if i / 10 % 3 == 2 {
         Shape::parts(edges)
     } else {
         Shape::any(edges)
+    };
+    if i % 2 == 1 {
+        shape.with_quiet()
+    } else {
+        shape
     }
 }
 
@@ -31,29 +40,78 @@ fn refusal<T>(r: Result<T, Refusal>) -> Result<T, u8> {
     r.map_err(Refusal::number)
 }
 
-fn read_alike(bytes: &[u8]) {
+/// Reads command bytes on both sides: the number and the offset of a refusal.
+fn read_alike(bytes: &[u8]) -> Option<(u8, usize)> {
     let ours = wulfrenda::Policy::read(bytes)
         .map(|(p, rest)| (*p.record(), bytes.len() - rest.len()))
         .map_err(|e| (e.number(), e.offset));
     let theirs = policy::read(bytes).map(|(p, end)| (p.record(), end));
     alike(ours, theirs, format!("bytes {}", hex(bytes)));
+    ours.err()
+}
+
+/// What gives an edge or a set for the second time at an offset: the command that gave it before, this one, and whether it is set 0.
+fn given_twice(bytes: &[u8], at: usize) -> (u8, u8, bool) {
+    let again = &commands(&bytes[at..])[0];
+    let same = |c: &Vec<u8>| match (c[..].first(), again[0]) {
+        (Some(3), 3) => c[1] == again[1],
+        (Some(2 | 4), 2 | 4) => c[1..3] == again[1..3],
+        _ => false,
+    };
+    let mut before = commands(&bytes[..at]).into_iter();
+    let first = before.find(same).expect("a command before it");
+    (first[0], again[0], again[..] == [3, 0])
 }
 
 #[test]
 fn reading() {
     let mut random = random(11);
-    for i in 0..policies(10_000) {
-        let mut bytes = random.policy(&shape(i)).bytes();
+    // refusals by the refused command and the number, and those of 5 by what was given twice
+    let (mut refused, mut twice) = (HashMap::new(), HashMap::new());
+    for i in 0..policies(20_000) {
+        let p = random.policy(&shape(i));
+        let mut bytes = match random.below(2) {
+            0 => p.bytes(),
+            _ => shuffled(&mut random, &p),
+        };
         bytes.extend((0..random.below(6)).map(|b| b as u8));
-        read_alike(&bytes);
-        read_alike(&damaged(&mut random, bytes));
+        alike(read_alike(&bytes), None, p.hex());
+        let bytes = damaged(&mut random, bytes);
+        let Some((number, at)) = read_alike(&bytes) else {
+            continue;
+        };
+        if let Some(&code) = bytes.get(at) {
+            *refused.entry((code, number)).or_insert(0) += 1;
+        }
+        if number == 5 {
+            *twice.entry(given_twice(&bytes, at)).or_insert(0) += 1;
+        }
     }
-    read_alike(&[]);
+    assert_eq!(read_alike(&[]), Some((1, 0)));
+    let some = |n: Option<&u64>| n.is_some_and(|&n| n > policies(20_000) / 1_000);
+    for (code, numbers) in [
+        (0, &[6][..]),
+        (1, &[1, 3, 4]),
+        (2, &[1, 3, 4, 5]),
+        (3, &[1, 3, 4, 5]),
+        (4, &[1, 3, 4, 5]),
+        (5, &[2]),
+    ] {
+        for &number in numbers {
+            assert!(some(refused.get(&(code, number))), "{refused:?}");
+        }
+    }
+    for edge in [(2, 2), (2, 4), (4, 2), (4, 4)] {
+        assert!(some(twice.get(&(edge.0, edge.1, false))), "{twice:?}");
+    }
+    for set_0 in [false, true] {
+        assert!(some(twice.get(&(3, 3, set_0))), "{twice:?}");
+    }
 }
 
 // ---- reading texts
 
-type TextRead = Result<[u8; 388], (u8, usize)>;
+type TextRead = Result<Record, (u8, usize)>;
 
 /// What the library answers to a text: the policy's record, or the number and how much of the text some text of the subset shares.
 fn text_read(text: &[u8]) -> TextRead {
@@ -249,7 +307,9 @@ fn translating() {
     let mut random = random(12);
     let mut translator = Translator::default();
     let (mut fitting, mut kinds) = (0, [0; 4]);
-    for i in 0..policies(6_000) {
+    // nodes of quiet edges alone, rejecting and accepting, and trees with a level more than there are colours
+    let (mut quiet, mut deeper) = ([0; 2], 0);
+    for i in 0..policies(12_000) {
         let p = random.policy(&shape(i));
         let most = 65_535;
         let (nodes, states) = match translator.translate(&p, most, most) {
@@ -257,6 +317,10 @@ fn translating() {
                 if let Some(kind) = kind(&p, a) {
                     kinds[kind as usize] += 1;
                 }
+                for node in a.nodes.iter().filter(|n| p.colours_of(n.mask) == 0) {
+                    quiet[usize::from(node.priority % 2 == 0)] += 1;
+                }
+                deeper += u64::from(a.levels() > p.colours);
                 (a.nodes.len(), a.states.len())
             }
             Err(number) => {
@@ -280,9 +344,50 @@ fn translating() {
             alike((nodes - 1, states - 1), Err(9));
         }
     }
-    assert!(fitting > policies(6_000) / 2);
+    assert!(fitting > policies(12_000) / 2);
     // each kind of numbering came up
-    assert!(kinds.iter().all(|&n| n > policies(6_000) / 50), "{kinds:?}");
+    assert!(
+        kinds.iter().all(|&n| n > policies(12_000) / 50),
+        "{kinds:?}"
+    );
+    assert!(
+        quiet.iter().all(|&n| n > policies(12_000) / 50),
+        "{quiet:?}"
+    );
+    assert!(deeper > policies(12_000) / 500, "{deeper}");
+}
+
+#[test]
+fn trees_of_nine_levels() {
+    let mut random = random(18);
+    let (mut translator, mut solver) = (Translator::default(), Solver::default());
+    // with priorities 0 to 8, and 1 to 9
+    let mut nine = [0; 2];
+    for i in 0..policies(1_000) {
+        let shape = Shape {
+            states: 2..=16,
+            letters: 4..=8,
+            colours: 8..=8,
+            family: Family::Least(i as usize % 2),
+            quiet: Quiet::Chance(33),
+            ..Shape::any(64)
+        };
+        let p = random.policy(&shape);
+        let Ok(a) = translator.translate(&p, 5_000, 5_000) else {
+            continue;
+        };
+        if a.levels() == 9 {
+            let most = a.nodes.iter().map(|n| n.priority).max();
+            nine[usize::from(most == Some(9))] += 1;
+        }
+        let (nodes, states) = (a.nodes.len(), a.states.len());
+        let answer = translated_alike(&mut translator, &p, (nodes, states));
+        assert_eq!(answer, Ok(()));
+        let owners = owners(&mut random, p.states);
+        let tables = SolvedTables::new(nodes, states, states * p.letters, 0xa5);
+        solved_alike(&mut solver, &p, &owners, &tables).unwrap();
+    }
+    assert!(nine.iter().all(|&n| n > policies(1_000) / 50), "{nine:?}");
 }
 
 /// What becomes of command bytes in one call: the counts, or the number, and the offset, which is 0 where the policy was read and not translated.
@@ -307,7 +412,7 @@ fn from_command_bytes_to_tables() {
     let mut random = random(17);
     let mut translator = Translator::default();
     let mut answers = [0; 11];
-    for i in 0..policies(6_000) {
+    for i in 0..policies(12_000) {
         let p = random.policy(&shape(i));
         let mut bytes = p.bytes();
         bytes.extend((0..random.below(6)).map(|b| b as u8));
@@ -329,8 +434,8 @@ fn from_command_bytes_to_tables() {
 fn lengths_that_do_not_belong_together() {
     let mut random = random(13);
     let mut translator = Translator::default();
-    for _ in 0..policies(1_000) {
-        let p = random.policy(&Shape::any(16));
+    for i in 0..policies(1_000) {
+        let p = random.policy(&shape(i % 6));
         let mut tables = OwnedTables::new(40, 40, 40 * p.letters, 0xa5);
         match random.below(7) {
             0 => drop(tables.node_masks.pop()),
@@ -352,40 +457,119 @@ fn lengths_that_do_not_belong_together() {
     }
 }
 
+/// Every call that takes a record refuses this one with 7, and leaves the tables as they are. The other policy is legal.
+fn not_legal(random: &mut Random, record: &Record, p: &Policy) {
+    let ours = wulfrenda::Policy::from_record(*record);
+    let text = format!("record {}", hex(record));
+    alike(from_record(record), None, &text);
+    let mut tables = OwnedTables::new(30, 30, 30 * p.letters, 0xa5);
+    let before = tables.clone();
+    alike(refusal(tables.translate(&ours)), Err(7), &text);
+    alike(tables.difference(&before), None, &text);
+    let mut nine = SolvedTables::new(30, 30, 30 * p.letters, 0xa5);
+    let before = nine.clone();
+    let owners = owners(random, p.states);
+    alike(refusal(nine.solve(&ours, &owners)), Err(7), &text);
+    alike(nine.difference(&before), None, &text);
+    let judged = wulfrenda::judge_policy(&ours, 0, &[], &[0]);
+    alike(refusal(judged), Err(7), &text);
+    let other = proved(p);
+    for (a, b) in [(&ours, &other), (&other, &ours)] {
+        alike(refusal(wulfrenda::compare(a, b)), Err(7), &text);
+    }
+}
+
+/// A record that is legal is the same policy on both sides.
+fn legal(translator: &mut Translator, record: &Record, p: &Policy) {
+    let ours = wulfrenda::Policy::from_record(*record);
+    let text = format!("record {}", hex(record));
+    alike(*ours.record(), p.record(), &text);
+    for e in 0..p.edges.len() {
+        let colour = (!ours.is_quiet(e)).then_some(usize::from(ours.colour(e)));
+        alike(colour, p.edges[e].1, &text);
+    }
+    let mut expected = OwnedTables::new(40, 80, 80 * p.letters, 0xa5);
+    let mut tables = expected.clone();
+    let theirs = expected.fill(translator, p).map(counts);
+    alike(refusal(tables.translate(&ours)), theirs, &text);
+    alike(tables.difference(&expected), None, &text);
+}
+
 #[test]
-fn records_that_are_not_legal() {
+fn changed_records() {
     let mut random = random(14);
-    let mut illegal = 0;
-    for _ in 0..policies(6_000) {
-        let p = random.policy(&Shape::any(32));
+    let mut translator = Translator::default();
+    let shapes = [Shape::any(32), Shape::any(32).with_quiet()];
+    let (mut right, mut wrong) = (0, 0);
+    for i in 0..policies(12_000) {
+        let p = random.policy(&shapes[i as usize % 2]);
         let mut record = p.record();
         for _ in 0..=random.below(2) {
-            let at = [random.below(4), random.below(132), random.below(388)][random.below(3)];
+            let at = [
+                random.below(4),
+                random.below(132),
+                random.below(RECORD_LEN),
+                388 + random.below(p.edges.len()),
+            ][random.below(4)];
             record[at] = [random.below(256), random.below(20)][random.below(2)] as u8;
         }
-        let ours = wulfrenda::Policy::from_record(record);
-        let text = format!("record {}", hex(&record));
-        if from_record(&record).is_some() {
-            continue;
-        }
-        illegal += 1;
-        let mut tables = OwnedTables::new(30, 30, 30 * p.letters, 0xa5);
-        let before = tables.clone();
-        alike(refusal(tables.translate(&ours)), Err(7), &text);
-        alike(tables.difference(&before), None, &text);
-        let mut nine = SolvedTables::new(30, 30, 30 * p.letters, 0xa5);
-        let before = nine.clone();
-        let owners = owners(&mut random, p.states);
-        alike(refusal(nine.solve(&ours, &owners)), Err(7), &text);
-        alike(nine.difference(&before), None, &text);
-        let judged = wulfrenda::judge_policy(&ours, 0, &[], &[0]);
-        alike(refusal(judged), Err(7), &text);
-        let other = proved(&p);
-        for (a, b) in [(&ours, &other), (&other, &ours)] {
-            alike(refusal(wulfrenda::compare(a, b)), Err(7), &text);
+        match from_record(&record) {
+            Some(q) => {
+                legal(&mut translator, &record, &q);
+                right += 1;
+            }
+            None => {
+                not_legal(&mut random, &record, &p);
+                wrong += 1;
+            }
         }
     }
-    assert!(illegal > policies(6_000) / 4);
+    let all = policies(12_000);
+    assert!(right > all / 10 && wrong > all / 4, "{right} {wrong}");
+}
+
+#[test]
+fn quiet_edges_in_records() {
+    let mut random = random(19);
+    let mut translator = Translator::default();
+    for i in 0..policies(2_000) {
+        let p = random.policy(&shape(i));
+        let edges = p.edges.len();
+        // any number but 0 says that an edge is quiet, and that a set is in the family
+        let mut record = p.record();
+        for byte in record[132..].iter_mut().filter(|b| **b == 1) {
+            *byte = 1 + random.below(255) as u8;
+        }
+        legal(&mut translator, &record, &p);
+        // the other edges with colour 0 quiet too
+        let mut q = p.clone();
+        for (e, edge) in q.edges.iter_mut().enumerate() {
+            if edge.1 == Some(0) && random.chance(50) {
+                record[388 + e] = 1 + random.below(255) as u8;
+                edge.1 = None;
+            }
+        }
+        legal(&mut translator, &record, &q);
+        let mut wrong = |at: usize, bytes: [u8; 2]| {
+            let mut record = record;
+            record[388 + at] = bytes[0];
+            record[68 + at] = bytes[1];
+            not_legal(&mut random, &record, &p);
+        };
+        // a quiet edge with any other number as its colour
+        let colours = [1, p.colours as u8 - 1, p.colours as u8, 255];
+        for colour in colours.into_iter().filter(|&c| c > 0) {
+            wrong(i as usize % edges, [1, colour]);
+            wrong(i as usize % edges, [255, colour]);
+        }
+        // quiet past the last edge
+        if edges < 64 {
+            for at in [edges, 63, edges + i as usize % (64 - edges)] {
+                wrong(at, [1, 0]);
+                wrong(at, [128, 0]);
+            }
+        }
+    }
 }
 
 /// A stem and a loop, now and then with a letter too many or an empty loop.
@@ -403,8 +587,10 @@ fn words(random: &mut Random, letters: usize) -> (Vec<u8>, Vec<u8>) {
 fn running_and_judging() {
     let mut random = random(15);
     let mut translator = Translator::default();
-    for i in 0..policies(4_000) {
-        let p = random.policy(&shape(i % 4));
+    // runs on quiet edges alone, rejected and accepted
+    let mut quiet = [0; 2];
+    for i in 0..policies(8_000) {
+        let p = random.policy(&shape(i % 8));
         let Ok(a) = translator.translate(&p, 4096, 4096) else {
             continue;
         };
@@ -421,6 +607,10 @@ fn running_and_judging() {
             let verdict = verdict.map(|x| (usize::from(x.colours), x.accepted));
             let theirs = judge::policy(&p, v, &stem, &period);
             alike(refusal(verdict), theirs, &text);
+            if let Ok((0, accepted)) = theirs {
+                alike(accepted, p.family[0], &text);
+                quiet[usize::from(accepted)] += 1;
+            }
             let s = random.below(states + 1);
             let rows = tables.rows(letters as u8);
             judged_alike(&rows, s, &stem, &period, &text);
@@ -441,6 +631,7 @@ fn running_and_judging() {
         judged_alike(&tables.rows(letters as u8), s, &stem, &period, &text);
         ran_alike(&tables.rows(letters as u8), s, &stem, &text);
     }
+    assert!(quiet.iter().all(|&n| n > policies(8_000) / 10), "{quiet:?}");
 }
 
 fn judged_alike(rows: &Rows, s: usize, stem: &[u8], period: &[u8], text: &str) {
@@ -472,7 +663,7 @@ fn renamed(random: &mut Random, p: &Policy) -> Policy {
     }
     let mut q = p.clone();
     for edge in &mut q.edges {
-        edge.1 = names[edge.1];
+        edge.1 = edge.1.map(|c| names[c]);
     }
     for (set, &member) in p.family.iter().enumerate() {
         let other = (0..p.colours).filter(|c| set >> c & 1 == 1);
@@ -481,39 +672,82 @@ fn renamed(random: &mut Random, p: &Policy) -> Policy {
     q
 }
 
+/// Compares on both sides, and by the definitions where there are few edges.
+fn compared_alike(p: &Policy, q: &Policy) -> Result<bool, u8> {
+    let ours = refusal(wulfrenda::compare(&proved(p), &proved(q)));
+    let text = format!("policies {} {}", p.hex(), q.hex());
+    alike(ours, fast::compare(p, q), &text);
+    if ours.is_ok() && p.edges.len() <= 6 {
+        alike(ours, Ok(brute::same(p, q)), &text);
+    }
+    ours
+}
+
 #[test]
 fn comparing() {
     let mut random = random(16);
     let mut answers = [0; 3];
-    for i in 0..policies(3_000) {
+    for i in 0..policies(6_000) {
         let p = random.policy(&shape(i));
         let mut q = renamed(&mut random, &p);
+        let e = random.below(q.edges.len());
         match random.below(6) {
             0 => q.initial = random.below(q.states),
             1 | 2 => {
                 let set = 1 + random.below(q.family.len() - 1);
                 q.family[set] = !q.family[set];
             }
-            3 => {
-                let e = random.below(q.edges.len());
-                q.edges[e].1 = random.below(q.colours);
-            }
-            4 => {
-                let e = random.below(q.edges.len());
-                q.edges[e].0 = random.below(q.states);
-            }
-            _ => q = random.policy(&Shape::any(8)),
+            3 => q.edges[e].1 = Some(random.below(q.colours)),
+            4 => q.edges[e].0 = random.below(q.states),
+            _ => q = random.policy(&shape(i % 4)),
         }
-        let ours = refusal(wulfrenda::compare(&proved(&p), &proved(&q)));
-        let text = format!("policies {} {}", p.hex(), q.hex());
-        alike(ours, fast::compare(&p, &q), text);
-        answers[ours.map_or(2, usize::from)] += 1;
+        let answer = compared_alike(&p, &q);
+        answers[answer.map_or(2, usize::from)] += 1;
     }
     // each of the three answers came up
     assert!(
-        answers.iter().all(|&n| n > policies(3_000) / 50),
+        answers.iter().all(|&n| n > policies(6_000) / 50),
         "{answers:?}"
     );
+}
+
+/// Whether some cycle is of quiet edges alone: states are taken away while they have no quiet edge to one that is left.
+fn has_quiet_cycle(p: &Policy) -> bool {
+    let mut left = vec![true; p.states];
+    for _ in 0..p.states {
+        for v in 0..p.states {
+            let edges = &p.edges[v * p.letters..][..p.letters];
+            left[v] &= edges.iter().any(|&(w, colour)| colour.is_none() && left[w]);
+        }
+    }
+    left.contains(&true)
+}
+
+#[test]
+fn comparing_policies_that_differ_in_quiet_edges_or_set_0() {
+    let mut random = random(25);
+    // of each: different, and the same
+    let (mut by_set, mut by_edge) = ([0; 2], [0; 2]);
+    for i in 0..policies(3_000) {
+        let p = random.policy(&shape(i));
+        let mut q = p.clone();
+        q.family[0] = !p.family[0];
+        let same = compared_alike(&p, &q);
+        alike(same, Ok(!has_quiet_cycle(&p)), p.hex());
+        by_set[usize::from(same == Ok(true))] += 1;
+        let mut q = renamed(&mut random, &p);
+        let e = random.below(q.edges.len());
+        q.edges[e].1 = match q.edges[e].1 {
+            None => Some(random.below(q.colours)),
+            Some(_) => None,
+        };
+        let same = compared_alike(&p, &q);
+        alike(compared_alike(&q, &p), same, p.hex());
+        by_edge[usize::from(same == Ok(true))] += 1;
+    }
+    let some = policies(3_000) / 10;
+    assert!(by_set.iter().all(|&n| n > some), "{by_set:?}");
+    assert!(by_edge.iter().all(|&n| n > some), "{by_edge:?}");
 }
 
 /// Owners: the supervisor alone, the plant alone, or either at each state.
@@ -553,19 +787,32 @@ fn left_alike(
     alike(same, None, text);
 }
 
-/// Solves a policy, legal or not, on both sides in tables like these: the solved ones.
+/// Solves the policy of a record, legal or not, on both sides in tables like these: the solved ones.
+fn record_solved_alike(
+    solver: &mut Solver,
+    record: &Record,
+    owners: &[u8],
+    before: &SolvedTables,
+) -> Result<SolvedTables, u8> {
+    let text = format!("record {} owners {owners:?}", hex(record));
+    let (mut ours, mut theirs) = (before.clone(), before.clone());
+    let answer = from_record(record)
+        .ok_or(7)
+        .and_then(|p| theirs.fill(solver, &p, owners).map(counts));
+    let policy = wulfrenda::Policy::from_record(*record);
+    alike(refusal(ours.solve(&policy, owners)), answer, &text);
+    let letters = usize::from(record[1]);
+    left_alike(&ours, &theirs, before, (answer, letters, owners), &text);
+    answer.map(|_| ours)
+}
+
 fn solved_alike(
     solver: &mut Solver,
     p: &Policy,
     owners: &[u8],
     before: &SolvedTables,
 ) -> Result<SolvedTables, u8> {
-    let text = format!("policy {} owners {owners:?}", p.hex());
-    let (mut ours, mut theirs) = (before.clone(), before.clone());
-    let answer = theirs.fill(solver, p, owners).map(counts);
-    alike(refusal(ours.solve(&proved(p), owners)), answer, &text);
-    left_alike(&ours, &theirs, before, (answer, p.letters, owners), &text);
-    answer.map(|_| ours)
+    record_solved_alike(solver, &p.record(), owners, before)
 }
 
 /// Solves what command bytes give, on both sides in tables like these: the number, or 0.
@@ -598,7 +845,7 @@ fn solving() {
     let mut random = random(21);
     let (mut translator, mut solver) = (Translator::default(), Solver::default());
     let (mut games, mut won) = (0, [0; 2]);
-    for i in 0..policies(6_000) {
+    for i in 0..policies(12_000) {
         let p = random.policy(&shape(i));
         // larger forests have a test of their own
         let Ok(a) = translator.translate(&p, 5_000, 5_000) else {
@@ -632,7 +879,7 @@ fn solving() {
         }
     }
     // most fitted, and each player won somewhere
-    assert!(games > policies(6_000), "{games}");
+    assert!(games > policies(12_000), "{games}");
     assert!(won.iter().all(|&n| n > games / 4), "{won:?} of {games}");
 }
 
@@ -641,7 +888,7 @@ fn solving_from_command_bytes() {
     let mut random = random(22);
     let mut solver = Solver::default();
     let mut answers = [0; 18];
-    for i in 0..policies(6_000) {
+    for i in 0..policies(12_000) {
         let p = random.policy(&shape(i));
         let mut bytes = p.bytes();
         bytes.extend((0..random.below(6)).map(|b| b as u8));
@@ -664,20 +911,23 @@ fn solving_from_command_bytes() {
     let others = [0, 1, 2, 3, 4, 5, 6, 8, 9, 10, 16, 17];
     assert!(others.iter().all(|&n| answers[n] > 0), "{answers:?}");
     let all: u64 = others.iter().map(|&n| answers[n]).sum();
-    assert_eq!(all, 2 * policies(6_000), "{answers:?}");
+    assert_eq!(all, 2 * policies(12_000), "{answers:?}");
 }
 
-/// The policy, no longer legal.
-fn illegal(random: &mut Random, p: &Policy) -> Policy {
-    let mut q = p.clone();
-    let e = random.below(q.edges.len());
-    match random.below(4) {
-        0 => q.initial = q.states,
-        1 => q.family[0] = true,
-        2 => q.edges[e].0 = q.states,
-        _ => q.edges[e].1 = q.colours,
+/// The policy's record, no longer legal.
+fn illegal(random: &mut Random, p: &Policy) -> Record {
+    let mut record = p.record();
+    let (edges, e) = (p.edges.len(), random.below(p.edges.len()));
+    match random.below(6) {
+        0 => record[3] = record[0],
+        1 => record[4 + e] = record[0],
+        2 => record[68 + e] = record[2],
+        3 => (record[68 + e], record[388 + e]) = (1, 1),
+        4 if edges < 64 => record[388 + edges + random.below(64 - edges)] = 1,
+        _ if p.colours < 8 => record[132 + (1 << p.colours)] = 1,
+        _ => record[2] = 9,
     }
-    q
+    record
 }
 
 /// One of the nine tables a place longer or shorter.
@@ -710,10 +960,10 @@ fn solving_asks_its_questions_in_order() {
     let (mut translator, mut solver) = (Translator::default(), Solver::default());
     const NUMBERS: [u8; 6] = [7, 8, 9, 10, 16, 17];
     let mut answers = [0; 18];
-    for i in 0..policies(6_400) {
+    for i in 0..policies(12_800) {
         // every choice of questions with the answer "no", one after the other
         let no = |number| i >> NUMBERS.iter().position(|&n| n == number).unwrap() & 1 == 1;
-        let p = random.policy(&shape(i / 64 % 4));
+        let p = random.policy(&shape(i / 64 % 8));
         let Ok(a) = translator.translate(&p, 500, 500) else {
             continue;
         };
@@ -745,16 +995,16 @@ fn solving_asks_its_questions_in_order() {
             owners[random.below(many)] = 2 + random.below(254) as u8;
         }
         let first = NUMBERS.into_iter().find(|&n| no(n)).unwrap_or(0);
-        let q = if no(7) {
+        let record = if no(7) {
             illegal(&mut random, &p)
         } else {
-            p.clone()
+            p.record()
         };
-        let text = format!("policy {} owners {owners:?}", q.hex());
-        let answer = solved_alike(&mut solver, &q, &owners, &tables);
+        let text = format!("record {} owners {owners:?}", hex(&record));
+        let answer = record_solved_alike(&mut solver, &record, &owners, &tables);
         alike(answer.map_or_else(|n| n, |_| 0), first, &text);
         if !no(7) {
-            let answer = bytes_solved_alike(&mut solver, &q.bytes(), &owners, &tables);
+            let answer = bytes_solved_alike(&mut solver, &p.bytes(), &owners, &tables);
             alike(answer, first, &text);
         }
         answers[usize::from(first)] += 1;

@@ -1,7 +1,7 @@
 //! The proved programs print what the independent translator finds, on policies of every shape, valid and damaged, as command bytes and as texts. TRANSLATE and
 //! TRANSLATE_HANOI name the programs.
 
-use comparison::{damaged, hex, policies, program, random, root, unhex};
+use comparison::{damaged, hex, policies, program, random, root, shuffled, unhex};
 use independent::random::Shape;
 use independent::{alike, fast, hanoi, policy};
 use std::fs;
@@ -40,16 +40,19 @@ fn text_listed_alike(text: &[u8]) {
 fn policies_of_every_shape() {
     let mut random = random(2);
     for i in 0..policies(2_000) {
-        let p = random.policy(&Shape::any([4, 8, 16, 32, 64][i as usize % 5]));
-        listed_alike(&p.bytes());
+        let shape = Shape::any([4, 8, 16, 32, 64][i as usize % 5]);
+        listed_alike(&random.policy(&shape).bytes());
+        let p = random.policy(&shape.with_quiet());
+        listed_alike(&shuffled(&mut random, &p));
     }
 }
 
 #[test]
 fn damaged_bytes() {
     let mut random = random(3);
-    for _ in 0..policies(2_000) {
-        let bytes = random.policy(&Shape::any(16)).bytes();
+    let shapes = [Shape::any(16), Shape::any(16).with_quiet()];
+    for i in 0..policies(4_000) {
+        let bytes = random.policy(&shapes[i as usize % 2]).bytes();
         listed_alike(&damaged(&mut random, bytes));
     }
     listed_alike(&[]);

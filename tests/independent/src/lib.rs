@@ -35,6 +35,20 @@ pub struct Automaton {
 }
 
 impl Automaton {
+    /// How many levels the tree with the most of them has.
+    pub fn levels(&self) -> usize {
+        let mut levels: Vec<usize> = Vec::new();
+        for node in &self.nodes {
+            // a parent stands before its children
+            let above = match node.parent {
+                NONE => 0,
+                parent => levels[usize::from(parent)],
+            };
+            levels.push(above + 1);
+        }
+        levels.into_iter().max().unwrap_or(0)
+    }
+
     /// The listing of the program `translate`.
     pub fn listing(&self, letters: usize) -> String {
         let dash = |n: u16| {

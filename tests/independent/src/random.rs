@@ -43,7 +43,9 @@ pub enum Family {
     Chance(usize),
     /// The sets with an even number of members.
     Even,
-    /// One of these, from empty to full.
+    /// The sets whose least member is even, or odd if it is 1: without their least colour they have the other verdict, so that trees are as deep as they can be.
+    Least(usize),
+    /// Even, or a chance, from that of an empty family to that of a full one.
     Mixed,
 }
 
@@ -242,6 +244,7 @@ impl Random {
     fn member(&mut self, family: Family, set: usize) -> bool {
         match family {
             Family::Chance(percent) => self.chance(percent),
+            Family::Least(odd) => set.trailing_zeros() as usize % 2 == odd,
             _ => set.count_ones() % 2 == 0,
         }
     }

@@ -1,10 +1,11 @@
 //! The two independent ways agree with each other, with quiet edges and without, and both with document 01's listing of policy B. The solver agrees with what comes of trying all letters, and so
 //! does the check of solutions, on right ones and on wrong ones.
 
+use independent::fast::Translator;
 use independent::policy::{from_record, Policy};
 use independent::random::{kind, Random, Shape};
 use independent::solve::{Solver, NO_LETTER};
-use independent::{alike, brute, check, fast, judge, policy, Automaton, Node, NONE};
+use independent::{alike, brute, check, fast, judge, policy, Automaton, Node, Tables, NONE};
 
 /// A policy of at most 12 edges in every way that there is: read, as a record, translated, judged. What both translators give.
 fn agreed(random: &mut Random, kept: &mut Policy, p: &Policy) -> Automaton {
@@ -63,7 +64,7 @@ fn both_ways_agree() {
         let p = random.policy(&shape(if i % 50 < 2 { 12 } else { 8 }));
         let a = agreed(&mut random, &mut kept, &p);
         assert!(!p.family[0] && p.edges.iter().all(|e| e.1.is_some()));
-        assert!(levels(&a) <= p.colours, "{}", p.hex());
+        assert!(a.levels() <= p.colours, "{}", p.hex());
         if let Some(kind) = kind(&p, &a) {
             kinds[kind as usize] += 1;
         }
@@ -75,18 +76,6 @@ fn both_ways_agree() {
     }
     // each kind of numbering came up
     assert!(kinds.iter().all(|&n| n > 20), "{kinds:?}");
-}
-
-/// How many levels the tree with the most of them has.
-fn levels(a: &Automaton) -> usize {
-    let mut level = vec![0; a.nodes.len()];
-    for (n, node) in a.nodes.iter().enumerate() {
-        level[n] = match node.parent {
-            NONE => 1,
-            parent => level[usize::from(parent)] + 1,
-        };
-    }
-    level.into_iter().max().unwrap_or(0)
 }
 
 /// Compares two policies of one graph in both ways, if they are small.
@@ -119,8 +108,8 @@ fn both_ways_agree_on_quiet_edges() {
         let a = agreed(&mut random, &mut kept, &p);
         let quiet = p.edges.iter().filter(|e| e.1.is_none()).count();
         shares[usize::from(quiet > 0) + usize::from(quiet == p.edges.len())] += 1;
-        assert!(levels(&a) <= p.colours + usize::from(quiet > 0));
-        deeper += usize::from(levels(&a) > p.colours);
+        assert!(a.levels() <= p.colours + usize::from(quiet > 0));
+        deeper += usize::from(a.levels() > p.colours);
         for node in a.nodes.iter().filter(|n| p.colours_of(n.mask) == 0) {
             let accepting = node.priority % 2 == 0;
             alike(accepting, p.family[0], p.hex());
@@ -266,6 +255,47 @@ fn questions_about_quiet_edges() {
     assert_eq!(answer(&[3, 2]), Err((4, 5)));
     assert_eq!(answer(&[4, 0, 0, 0, 0]), Err((6, 9)));
     assert_eq!(answer(&[4, 0, 0, 0, 3, 0]), Err((1, 11)));
+}
+
+#[test]
+fn policies_that_are_not_legal() {
+    let p = nine_levels(true);
+    let answer = |change: fn(&mut Policy)| {
+        let mut p = p.clone();
+        change(&mut p);
+        let tables = Tables {
+            node_masks: &mut [0; 9],
+            node_parents: &mut [0; 9],
+            node_priorities: &mut [0; 9],
+            state_sources: &mut [0; 2],
+            state_leaves: &mut [0; 2],
+            row_targets: &mut [0; 10],
+            row_priorities: &mut [0; 10],
+        };
+        let mut translator = Translator::default();
+        let filled = translator.fill(&p, tables).map(drop);
+        let judged = judge::policy(&p, 0, &[], &[0]).map(drop);
+        assert_eq!(judged, filled);
+        for compared in [fast::compare(&p, &p), fast::compare(&p, &nine_levels(true))] {
+            assert_eq!(compared.map(drop), filled);
+        }
+        filled
+    };
+    assert_eq!(answer(|_| {}), Ok(()));
+    // an edge that is quiet or no longer so, and set 0, are no reason
+    assert_eq!(answer(|p| p.edges[4].1 = Some(7)), Ok(()));
+    assert_eq!(answer(|p| p.family[0] = false), Ok(()));
+    for change in [
+        (|p| p.initial = 2) as fn(&mut Policy),
+        |p| p.edges[4].0 = 2,
+        |p| p.edges[4].1 = Some(8),
+        |p| p.family.push(true),
+        |p| p.edges.push((0, None)),
+        |p| p.colours = 9,
+        |p| p.colours = 0,
+    ] {
+        assert_eq!(answer(change), Err(7));
+    }
 }
 
 #[test]

@@ -2,7 +2,7 @@
 
 use comparison::{unhex, OwnedTables, SolvedTables};
 use independent::policy::{self, Policy};
-use independent::random::{Family, Random, Shape, Targets};
+use independent::random::{Family, Quiet, Random, Shape, Targets};
 use independent::solve::Solver;
 use independent::{fast, hanoi, judge};
 use std::hint::black_box;
@@ -169,6 +169,51 @@ fn line(name: &str, steps: usize, (ours, theirs): (f64, f64)) {
     );
 }
 
+/// Judging a policy from state 0, with no stem.
+fn judging(name: &str, p: &Policy, period: &[u8]) {
+    let ours = wulfrenda::Policy::from_record(p.record());
+    // how many letters are read until the runs repeat is the same on both sides only in order of size; count the loop once
+    line(
+        name,
+        period.len(),
+        best(
+            || {
+                black_box(ignore(wulfrenda::judge_policy(
+                    &ours,
+                    0,
+                    &[],
+                    black_box(period),
+                )))
+            },
+            || black_box(ignore(judge::policy(p, 0, &[], black_box(period)))),
+        ),
+    );
+}
+
+/// Comparing a policy with the same one, its colours counted from the other end.
+fn comparing(name: &str, p: &Policy) {
+    let mut q = p.clone();
+    for edge in &mut q.edges {
+        edge.1 = edge.1.map(|colour| p.colours - 1 - colour);
+    }
+    for set in 0..p.family.len() {
+        q.family[set] = p.family[set.reverse_bits() >> (usize::BITS as usize - p.colours)];
+    }
+    let (first, second) = (
+        wulfrenda::Policy::from_record(p.record()),
+        wulfrenda::Policy::from_record(q.record()),
+    );
+    assert_eq!(wulfrenda::compare(&first, &second), Ok(true));
+    line(
+        &format!("comparing {name} with itself renamed"),
+        p.edges.len(),
+        best(
+            || black_box(ignore(wulfrenda::compare(black_box(&first), &second))),
+            || black_box(ignore(fast::compare(black_box(p), &q))),
+        ),
+    );
+}
+
 /// From texts in the Hanoi format to policies, the family included. Both sides go through all of a text, and evaluate the formula for each non-empty set of the colours.
 fn reading_texts(name: &str, texts: &[Vec<u8>]) {
     let colours = texts.iter().map(|t| hanoi::read(t).unwrap().colours);
@@ -276,23 +321,32 @@ fn with_owners(picks: &mut Random, policies: &[Policy]) -> Vec<(Policy, Vec<u8>)
 
 fn main() {
     let mut random = Random::new(1);
-    let mut some = |n: usize, states, letters, colours, family| -> Vec<Policy> {
-        let shape = Shape {
-            states,
-            letters,
-            colours,
-            edges: 64,
-            targets: Targets::Any,
-            family,
-            initial: false,
-        };
-        (0..n).map(|_| random.policy(&shape)).collect()
+    let shape = |states, letters, colours, family| Shape {
+        states,
+        letters,
+        colours,
+        edges: 64,
+        targets: Targets::Any,
+        family,
+        quiet: Quiet::No,
+        initial: false,
     };
+    let mut some =
+        |n: usize, shape: Shape| -> Vec<Policy> { (0..n).map(|_| random.policy(&shape)).collect() };
     let half = Family::Chance(50);
-    let small = some(100, 1..=3, 1..=3, 1..=3, half);
-    let sites = some(100, 4..=8, 2..=4, 3..=5, half);
-    let large = some(10, 16..=16, 4..=4, 8..=8, half);
-    let alternating = some(3, 16..=16, 4..=4, 8..=8, Family::Even);
+    let small = some(100, shape(1..=3, 1..=3, 1..=3, half));
+    let sites = some(100, shape(4..=8, 2..=4, 3..=5, half));
+    let large = some(10, shape(16..=16, 4..=4, 8..=8, half));
+    let alternating = some(3, shape(16..=16, 4..=4, 8..=8, Family::Even));
+    // policies of their own seed, so that the others are not moved by them
+    let mut others = Random::new(5);
+    let mut third = |n: usize, shape: Shape| -> Vec<Policy> {
+        let quiet = Quiet::Chance(33);
+        let shape = Shape { quiet, ..shape };
+        (0..n).map(|_| others.policy(&shape)).collect()
+    };
+    let quiet_sites = third(100, shape(4..=8, 2..=4, 3..=5, half));
+    let quiet_large = third(10, shape(16..=16, 4..=4, 8..=8, half));
     let known = [
         include_str!("../../../../examples/a.hex"),
         include_str!("../../../../examples/b.hex"),
@@ -318,6 +372,11 @@ fn main() {
     translating(
         "109,601 nodes: does not fit",
         &[file(include_str!("../../policies/too_many.hex"))],
+    );
+    translating("100 sites, a third of the edges quiet", &quiet_sites);
+    translating(
+        "10 of 16 states, 4 letters, 8 colours, a third quiet",
+        &quiet_large,
     );
 
     println!("\n| games | states | rows | ours | independent | ratio | ours, solving alone | independent | ns a row |");
@@ -369,21 +428,10 @@ fn main() {
     for length in [10, 1_000] {
         let period: Vec<u8> = (0..length).map(|_| random.below(p.letters) as u8).collect();
         let state = usize::from(a.start);
-        // how many letters are read until the runs repeat is the same on both sides only in order of size; count the loop once
-        line(
+        judging(
             &format!("judging the policy, a loop of {length}"),
-            length,
-            best(
-                || {
-                    black_box(ignore(wulfrenda::judge_policy(
-                        &ours,
-                        0,
-                        &[],
-                        black_box(&period),
-                    )))
-                },
-                || black_box(ignore(judge::policy(p, 0, &[], black_box(&period)))),
-            ),
+            p,
+            &period,
         );
         line(
             &format!("judging {} rows, a loop of {length}", a.rows.len()),
@@ -442,27 +490,7 @@ fn main() {
         ("16 states and 8 colours", &large[0]),
         ("the same, even sets", &alternating[0]),
     ] {
-        // the same policy with its colours counted from the other end
-        let mut q = p.clone();
-        for edge in &mut q.edges {
-            edge.1 = p.colours - 1 - edge.1;
-        }
-        for set in 0..p.family.len() {
-            q.family[set] = p.family[set.reverse_bits() >> (usize::BITS as usize - p.colours)];
-        }
-        let (first, second) = (
-            wulfrenda::Policy::from_record(p.record()),
-            wulfrenda::Policy::from_record(q.record()),
-        );
-        assert_eq!(wulfrenda::compare(&first, &second), Ok(true));
-        line(
-            &format!("comparing {name} with itself renamed"),
-            p.edges.len(),
-            best(
-                || black_box(ignore(wulfrenda::compare(black_box(&first), &second))),
-                || black_box(ignore(fast::compare(black_box(p), &q))),
-            ),
-        );
+        comparing(name, p);
     }
     // neither side has a table
     line(
@@ -481,6 +509,24 @@ fn main() {
             },
         ),
     );
+
+    let site = &quiet_sites[0];
+    for length in [10, 1_000] {
+        let period: Vec<u8> = (0..length)
+            .map(|_| others.below(site.letters) as u8)
+            .collect();
+        judging(
+            &format!("judging a site, a third of its edges quiet, a loop of {length}"),
+            site,
+            &period,
+        );
+    }
+    for (name, p) in [
+        ("a site, a third of its edges quiet,", site),
+        ("16 states and 8 colours, a third quiet,", &quiet_large[0]),
+    ] {
+        comparing(name, p);
+    }
 
     println!("\n| texts in the Hanoi format | bytes | colour sets | ours | independent | ours, MB/s | independent, MB/s | ratio |");
     println!("|---|---:|---:|---:|---:|---:|---:|---:|");
