@@ -510,23 +510,20 @@ fn main() {
         ),
     );
 
-    let site = &quiet_sites[0];
+    let site = quiet_sites.iter().find(|p| p.edges.len() == 32).unwrap();
+    let name = |p: &Policy| {
+        let quiet = p.edges.iter().filter(|e| e.1.is_none()).count();
+        let (states, edges) = (p.states, p.edges.len());
+        format!("{states} states, {quiet} of {edges} edges quiet,")
+    };
     for length in [10, 1_000] {
-        let period: Vec<u8> = (0..length)
-            .map(|_| others.below(site.letters) as u8)
-            .collect();
-        judging(
-            &format!("judging a site, a third of its edges quiet, a loop of {length}"),
-            site,
-            &period,
-        );
+        let letters = (0..length).map(|_| others.below(site.letters) as u8);
+        let period: Vec<u8> = letters.collect();
+        let name = format!("judging a site of {} a loop of {length}", name(site));
+        judging(&name, site, &period);
     }
-    for (name, p) in [
-        ("a site, a third of its edges quiet,", site),
-        ("16 states and 8 colours, a third quiet,", &quiet_large[0]),
-    ] {
-        comparing(name, p);
-    }
+    comparing(&format!("a site of {}", name(site)), site);
+    comparing(&name(&quiet_large[0]), &quiet_large[0]);
 
     println!("\n| texts in the Hanoi format | bytes | colour sets | ours | independent | ours, MB/s | independent, MB/s | ratio |");
     println!("|---|---:|---:|---:|---:|---:|---:|---:|");
