@@ -1066,6 +1066,7 @@ fn solving_on_large_forests() {
         "nodes_1000",
         "nodes_10000",
         "nodes_65535",
+        "nodes_65535_quiet",
         "states_1000",
         "states_65535",
         "negative",
@@ -1084,11 +1085,13 @@ fn solving_on_large_forests() {
     let tables_of_p = tables(&p, 65_535);
     let answer = bytes_solved_alike(&mut solver, &p.bytes(), &owners, &tables_of_p);
     assert_eq!(answer, 0);
-    let p = stored("too_many");
-    for places in [65_535, 65_536] {
-        let owners = vec![SUPERVISOR; p.states];
-        let answer = solved_alike(&mut solver, &p, &owners, &tables(&p, places));
-        assert_eq!(answer, Err(9));
+    for name in ["too_many", "too_many_quiet"] {
+        let p = stored(name);
+        for places in [65_535, 65_536] {
+            let owners = vec![SUPERVISOR; p.states];
+            let answer = solved_alike(&mut solver, &p, &owners, &tables(&p, places));
+            assert_eq!(answer, Err(9), "{name}");
+        }
     }
 }
 

@@ -43,9 +43,9 @@ pub enum Family {
     Chance(usize),
     /// The sets with an even number of members.
     Even,
-    /// The sets whose least member is even, or odd if it is 1: without their least colour they have the other verdict, so that trees are as deep as they can be.
+    /// The sets whose least member is even, if this is 0, or odd, if it is 1. Where colours are taken away from the least on, verdicts turn each time: trees are deep.
     Least(usize),
-    /// Even, or a chance, from that of an empty family to that of a full one.
+    /// The even sets, or each set with a chance, from an empty family to a full one.
     Mixed,
 }
 
