@@ -608,7 +608,6 @@ fn running_and_judging() {
             let theirs = judge::policy(&p, v, &stem, &period);
             alike(refusal(verdict), theirs, &text);
             if let Ok((0, accepted)) = theirs {
-                alike(accepted, p.family[0], &text);
                 quiet[usize::from(accepted)] += 1;
             }
             let s = random.below(states + 1);
