@@ -22,7 +22,9 @@ use Rattle.builder.proofs.TranslateLaws.{number-of, counts-of, hold-same}
 use Rattle.running.specs.declared.Run.{Run}
 use Rattle.running.specs.Running.{readingOf, runAfter, priorityOf, numberOf}
 use Rattle.running.proofs.Steps.{reads-letter}
-use Rattle.records.specs.Records.{bytesAt, flagsAt, unpacked, policyOf, recordOf}
+use Rattle.records.specs.Records.{policyOf, recordOf}
+use Rattle.records.proofs.Packing.{policy-record}
+use lib.Pow.{pow-pos}
 use Rattle.answers.specs.Answers.{firstOf, offsetAfter}
 use Rattle.correctness.specs.Calls.{Call, Translating, Running, Slice, translate, translateShows, read, readShows, wulfrenda-translate, wulfrendaTranslateShows, wulfrenda-translate-bytes, wulfrendaTranslateBytesShows, wulfrenda-run, wulfrendaRunShows}
 use Rattle.correctness.specs.Demand3.{stateCount, letterAt, BuiltRun}
@@ -41,8 +43,7 @@ unfolding has insert inside properly setOf members submasks padded zeros edges e
 cases-hold = (refl, refl, (refl, refl, (refl, refl, (refl, refl, (refl, refl, tt)))))
 
 pub policy-back : policyOf (recordOf B) ≡ B
-unfolding counted withTables bytesAt flagsAt unpacked policyOf recordOf
-policy-back = refl
+policy-back = policy-record B (record { targets = refl; colours = refl; sets = refl; quiet-lt = pow-pos 64 })
 
 -- ---- places
 -- a place that holds x
