@@ -1,5 +1,5 @@
--- Bytes without a quiet edge and without the empty set are read as in document 01: the policy has neither, and each command is asked document 01's questions.
--- And a quiet edge that is taken is quiet in the policy. Assumes nothing.
+-- Bytes without a quiet edge and without the empty set are read as in document 01, and the policy has neither. And a quiet edge that is taken is quiet in the policy.
+-- Assumes nothing.
 use Prim.Native.Nat.{ℕ, zero, suc, _+_, _-_, _*_, _^_, _<_}
 use native.Mathlib.Omega.{arith}
 use mathlib.Core.Path.{_≡_, refl, sym, ap, _∙_, subst}
@@ -21,8 +21,8 @@ use Rattle.reading.specs.declared.Draft.{Draft}
 use Rattle.reading.specs.declared.Answer.{Answer}
 use Rattle.reading.specs.declared.Command.{Command}
 use Rattle.reading.specs.declared.Command.the-variants.{End, Shape, Edge, Accept, Quiet}
-use Rattle.reading.specs.Reading.{Stop, commandAt, commandKnown, draftAfter, emptyDraft, inPlace, isEnd, isShape, nextOffset, numberOf, readingOf, refusalOf, stopFrom, stopMost, stopOf, withinLimits}
-use Rattle.reading.specs.Plain.{offsetsFrom, offsetsMost, offsetsOf, plainLimits, plainRefusal}
+use Rattle.reading.specs.Reading.{Stop, answerAt, commandAt, commandKnown, draftAfter, emptyDraft, inPlace, isEnd, isShape, nextOffset, numberAt, numberOf, readingOf, refusalOf, stopFrom, stopMost, stopOf, withinLimits}
+use Rattle.reading.specs.Plain.{Plain, PlainAt, offsetsFrom, offsetsMost, offsetsOf, plainAnswerAt, plainLimits, plainReadingOf, plainRefusal, plainStopMost}
 use Rattle.reading.proofs.Questions.{passed}
 use Rattle.reading.proofs.Commands.{by-number}
 
@@ -183,3 +183,50 @@ plain-limits p b at h g =
 pub plain-questions : (b : List ℕ) (at : ℕ) (d : Draft) → getD b at 0 ≢ 4 → (getD b at 0 ≡ 3 → getD b (at + 1) 0 ≢ 0) → refusalOf b at d ≡ plainRefusal b at d
 unfolding refusalOf plainRefusal
 plain-questions b at d h g = rw (plain-known (getD b at 0) h, plain-limits (d .policy) b at h g)
+
+-- ---- the whole reading
+module _ (b : List ℕ) where
+  plain-at : (at : ℕ) (d : Draft) → PlainAt b at → refusalOf b at d ≡ plainRefusal b at d
+  plain-at at d h = plain-questions b at d (h .0) (h .1)
+
+  plain-stop : (n at : ℕ) (d : Draft) → ((o : ℕ) → List·Memᴰ o (offsetsMost n b at d) → PlainAt b o) → PlainAt b (stopMost n b at d .at) → stopMost n b at d ≡ plainStopMost n b at d
+  unfolding stopMost offsetsMost plainStopMost
+  plain-stop zero at d = λ h l. refl
+  plain-stop (suc n) at d = go (goesOn b at d) refl (plain-stop n (nextOffset b at) (draftAfter d (commandAt b at)))
+    where
+      next : Draft
+      next = draftAfter d (commandAt b at)
+
+      offsets : List ℕ
+      offsets = offsetsMost n b (nextOffset b at) next
+
+      later : Stop
+      later = stopMost n b (nextOffset b at) next
+
+      plainLater : Stop
+      plainLater = plainStopMost n b (nextOffset b at) next
+
+      here : Stop
+      here = record { at = at; draft = d }
+
+      same : PlainAt b at → (x : Bool) → goesOn b at d ≡ x → eqb (plainRefusal b at d) 0 && not (isEnd (commandAt b at)) ≡ x
+      same h x t = ap (λ (k : ℕ). eqb k 0 && not (isEnd (commandAt b at))) (sym (plain-at at d h)) ∙ t
+
+      go : (x : Bool) → goesOn b at d ≡ x → (((o : ℕ) → List·Memᴰ o offsets → PlainAt b o) → PlainAt b (later .at) → later ≡ plainLater)
+          → ((o : ℕ) → List·Memᴰ o (cond x (at ∷ offsets) []) → PlainAt b o) → PlainAt b (cond x later here .at)
+          → cond x later here ≡ cond (eqb (plainRefusal b at d) 0 && not (isEnd (commandAt b at))) plainLater here
+      go true t ih h l = rw (same (h at (List·Memᴰ·head refl)) true t) (ih (λ o m. h o (List·Memᴰ·tail m)) l)
+      go false t ih h l = rw (same l false t)
+
+  -- bytes without 0x04 and without an empty set are read as in document 01
+  pub plain-reading : Plain b → readingOf b ≡ plainReadingOf b
+  unfolding readingOf answerAt numberAt stopOf stopFrom offsetsOf offsetsFrom plainReadingOf plainAnswerAt
+  plain-reading h =
+      let n : length b + 1 - 0 ≡ length b + 1 = omega arith in
+      let number : refusalOf b (stopOf b .at) (stopOf b .draft) ≡ plainRefusal b (stopOf b .at) (stopOf b .draft) = plain-at (stopOf b .at) (stopOf b .draft) (h .last) in
+      let stops : stopOf b ≡ plainStopMost (length b + 1) b 0 emptyDraft = plain-stop (length b + 1 - 0) 0 emptyDraft (h .taken) (h .last) ∙ ap (λ (k : ℕ). plainStopMost k b 0 emptyDraft) n in
+      rw number (ap (plainAnswerAt b) stops)
+
+  -- and their policy has no quiet edge, and no empty set in its family
+  pub plain-read : Plain b → (readingOf b .policy .quiet ≡ 0) × (inFamily (readingOf b .policy) 0 ≡ false)
+  plain-read h = (loud-read b (λ at m. h .taken at m .0), nonempty-read b (λ at m. h .taken at m .1))

@@ -1,16 +1,22 @@
--- Reading by document 01's commands alone: where no edge is quiet and no empty set accepted. The offsets of the commands that are taken, and the questions as document 01 has them.
+-- Reading by document 01's commands alone, where no edge is quiet and no empty set is accepted: the offsets of the commands that are taken, the questions as document 01 has them, and
+-- the reading by these. What it shares with Reading.antt has a case for 0x04, which is not met here.
 use Prim.Native.Nat.{ℕ, zero, suc, _+_, _-_, _^_}
+use mathlib.Core.Path.{_≡_}
+use mathlib.Core.Logic.{_≢_}
 use mathlib.Core.Bool.{Bool, true, false, not, _&&_, cond}
-use mathlib.Core.List.{List, [], _∷_}
+use mathlib.Core.List.{List, [], _∷_, List·Memᴰ}
 use lib.Dec.{eqb, ltb, leb}
 use lib.ListN.{length, getD}
 use Rattle.lists.specs.Questions.{ask}
 use Rattle.policy.specs.declared.Policy.{Policy}
 use Rattle.policy.specs.Policies.{countsFit}
+use Rattle.policy.specs.Making.{zeroPolicy}
 use Rattle.reading.specs.declared.Draft.{Draft}
+use Rattle.reading.specs.declared.Answer.{Answer}
+use Rattle.reading.specs.declared.Outcome.the-variants.{Read, Refused}
 use Rattle.reading.specs.declared.Command.{Command}
 use Rattle.reading.specs.declared.Command.the-variants.{End, Shape, Edge, Accept, Quiet}
-use Rattle.reading.specs.Reading.{anotherByte, commandAt, completeAtEnd, draftAfter, emptyDraft, firstTime, inPlace, isEnd, nextOffset, operandsThere, refusalOf}
+use Rattle.reading.specs.Reading.{Stop, anotherByte, commandAt, completeAtEnd, draftAfter, emptyDraft, firstTime, inPlace, isEnd, nextOffset, operandsThere, refusalOf, stopOf}
 
 -- ---- the commands that are taken
 -- their offsets, from an offset on, for at most n commands: as in stopMost
@@ -48,3 +54,29 @@ plainRefusal bytes at d =
     (ask (plainLimits (d .policy) c) 4
     (ask (firstTime d c) 5
     (ask (completeAtEnd d c) 6 0))))))
+
+-- where reading by them stops, from an offset on, after at most n commands, and its answer: as in stopMost and answerAt
+unfoldable pub plainStopMost : ℕ → List ℕ → ℕ → Draft → Stop
+plainStopMost zero bytes at d = record { at = at; draft = d }
+plainStopMost (suc n) bytes at d =
+    let c = commandAt bytes at in
+    let later = plainStopMost n bytes (nextOffset bytes at) (draftAfter d c) in
+    cond (eqb (plainRefusal bytes at d) 0 && not (isEnd c)) later (record { at = at; draft = d })
+
+unfoldable pub plainAnswerAt : List ℕ → Stop → Answer
+plainAnswerAt bytes s =
+    let number = plainRefusal bytes (s .at) (s .draft) in
+    cond (eqb number 0) (record { outcome = Read (s .at + 1); policy = s .draft .policy }) (record { outcome = Refused number (s .at); policy = zeroPolicy })
+
+unfoldable pub plainReadingOf : List ℕ → Answer
+plainReadingOf bytes = plainAnswerAt bytes (plainStopMost (length bytes + 1) bytes 0 emptyDraft)
+
+-- ---- bytes for which they are enough
+-- the command is not 0x04, and accepts no empty set
+abbrev pub PlainAt : List ℕ → ℕ → Type 0
+PlainAt bytes at = (getD bytes at 0 ≢ 4) × (getD bytes at 0 ≡ 3 → getD bytes (at + 1) 0 ≢ 0)
+
+-- each command that is taken, and the one where reading stops
+pub record Plain (bytes : List ℕ) : Type 0 where
+  pub taken : (at : ℕ) → List·Memᴰ at (offsetsOf bytes) → PlainAt bytes at
+  pub last : PlainAt bytes (stopOf bytes .at)
