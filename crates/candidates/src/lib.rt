@@ -212,9 +212,9 @@ fn set_count(p: Policy) -> usize
 }
 
 // The candidates of a policy by verdict, each list by falling masks of their colours and then by their lowest states; and
-// the candidates for a root. Places past them stay. `by` has the edges of each colour, and the quiet ones. It is copied: the compiler reads
-// all of the copy beforehand, so that the edges of a colour set come of it without a branch. This is an inner layer: its
-// callers have asked whether the policy is legal, and lend enough places.
+// the candidates for a root. Places past them stay. `by` has the edges of each colour, and the quiet ones. It is copied:
+// the compiler reads all of the copy beforehand, so that the edges of a colour set come of it without a branch. This is
+// an inner layer: its callers have asked whether the policy is legal, and lend enough places.
 pub fn fill_candidates(
     p: Policy,
     heads: &[u8; 64],

@@ -2,7 +2,6 @@
 -- Assumes nothing.
 use Prim.Native.Nat.{ℕ, _+_, _≤_, _<_}
 use native.Mathlib.Omega.{arith}
-use native.Mathlib.Nat.{add-zero}
 use mathlib.Core.Path.{_≡_, refl, sym, ap, _∙_}
 use mathlib.Core.Logic.{_⊎_, inl, inr}
 use mathlib.Core.Bool.{Bool, true, false, cond, false≢true}
@@ -34,9 +33,13 @@ module _ (p : Policy) where
   most-levels-few lawful = omega (arith, legal-counts p lawful .colours-few, quiet-level)
 
   -- document 01's bound
+  plain-level-none : p .quiet ≡ 0 → quietLevel p ≡ 0
+  unfolding quietLevel
+  plain-level-none z = rw z
+
   pub plain-levels : p .quiet ≡ 0 → mostLevels p ≡ p .colours
-  unfolding mostLevels quietLevel
-  plain-levels z = rw z (add-zero (p .colours))
+  unfolding mostLevels
+  plain-levels z = omega (arith, plain-level-none z)
 
   pub levels-most : legal p ≡ true → (m : ℕ) → levelsLeft p m ≤ mostLevels p
   unfolding levelsLeft mostLevels

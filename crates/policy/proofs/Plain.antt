@@ -31,12 +31,14 @@ module _ (p : Policy) (plain : p .quiet ≡ 0) where
   unfolding accepting
   plain-accepting m = ap (inFamily p) (plain-colours-of m)
 
-  -- and a policy is legal by its counts, its edges and its sets
+  -- a graph is legal by its counts and its edges, and a policy by its sets too
+  pub plain-legal-graph : legalGraph p ≡ legalCounts p && legalEdges p
+  unfolding legalGraph
+  plain-legal-graph = ap (λ (b : Bool). legalCounts p && legalEdges p && b) (sym (legal-quiet-none p plain)) ∙ and-true (legalCounts p && legalEdges p)
+
   pub plain-legal : inFamily p 0 ≡ false → legal p ≡ legalCounts p && legalEdges p && all (someSet p) (below 256)
-  unfolding legal legalGraph legalFamily legalSet
-  plain-legal none =
-      ap₂ _&&_ (ap (λ (b : Bool). legalCounts p && legalEdges p && b) (sym (legal-quiet-none p plain)) ∙ and-true (legalCounts p && legalEdges p))
-      (λ i. all (λ (s : ℕ). set s i) (below 256))
+  unfolding legal legalFamily legalSet
+  plain-legal none = ap₂ _&&_ plain-legal-graph (λ i. all (λ (s : ℕ). set s i) (below 256))
     where
       set : (s : ℕ) → legalSet p s ≡ someSet p s
       set zero = rw none

@@ -194,7 +194,7 @@ quiet-none b f =
     let t : ℕ → Bool = quietByte b in
     sym (mask-ext-to 64 (maskOf t 64) 0 (mask-of-lt t 64) (lit< tt) (λ i l. has-mask-of t 64 i l ∙ none-any t (below 64) f i (mem-below 64 i l) ∙ sym (has-none i)))
 
--- ---- without quiet edges: the record is that of the 388 bytes before it, with 64 zeros; and such zeros give no quiet edge
+-- ---- without quiet edges: a record ends in 64 zeros; and such zeros give no quiet edge
 pub plain-record : (p : Policy) → p .quiet ≡ 0 → recordOf p ≡ p .states ∷ p .letters ∷ p .colours ∷ p .initial ∷ (p .target ++ p .colour ++ map flag (p .family) ++ replicate 64 0)
 unfolding recordOf quietFlags has
 plain-record p plain = ap (λ (m : ℕ). p .states ∷ p .letters ∷ p .colours ∷ p .initial ∷ (p .target ++ p .colour ++ map flag (p .family) ++ map flag (quietFlags m))) plain
