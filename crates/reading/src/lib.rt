@@ -64,16 +64,20 @@ fn operand_count(code: u8) -> usize
     }
 }
 
+// The command at an offset. In two halves, so that the compiler makes comparisons of it and no table of jumps, which are guessed less well.
 fn command_at(bytes: &[u8], at: usize) -> Command
     requires { ⌜ (at < length (now bytes)) × (operandsThere (now bytes) at ≡ true) ⌝ }
     ensures { λ r. ⌜ r ≡ commandAt (now (bytes .entry)) at ⌝ }
 {
     let code = bytes[at];
-    if code == 1 {
-        return Command::Shape(bytes[at + 1], bytes[at + 2], bytes[at + 3], bytes[at + 4]);
-    }
-    if code == 2 {
-        return Command::Edge(bytes[at + 1], bytes[at + 2], bytes[at + 3], bytes[at + 4]);
+    if code < 3 {
+        if code == 1 {
+            return Command::Shape(bytes[at + 1], bytes[at + 2], bytes[at + 3], bytes[at + 4]);
+        }
+        if code == 2 {
+            return Command::Edge(bytes[at + 1], bytes[at + 2], bytes[at + 3], bytes[at + 4]);
+        }
+        return Command::End;
     }
     if code == 3 {
         return Command::Accept(bytes[at + 1]);

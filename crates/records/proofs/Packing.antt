@@ -1,6 +1,6 @@
 -- The laws of the record of a policy: the policy of a policy's record is that policy, bytes of another length are no legal policy, the zero policy's record is all zero, and a record
--- is filled by three stores, and a fourth where an edge is quiet. Assumes nothing.
-use Prim.Native.Nat.{ℕ, suc, _+_, _^_, _≤_, _<_}
+-- is filled by four stores. Assumes nothing.
+use Prim.Native.Nat.{ℕ, _+_, _^_, _<_}
 use native.Mathlib.Omega.{arith}
 use native.Mathlib.Numerals.{add-one}
 use mathlib.Core.Path.{_≡_, refl, sym, ap, ap₂, _∙_}
@@ -8,8 +8,8 @@ use mathlib.Core.Logic.{_≢_}
 use mathlib.Core.Bool.{Bool, true, false, _||_, cond}
 use mathlib.Core.List.{List, [], _∷_, _++_, map, append-assoc}
 use lib.Dec.{lit<}
-use lib.ListN.{length, getD, set, take, drop, take-append-drop, replicate, length-append, length-map, List·getD-append, List·getD-map}
-use lib.Seq.{sets, length-sets, take-all, drop-set-lt, ext-getD, getD-append-add}
+use lib.ListN.{length, getD, take, replicate, length-append, length-map, List·getD-append, List·getD-map}
+use lib.Seq.{sets, length-sets, take-all, ext-getD, getD-append-add}
 use borrow.Author.Tests.{eq-eqb, ne-eqb}
 use Rattle.lists.specs.Lists.{any, below}
 use Rattle.lists.proofs.Lists.{length-below, getD-map-below, none-any, none-true, mem-below}
@@ -129,47 +129,24 @@ unfolding recordOf zeroPolicy counted quietFlags has
 zero-record = refl
 
 -- ---- to a record
-drop-sets : (n : ℕ) (vs t : List ℕ) (i : ℕ) → i + length vs ≤ n → drop n (sets t i vs) ≡ drop n t
-drop-sets n [] t i h = refl
-drop-sets n (x ∷ vs) t i h = drop-sets n vs (set t i x) (suc i) (omega arith) ∙ drop-set-lt n t i x (omega arith)
-
--- the counts stand in the first four places of t, and three stores make all but the quiet edges
-module _ (p : Policy) (sized : Sized p) (t u v w : List ℕ) (long : length t ≡ recordLength) (counts : take 4 t ≡ p .states ∷ p .letters ∷ p .colours ∷ p .initial ∷ [])
-    (first : u ≡ sets t 4 (p .target)) (second : v ≡ sets u 68 (p .colour)) (third : w ≡ sets v 132 (map flag (p .family))) where
-  abbrev flags : List ℕ
-  flags = map flag (p .family)
-
-  last-long : length w ≡ recordLength
-  last-long = ap length third ∙ length-sets v 132 flags ∙ ap length second ∙ length-sets u 68 (p .colour) ∙ ap length first ∙ length-sets t 4 (p .target) ∙ long
-
-  front : take 388 w ≡ (p .states ∷ p .letters ∷ p .colours ∷ p .initial ∷ []) ++ p .target ++ p .colour ++ flags
-  front =
-      let lu : length u ≡ 452 = ap length first ∙ length-sets t 4 (p .target) ∙ long in
-      let lv : length v ≡ 452 = ap length second ∙ length-sets u 68 (p .colour) ∙ lu in
-      let target : take 68 u ≡ take 4 t ++ p .target = ap (take 68) first ∙ front-more t (p .target) 4 64 (sized .targets) (omega arith) in
-      let colour : take 132 v ≡ take 68 u ++ p .colour = ap (take 132) second ∙ front-more u (p .colour) 68 64 (sized .colours) (omega arith) in
-      let family : take 388 w ≡ take 132 v ++ flags = ap (take 388) third ∙ front-more v flags 132 256 (length-map (p .family) flag ∙ sized .sets) (omega arith) in
-      family ∙ ap (λ (x : List ℕ). x ++ flags) (colour ∙ ap (λ (x : List ℕ). x ++ p .colour) (target ∙ ap (λ (x : List ℕ). x ++ p .target) counts))
-
-  -- where no edge is quiet, the last places of t are 0
-  pub stores-loud : drop 388 t ≡ replicate 64 0 → p .quiet ≡ 0 → w ≡ recordOf p
-  unfolding recordOf quietFlags has
-  stores-loud zeros z =
-      let family : drop 388 w ≡ drop 388 v = ap (drop 388) third ∙ drop-sets 388 flags v 132 (omega (arith, length-map (p .family) flag, sized .sets)) in
-      let colour : drop 388 v ≡ drop 388 u = ap (drop 388) second ∙ drop-sets 388 (p .colour) u 68 (omega (arith, sized .colours)) in
-      let target : drop 388 u ≡ drop 388 t = ap (drop 388) first ∙ drop-sets 388 (p .target) t 4 (omega (arith, sized .targets)) in
-      let none : map flag (quietFlags (p .quiet)) ≡ replicate 64 0 = ap (λ (m : ℕ). map flag (quietFlags m)) z in
-      sym (take-append-drop 388 w) ∙ ap₂ (λ (x y : List ℕ). x ++ y) front (family ∙ colour ∙ target ∙ zeros ∙ sym none)
-
-  -- the fourth store
-  pub stores-quiet : {x : List ℕ} {q : List Bool} → q ≡ quietFlags (p .quiet) → x ≡ sets w 388 (map flag q) → x ≡ recordOf p
-  unfolding recordOf
-  stores-quiet {x} {q} e fourth =
-      let last : List ℕ = map flag q in
-      let lq : length last ≡ 64 = length-map q flag ∙ ap length e ∙ quiet-flags-long (p .quiet) in
-      let lx : length x ≡ 452 = ap length fourth ∙ length-sets w 388 last ∙ last-long in
-      let quiet : take 452 x ≡ take 388 w ++ last = ap (take 452) fourth ∙ front-more w last 388 64 lq (omega (arith, last-long)) in
-      sym (take-all 452 x (omega arith)) ∙ quiet ∙ ap₂ (λ (y z : List ℕ). y ++ z) front (ap (map flag) e)
+-- the counts stand in the first four places of t, and four stores do the rest
+pub stores : (p : Policy) → Sized p → (t u v w x : List ℕ) {q : List Bool} → length t ≡ recordLength → take 4 t ≡ p .states ∷ p .letters ∷ p .colours ∷ p .initial ∷ []
+    → u ≡ sets t 4 (p .target) → v ≡ sets u 68 (p .colour) → w ≡ sets v 132 (map flag (p .family)) → q ≡ quietFlags (p .quiet) → x ≡ sets w 388 (map flag q) → x ≡ recordOf p
+unfolding recordOf
+stores p sized t u v w x {q} long counts first second third e fourth =
+    let flags : List ℕ = map flag (p .family) in
+    let last : List ℕ = map flag q in
+    let last-long : length last ≡ 64 = length-map q flag ∙ ap length e ∙ quiet-flags-long (p .quiet) in
+    let lu : length u ≡ 452 = ap length first ∙ length-sets t 4 (p .target) ∙ long in
+    let lv : length v ≡ 452 = ap length second ∙ length-sets u 68 (p .colour) ∙ lu in
+    let lw : length w ≡ 452 = ap length third ∙ length-sets v 132 flags ∙ lv in
+    let lx : length x ≡ 452 = ap length fourth ∙ length-sets w 388 last ∙ lw in
+    let target : take 68 u ≡ take 4 t ++ p .target = ap (take 68) first ∙ front-more t (p .target) 4 64 (sized .targets) (omega arith) in
+    let colour : take 132 v ≡ take 68 u ++ p .colour = ap (take 132) second ∙ front-more u (p .colour) 68 64 (sized .colours) (omega arith) in
+    let family : take 388 w ≡ take 132 v ++ flags = ap (take 388) third ∙ front-more v flags 132 256 (length-map (p .family) flag ∙ sized .sets) (omega arith) in
+    let quiet : take 452 x ≡ take 388 w ++ last = ap (take 452) fourth ∙ front-more w last 388 64 last-long (omega arith) in
+    sym (take-all 452 x (omega arith)) ∙ quiet
+    ∙ ap₂ (λ (y z : List ℕ). y ++ z) (family ∙ ap (λ (y : List ℕ). y ++ flags) (colour ∙ ap (λ (y : List ℕ). y ++ p .colour) (target ∙ ap (λ (y : List ℕ). y ++ p .target) counts))) (ap (map flag) e)
 
 -- a record fills what is as long
 pub whole : (t vs : List ℕ) → length vs ≡ length t → sets t 0 vs ≡ vs

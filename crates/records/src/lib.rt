@@ -109,18 +109,21 @@ fn put_flags(packed: &mut [u8], at: usize, flags: &[bool])
     }
 }
 
-// An edge set as 64 times yes or no.
+// An edge set as 64 times yes or no. Most policies have no quiet edge.
 fn quiet_flags(m: u64) -> [bool; 64]
     ensures { λ r. ⌜ r ≡ quietFlags m ⌝ }
 {
     let mut flags = [false; 64];
+    if m == 0 {
+        return flags;
+    }
     for i in 0..64 {
         flags[i] = masks::has(m, i);
     }
     flags
 }
 
-// The record of a policy. Most policies have no quiet edge: the last 64 bytes are 0 already.
+// The record of a policy.
 fn record_of(p: Policy) -> [u8; 452]
     ensures { λ r. ⌜ r ≡ recordOf p ⌝ }
 {
@@ -132,9 +135,6 @@ fn record_of(p: Policy) -> [u8; 452]
     put_bytes(&mut packed, 4, &p.target);
     put_bytes(&mut packed, 68, &p.colour);
     put_flags(&mut packed, 132, &p.family);
-    if p.quiet == 0 {
-        return packed;
-    }
     let quiet = quiet_flags(p.quiet);
     put_flags(&mut packed, 388, &quiet);
     packed

@@ -1,7 +1,7 @@
 -- `records::quiet_flags` meets its contract: the first i edges are told. Assumes nothing.
 use Prim.Native.Nat.{_-_}
 use native.Mathlib.Omega.{arith}
-use mathlib.Core.Path.{refl}
+use mathlib.Core.Path.{refl, sym, ap}
 use mathlib.Core.Bool.{false}
 use Rattle.masks.specs.Masks.{has}
 use Rattle.records.specs.Records.{quietFlags}
@@ -14,6 +14,10 @@ Inv-loop m flags₀ i₀ flags i = Copied false (has m) 64 flags i
 
 abbrev μ-loop : tie.MeasureT-loop
 μ-loop m flags₀ i₀ flags i = 64 - i
+
+returns : tie.Need-returns Inv-loop μ-loop
+unfolding quietFlags has
+returns c = ap quietFlags (sym (c .if1 .taken))
 
 loop-holds : tie.Need-loop-holds Inv-loop μ-loop
 loop-holds c = copied-none _ _ _ _ refl
@@ -33,9 +37,9 @@ loop-less c = omega arith
 loop-again : tie.Need-loop-again Inv-loop μ-loop
 loop-again c = copied-more _ _ _ _ _ _ (omega arith) (c .has .ensures) (c .before .before .loop .inv)
 
-returns : tie.Need-returns Inv-loop μ-loop
+returns-2 : tie.Need-returns-2 Inv-loop μ-loop
 unfolding quietFlags
-returns c = copied-all _ _ _ _ _ (omega arith) (c .before .loop .inv)
+returns-2 c = copied-all _ _ _ _ _ (omega arith) (c .before .loop .inv)
 
 pub quiet-flags-spec : {M : Type 1} → statement M
-quiet-flags-spec = tie.close (tie.spec Inv-loop μ-loop loop-holds has-requires array-write-flags add-i loop-less loop-again returns)
+quiet-flags-spec = tie.close (tie.spec Inv-loop μ-loop returns loop-holds has-requires array-write-flags add-i loop-less loop-again returns-2)

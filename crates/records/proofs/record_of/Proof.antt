@@ -1,7 +1,7 @@
--- `records::record_of` meets its contract: four stores and three calls make the record, and a fourth call where an edge is quiet. Assumes nothing.
+-- `records::record_of` meets its contract: four stores and four calls make the record. Assumes nothing.
 use native.Mathlib.Omega.{arith}
 use mathlib.Core.Path.{refl}
-use Rattle.records.proofs.Packing.{Sized, stores-loud, stores-quiet}
+use Rattle.records.proofs.Packing.{Sized, stores}
 use borrow.Author.Needs.{needs}
 use Rattle.records.proofs.record_of.Statement.{statement}
 use Rattle.records.proofs.record_of.Tie as tie
@@ -40,13 +40,6 @@ slice-aggregate-put-flags c = search needs
 put-flags-requires : tie.Need-put-flags-requires
 put-flags-requires c κs = search needs
 
-returns : tie.Need-returns
-returns c =
-    let third = c .before .before in
-    let second = third .before .before .before .before .before .before in
-    let first = second .before .before .before .before .before .before in
-    stores-loud _ (sized (first .before .before .before .before .before)) _ _ _ _ refl refl (first .put-bytes .ensures) (second .put-bytes2 .ensures) (third .put-flags .ensures) refl (c .if1 .taken)
-
 quiet-flags-requires : tie.Need-quiet-flags-requires
 quiet-flags-requires c κs = search needs
 
@@ -59,14 +52,14 @@ slice-aggregate-put-flags-3 c = search needs
 put-flags-requires-2 : tie.Need-put-flags-requires-2
 put-flags-requires-2 c κs = search needs
 
-returns-2 : tie.Need-returns-2
-returns-2 c =
+returns : tie.Need-returns
+returns c =
     let fourth = c .before in
     let flags = fourth .before .before .before in
-    let third = flags .before .before .before in
+    let third = flags .before .before in
     let second = third .before .before .before .before .before .before in
     let first = second .before .before .before .before .before .before in
-    stores-quiet _ (sized (first .before .before .before .before .before)) _ _ _ _ refl refl (first .put-bytes .ensures) (second .put-bytes2 .ensures) (third .put-flags .ensures) (flags .quiet-flags .ensures) (fourth .put-flags2 .ensures)
+    stores _ (sized (first .before .before .before .before .before)) _ _ _ _ _ refl refl (first .put-bytes .ensures) (second .put-bytes2 .ensures) (third .put-flags .ensures) (flags .quiet-flags .ensures) (fourth .put-flags2 .ensures)
 
 pub record-of-spec : {M : Type 1} → statement M
 record-of-spec =
@@ -82,9 +75,8 @@ record-of-spec =
     put-bytes-requires-2
     slice-aggregate-put-flags
     put-flags-requires
-    returns
     quiet-flags-requires
     slice-aggregate-put-flags-2
     slice-aggregate-put-flags-3
     put-flags-requires-2
-    returns-2)
+    returns)
