@@ -69,6 +69,7 @@ pub fn translate(
     }
     translate_legal(
         policy::shape_of(p),
+        p.quiet,
         &p.target,
         &p.colour,
         &p.family,
@@ -87,6 +88,7 @@ pub fn translate(
 // for it, and the contract speaks of the policy that they make. With the seven tables these are eleven parameters.
 pub fn translate_legal<'a>(
     shape: Shape,
+    quiet: u64,
     heads: &'a [u8; 64],
     colours: &'a [u8; 64],
     family: &'a [bool; 256],
@@ -99,11 +101,11 @@ pub fn translate_legal<'a>(
     priorities: &mut [u8],
 ) -> Translation
     ghost { Policy }
-    requires policy { λ p. ⌜ fromParts shape (now heads) (now colours) (now family) ≡ p ⌝ }
+    requires policy { λ p. ⌜ fromParts shape quiet (now heads) (now colours) (now family) ≡ p ⌝ }
     requires lawful { λ p. ⌜ legal p ≡ true ⌝ }
     ensures { λ p r. ⌜ Translates p (tables (now (masks .entry)) (now (parents .entry)) (now («node_priorities» .entry)) (now (sources .entry)) (now (leaves .entry)) (now (targets .entry)) (now (priorities .entry))) r (tables (now (masks .exit)) (now (parents .exit)) (now («node_priorities» .exit)) (now (sources .exit)) (now (leaves .exit)) (now (targets .exit)) (now (priorities .exit))) ⌝ }
 {
-    let p = policy::from_parts(shape, heads, colours, family);
+    let p = policy::from_parts(shape, quiet, heads, colours, family);
     if !has_fitting_lengths(
         p.letters,
         masks.len(),

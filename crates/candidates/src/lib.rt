@@ -62,6 +62,7 @@ fn append(cycles: &mut [u64; 16], n: usize, x: u64) -> usize
 // into them, and takes the parts of the policy, which would be copied.
 fn fill_cycles(
     shape: Shape,
+    quiet: u64,
     heads: &[u8; 64],
     colours: &[u8; 64],
     family: &[bool; 256],
@@ -70,11 +71,11 @@ fn fill_cycles(
     cycles: &mut [u64; 16],
 ) -> Cycles
     ghost { Policy }
-    requires { λ p. ⌜ fromParts shape (now heads) (now colours) (now family) ≡ p ⌝ }
+    requires { λ p. ⌜ fromParts shape quiet (now heads) (now colours) (now family) ≡ p ⌝ }
     requires { λ p. ⌜ (legal p ≡ true) × (length (now rows) ≡ 16) × (length (now cycles) ≡ 16) ⌝ }
     ensures { λ p r. ⌜ Found p m (now (cycles .entry)) (now (cycles .exit)) (r .count) (r .edges) × (length (now (rows .exit)) ≡ 16) ⌝ }
 {
-    let p = policy::from_parts(shape, heads, colours, family);
+    let p = policy::from_parts(shape, quiet, heads, colours, family);
     graph::reach_all(p, heads, m, rows);
     let states = p.states as usize;
     let mut seen: u64 = 0;
@@ -188,7 +189,7 @@ fn list_set(
         let m = masks::both(policy::edges_in(by, c), cyclic);
         let shape = policy::shape_of(p);
         let colours = p.colour;
-        let found = fill_cycles(shape, heads, &colours, family, m, rows, cycles);
+        let found = fill_cycles(shape, p.quiet, heads, &colours, family, m, rows, cycles);
         return append_judged(
             by,
             c,
@@ -235,7 +236,16 @@ pub fn fill_candidates(
     let mut cycles = [0u64; 16];
     let shape = policy::shape_of(p);
     let colours = p.colour;
-    let rooted = fill_cycles(shape, heads, &colours, family, all, &mut rows, roots);
+    let rooted = fill_cycles(
+        shape,
+        p.quiet,
+        heads,
+        &colours,
+        family,
+        all,
+        &mut rows,
+        roots,
+    );
     let cyclic = rooted.edges;
     let table = *by;
     let used = policy::colours_in(&table, cyclic);

@@ -25,6 +25,7 @@ fn most_candidates(p: Policy) -> usize
 // With scratch that is enough. There are many parameters, here and below: the parts of the policy, the scratch, the tables.
 fn fill_with(
     shape: Shape,
+    quiet: u64,
     heads: &[u8; 64],
     colours: &[u8; 64],
     by: &[u64; 9],
@@ -36,13 +37,13 @@ fn fill_with(
     parents: &mut [u16],
 ) -> usize
     ghost { Policy }
-    requires policy { λ p. ⌜ fromParts shape (now heads) (now colours) (now family) ≡ p ⌝ }
+    requires policy { λ p. ⌜ fromParts shape quiet (now heads) (now colours) (now family) ≡ p ⌝ }
     requires lawful { λ p. ⌜ (legal p ≡ true) × (now by ≡ byColour p) ⌝ }
     requires tables { λ _. ⌜ length (now parents) ≡ length (now masks) ⌝ }
     requires space { λ p. ⌜ CandidateScratch p (mostCandidates p) (now accepting) (now rejecting) (now scratch) ⌝ }
     ensures { λ p r. ⌜ ForestWritten p (now (masks .entry)) (now (parents .entry)) (now (masks .exit)) (now (parents .exit)) r ⌝ }
 {
-    let p = policy::from_parts(shape, heads, colours, family);
+    let p = policy::from_parts(shape, quiet, heads, colours, family);
     let mut roots = [0u64; 16];
     let listed = candidates::fill_candidates(
         p,
@@ -73,6 +74,7 @@ fn fill_with(
 // it; that this function calls itself keeps the compiler from laying out the scratch of the larger policies for every one.
 fn fill_within(
     shape: Shape,
+    quiet: u64,
     heads: &[u8; 64],
     colours: &[u8; 64],
     by: &[u64; 9],
@@ -84,17 +86,18 @@ fn fill_within(
     parents: &mut [u16],
 ) -> usize
     ghost { Policy }
-    requires policy { λ p. ⌜ fromParts shape (now heads) (now colours) (now family) ≡ p ⌝ }
+    requires policy { λ p. ⌜ fromParts shape quiet (now heads) (now colours) (now family) ≡ p ⌝ }
     requires lawful { λ p. ⌜ (legal p ≡ true) × (now by ≡ byColour p) ⌝ }
     requires tables { λ _. ⌜ length (now parents) ≡ length (now masks) ⌝ }
     requires space { λ p. ⌜ CandidateScratch p (length (now accepting)) (now accepting) (now rejecting) (now scratch) ⌝ }
     ensures { λ p r. ⌜ ForestWritten p (now (masks .entry)) (now (parents .entry)) (now (masks .exit)) (now (parents .exit)) r ⌝ }
 {
-    let p = policy::from_parts(shape, heads, colours, family);
+    let p = policy::from_parts(shape, quiet, heads, colours, family);
     let most = most_candidates(p);
     if most <= accepting.len() {
         return fill_with(
             shape,
+            quiet,
             heads,
             colours,
             by,
@@ -112,6 +115,7 @@ fn fill_within(
         let mut more_scratch = [0u16; 2816];
         return fill_within(
             shape,
+            quiet,
             heads,
             colours,
             by,
@@ -123,12 +127,13 @@ fn fill_within(
             parents,
         );
     }
-    fill_large(shape, heads, colours, by, family, masks, parents)
+    fill_large(shape, quiet, heads, colours, by, family, masks, parents)
 }
 
 // With scratch for any policy.
 fn fill_large(
     shape: Shape,
+    quiet: u64,
     heads: &[u8; 64],
     colours: &[u8; 64],
     by: &[u64; 9],
@@ -137,7 +142,7 @@ fn fill_large(
     parents: &mut [u16],
 ) -> usize
     ghost { Policy }
-    requires policy { λ p. ⌜ fromParts shape (now heads) (now colours) (now family) ≡ p ⌝ }
+    requires policy { λ p. ⌜ fromParts shape quiet (now heads) (now colours) (now family) ≡ p ⌝ }
     requires lawful { λ p. ⌜ (legal p ≡ true) × (now by ≡ byColour p) ⌝ }
     requires tables { λ _. ⌜ length (now parents) ≡ length (now masks) ⌝ }
     ensures { λ p r. ⌜ ForestWritten p (now (masks .entry)) (now (parents .entry)) (now (masks .exit)) (now (parents .exit)) r ⌝ }
@@ -147,6 +152,7 @@ fn fill_large(
     let mut scratch = [0u16; 45056];
     fill_within(
         shape,
+        quiet,
         heads,
         colours,
         by,
@@ -182,6 +188,7 @@ pub fn fill_columns(
     if most_candidates(p) <= 32 {
         return fill_with(
             shape,
+            p.quiet,
             heads,
             colours,
             by,
@@ -195,6 +202,7 @@ pub fn fill_columns(
     }
     fill_within(
         shape,
+        p.quiet,
         heads,
         colours,
         by,

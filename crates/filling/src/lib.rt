@@ -41,6 +41,7 @@ pub fn clear_built(
 // The states and the rows, with a table for the nodes' ends that has a place for each node; and 0 past them. Where the states do not fit, every place is 0.
 fn fill_built(
     shape: Shape,
+    quiet: u64,
     heads: &[u8; 64],
     colours: &[u8; 64],
     family: &[bool; 256],
@@ -56,12 +57,12 @@ fn fill_built(
     priorities: &mut [u8],
 ) -> Building
     ghost { Policy }
-    requires policy { λ p. ⌜ fromParts shape (now heads) (now colours) (now family) ≡ p ⌝ }
+    requires policy { λ p. ⌜ fromParts shape quiet (now heads) (now colours) (now family) ≡ p ⌝ }
     requires nodes { λ p. ⌜ (legal p ≡ true) × Nodes p (now masks) (now parents) (now «node_priorities») × (count ≡ length (forest p)) × (transient ≡ transientPriority p) ⌝ }
     requires room { λ p. ⌜ Sized p (now sources) (now leaves) (now targets) (now priorities) × (count ≤ length (now ends)) ⌝ }
     ensures { λ p r. ⌜ Builds p (now (sources .entry)) (now (leaves .entry)) (now (targets .entry)) (now (priorities .entry)) r (now (sources .exit)) (now (leaves .exit)) (now (targets .exit)) (now (priorities .exit)) ⌝ }
 {
-    let p = policy::from_parts(shape, heads, colours, family);
+    let p = policy::from_parts(shape, quiet, heads, colours, family);
     ends::fill_ends(p, parents, count, ends);
     let mut starts = [0usize; 17];
     let counted = states::fill_states(p, masks, ends, count, sources, leaves, &mut starts);
@@ -91,6 +92,7 @@ fn fill_built(
 // the longest table out of its own frame, so that few nodes take little space.
 fn build_within(
     shape: Shape,
+    quiet: u64,
     heads: &[u8; 64],
     colours: &[u8; 64],
     family: &[bool; 256],
@@ -106,7 +108,7 @@ fn build_within(
     priorities: &mut [u8],
 ) -> Building
     ghost { Policy }
-    requires policy { λ p. ⌜ fromParts shape (now heads) (now colours) (now family) ≡ p ⌝ }
+    requires policy { λ p. ⌜ fromParts shape quiet (now heads) (now colours) (now family) ≡ p ⌝ }
     requires nodes { λ p. ⌜ (legal p ≡ true) × Nodes p (now masks) (now parents) (now «node_priorities») × (count ≡ length (forest p)) × (transient ≡ transientPriority p) ⌝ }
     requires room { λ p. ⌜ Sized p (now sources) (now leaves) (now targets) (now priorities) ⌝ }
     ensures { λ p r. ⌜ Builds p (now (sources .entry)) (now (leaves .entry)) (now (targets .entry)) (now (priorities .entry)) r (now (sources .exit)) (now (leaves .exit)) (now (targets .exit)) (now (priorities .exit)) ⌝ }
@@ -114,6 +116,7 @@ fn build_within(
     if count <= ends.len() {
         return fill_built(
             shape,
+            quiet,
             heads,
             colours,
             family,
@@ -133,6 +136,7 @@ fn build_within(
         let mut more = [0u16; 2048];
         return build_within(
             shape,
+            quiet,
             heads,
             colours,
             family,
@@ -150,6 +154,7 @@ fn build_within(
     }
     build_large(
         shape,
+        quiet,
         heads,
         colours,
         family,
@@ -168,6 +173,7 @@ fn build_within(
 // The same with a table for as many nodes as there can be.
 fn build_large(
     shape: Shape,
+    quiet: u64,
     heads: &[u8; 64],
     colours: &[u8; 64],
     family: &[bool; 256],
@@ -182,7 +188,7 @@ fn build_large(
     priorities: &mut [u8],
 ) -> Building
     ghost { Policy }
-    requires policy { λ p. ⌜ fromParts shape (now heads) (now colours) (now family) ≡ p ⌝ }
+    requires policy { λ p. ⌜ fromParts shape quiet (now heads) (now colours) (now family) ≡ p ⌝ }
     requires nodes { λ p. ⌜ (legal p ≡ true) × Nodes p (now masks) (now parents) (now «node_priorities») × (count ≡ length (forest p)) × (transient ≡ transientPriority p) ⌝ }
     requires room { λ p. ⌜ Sized p (now sources) (now leaves) (now targets) (now priorities) ⌝ }
     ensures { λ p r. ⌜ Builds p (now (sources .entry)) (now (leaves .entry)) (now (targets .entry)) (now (priorities .entry)) r (now (sources .exit)) (now (leaves .exit)) (now (targets .exit)) (now (priorities .exit)) ⌝ }
@@ -190,6 +196,7 @@ fn build_large(
     let mut ends = [0u16; 65535];
     build_within(
         shape,
+        quiet,
         heads,
         colours,
         family,
@@ -232,6 +239,7 @@ pub fn build<'a>(
     if count <= 64 {
         return fill_built(
             shape,
+            p.quiet,
             heads,
             colours,
             family,
@@ -249,6 +257,7 @@ pub fn build<'a>(
     }
     build_within(
         shape,
+        p.quiet,
         heads,
         colours,
         family,

@@ -48,7 +48,7 @@ module _ (d : Document) where
 
   -- no edge is quiet: one without marks has the colour of the empty mark set
   unfoldable pub policyOf : Policy
-  policyOf = fromParts (record { states = d .states; letters = letters d; colours = length markSets; initial = d .start; quiet = 0 }) (filled 64 (map targetOf edgesOf)) (filled 64 (map colourOf edgesOf)) (map named (below 256))
+  policyOf = fromParts (record { states = d .states; letters = letters d; colours = length markSets; initial = d .start }) 0 (filled 64 (map targetOf edgesOf)) (filled 64 (map colourOf edgesOf)) (map named (below 256))
 
   -- ---- its own runs: a letter takes the edge of the state and the valuation, and meets the edge's marks; another letter is refused
   unfoldable pub edgeAt : ℕ → ℕ → Edge

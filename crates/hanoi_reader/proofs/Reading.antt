@@ -218,13 +218,13 @@ module _ (text : List ℕ) (r : Header) (k : ReadsHeader text r) where
                 family-is =
                     i .is head d bar head-sets (sym (read-head .runs) ∙ whole) formed-is ∙ map-same (namedBelow (d .formula) (g .sets) (2 ^ g .count)) (named d) named-is (below 256)
 
-                policy-is : fromParts (record { states = r .states; letters = count; colours = g .count; initial = r .start; quiet = 0 }) (b .target) (g .colour) family ≡ policyOf d
+                policy-is : fromParts (record { states = r .states; letters = count; colours = g .count; initial = r .start }) 0 (b .target) (g .colour) family ≡ policyOf d
                 unfolding policyOf
                 policy-is =
                     let a = sym d-states in let o = sym d-letters in
-                    (λ j. fromParts (record { states = a j; letters = o j; colours = count-is j; initial = d-start j; quiet = 0 }) (target-is j) (colour-is j) (family-is j))
+                    (λ j. fromParts (record { states = a j; letters = o j; colours = count-is j; initial = d-start j }) 0 (target-is j) (colour-is j) (family-is j))
 
-                pub read-is : record { outcome = Read; policy = fromParts (record { states = r .states; letters = count; colours = g .count; initial = r .start; quiet = 0 }) (b .target) (g .colour) family } ≡ hanoiOf text
+                pub read-is : record { outcome = Read; policy = fromParts (record { states = r .states; letters = count; colours = g .count; initial = r .start }) 0 (b .target) (g .colour) family } ≡ hanoiOf text
                 unfolding answerOf
                 read-is =
                     ap (λ (p : Policy). record { outcome = Read; policy = p }) policy-is ∙

@@ -32,8 +32,8 @@ pub record Sound (p : Policy) (given : ℕ) : Type 0 where
   pub in-family : (s : ℕ) → inFamily p s ≡ true → s < 2 ^ p .colours
 
 -- ---- from parts
-pub parts-are : (p : Policy) {s : Shape} {h k : List ℕ} {f : List Bool} → s ≡ shapeOf p → h ≡ p .target → k ≡ p .colour → f ≡ p .family → fromParts s h k f ≡ p
-parts-are p a b c d = λ i. fromParts (a i) (b i) (c i) (d i)
+pub parts-are : (p : Policy) {s : Shape} {h k : List ℕ} {f : List Bool} → s ≡ shapeOf p → h ≡ p .target → k ≡ p .colour → f ≡ p .family → fromParts s (p .quiet) h k f ≡ p
+parts-are p a b c d = λ i. fromParts (a i) (p .quiet) (b i) (c i) (d i)
 
 -- ---- from the counts
 pub sound-counted : (v a k i : ℕ) → countsFit v a k i ≡ true → Sound (counted v a k i) 0

@@ -22,11 +22,11 @@ counted states letters colours initial = record {
 
 -- the shape of p
 abbrev pub shapeOf : Policy → Shape
-shapeOf p = record { states = p .states; letters = p .letters; colours = p .colours; initial = p .initial; quiet = p .quiet }
+shapeOf p = record { states = p .states; letters = p .letters; colours = p .colours; initial = p .initial }
 
--- the policy of a shape, with these targets and colours of its edges, and this family
-abbrev pub fromParts : Shape → List ℕ → List ℕ → List Bool → Policy
-fromParts s target colour family = record {
+-- the policy of a shape, with these quiet edges, these targets and colours of its edges, and this family
+abbrev pub fromParts : Shape → ℕ → List ℕ → List ℕ → List Bool → Policy
+fromParts s quiet target colour family = record {
   states = s .states;
   letters = s .letters;
   colours = s .colours;
@@ -34,7 +34,7 @@ fromParts s target colour family = record {
   target = target;
   colour = colour;
   family = family;
-  quiet = s .quiet;
+  quiet = quiet;
 }
 
 -- the all-zero policy
@@ -43,7 +43,7 @@ zeroPolicy = counted 0 0 0 0
 
 -- p with other targets and colours of its edges, and another family
 unfoldable pub withTables : Policy → List ℕ → List ℕ → List Bool → Policy
-withTables p target colour family = fromParts (shapeOf p) target colour family
+withTables p target colour family = fromParts (shapeOf p) (p .quiet) target colour family
 
 -- p with a target and a colour at edge e, which was not quiet
 unfoldable pub withEdge : Policy → ℕ → ℕ → ℕ → Policy
@@ -51,9 +51,7 @@ withEdge p e target colour = withTables p (set (p .target) e target) (set (p .co
 
 -- p with a target at edge e, which is quiet
 unfoldable pub withQuiet : Policy → ℕ → ℕ → Policy
-withQuiet p e target =
-    let s : Shape = record { states = p .states; letters = p .letters; colours = p .colours; initial = p .initial; quiet = insert (p .quiet) e } in
-    fromParts s (set (p .target) e target) (set (p .colour) e 0) (p .family)
+withQuiet p e target = fromParts (shapeOf p) (insert (p .quiet) e) (set (p .target) e target) (set (p .colour) e 0) (p .family)
 
 -- p with a colour set in its family
 unfoldable pub withSet : Policy → ℕ → Policy

@@ -20,13 +20,12 @@ pub struct Policy {
     pub quiet: u64,
 }
 
-// What of a policy is passed by value: its counts, the state begun in, and the quiet edges.
+// A policy's counts, and the state begun in.
 pub struct Shape {
     pub states: u8,
     pub letters: u8,
     pub colours: u8,
     pub initial: u8,
-    pub quiet: u64,
 }
 
 // How many edges there are.
@@ -123,19 +122,19 @@ pub fn shape_of(p: Policy) -> Shape
         letters: p.letters,
         colours: p.colours,
         initial: p.initial,
-        quiet: p.quiet,
     }
 }
 
-// The policy of a shape and arrays that are lent: the targets and the colours of its edges, and its family. A function that is not compiled into its caller takes these in
+// The policy of a shape, its quiet edges and arrays that are lent: the targets and the colours of its edges, and its family. A function that is not compiled into its caller takes these in
 // place of the policy, which would be copied.
 pub fn from_parts(
     shape: Shape,
+    quiet: u64,
     heads: &[u8; 64],
     colours: &[u8; 64],
     family: &[bool; 256],
 ) -> Policy
-    ensures { λ r. ⌜ r ≡ fromParts shape (now (heads .entry)) (now (colours .entry)) (now (family .entry)) ⌝ }
+    ensures { λ r. ⌜ r ≡ fromParts shape quiet (now (heads .entry)) (now (colours .entry)) (now (family .entry)) ⌝ }
 {
     Policy {
         states: shape.states,
@@ -145,7 +144,7 @@ pub fn from_parts(
         target: *heads,
         colour: *colours,
         family: *family,
-        quiet: shape.quiet,
+        quiet,
     }
 }
 

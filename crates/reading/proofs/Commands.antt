@@ -16,7 +16,7 @@ use Rattle.policy.specs.declared.Policy.{Policy}
 use Rattle.policy.specs.Policies.{edgeOf, legalCounts}
 use Rattle.policy.proofs.Laws.{counts}
 use Rattle.policy.specs.declared.Shape as policy-shape
-use Rattle.policy.specs.Making.{counted, fromParts, zeroPolicy, withEdge, withQuiet, withSet, withTables}
+use Rattle.policy.specs.Making.{counted, shapeOf, fromParts, zeroPolicy, withEdge, withQuiet, withSet, withTables}
 use Rattle.reading.specs.declared.Draft.{Draft}
 use Rattle.reading.specs.declared.Answer.{Answer}
 use Rattle.reading.specs.declared.Command.{Command}
@@ -142,11 +142,11 @@ module _ {d : Draft} {c : Command} {p : Policy} {given : ℕ} where
   -- the counts are put into a policy that is all zero
   pub taken-shape :
       {v a k i : ℕ} → c ≡ Shape v a k i → d .policy ≡ zeroPolicy →
-      p ≡ fromParts (record { states = v; letters = a; colours = k; initial = i; quiet = d .policy .quiet }) (d .policy .target) (d .policy .colour) (d .policy .family) → given ≡ 0 → Taken d c p given
+      p ≡ fromParts (record { states = v; letters = a; colours = k; initial = i }) (d .policy .quiet) (d .policy .target) (d .policy .colour) (d .policy .family) → given ≡ 0 → Taken d c p given
   unfolding draftAfter isEnd zeroPolicy counted
   taken-shape {v} {a} {k} {i} e z q g =
-      let shape : Policy → policy-shape.Shape = λ (x : Policy). record { states = v; letters = a; colours = k; initial = i; quiet = x .quiet } in
-      let made : p ≡ counted v a k i = q ∙ ap (λ (x : Policy). fromParts (shape x) (x .target) (x .colour) (x .family)) z in
+      let shape : policy-shape.Shape = record { states = v; letters = a; colours = k; initial = i } in
+      let made : p ≡ counted v a k i = q ∙ ap (λ (x : Policy). fromParts shape (x .quiet) (x .target) (x .colour) (x .family)) z in
       rw (e, made, g) (record { goes-on = refl; is = refl })
 
   pub taken-edge : {v a t k e : ℕ} → c ≡ Edge v a t k → e ≡ edgeOf (d .policy) v a → p ≡ withEdge (d .policy) e t k → given ≡ insert (d .given) e → Taken d c p given
@@ -155,7 +155,7 @@ module _ {d : Draft} {c : Command} {p : Policy} {given : ℕ} where
 
   pub taken-quiet :
       {v a t e m : ℕ} → c ≡ Quiet v a t → e ≡ edgeOf (d .policy) v a → m ≡ insert (d .policy .quiet) e →
-      p ≡ fromParts (record { states = d .policy .states; letters = d .policy .letters; colours = d .policy .colours; initial = d .policy .initial; quiet = m }) (set (d .policy .target) e t) (set (d .policy .colour) e 0) (d .policy .family) →
+      p ≡ fromParts (shapeOf (d .policy)) m (set (d .policy .target) e t) (set (d .policy .colour) e 0) (d .policy .family) →
       given ≡ insert (d .given) e → Taken d c p given
   unfolding draftAfter isEnd withQuiet
   taken-quiet e n k q g = rw (e, q, g, k, n) (record { goes-on = refl; is = refl })

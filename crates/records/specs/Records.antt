@@ -47,7 +47,7 @@ quietFlags m = map (has m) (below 64)
 -- the policy of a record's bytes
 unfoldable pub unpacked : List ℕ → Policy
 unpacked b =
-    fromParts (record { states = getD b 0 0; letters = getD b 1 0; colours = getD b 2 0; initial = getD b 3 0; quiet = quietAt b }) (bytesAt b 4 64) (bytesAt b 68 64) (flagsAt b 132 256)
+    fromParts (record { states = getD b 0 0; letters = getD b 1 0; colours = getD b 2 0; initial = getD b 3 0 }) (quietAt b) (bytesAt b 4 64) (bytesAt b 68 64) (flagsAt b 132 256)
 
 -- the policy of a record; of a list of another length the zero policy, which is not legal
 unfoldable pub policyOf : List ℕ → Policy

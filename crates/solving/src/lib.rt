@@ -126,6 +126,7 @@ pub fn solve(
     }
     solve_legal(
         policy::shape_of(p),
+        p.quiet,
         &p.target,
         &p.colour,
         &p.family,
@@ -146,6 +147,7 @@ pub fn solve(
 // builder::translate_legal.
 pub fn solve_legal<'a>(
     shape: Shape,
+    quiet: u64,
     heads: &'a [u8; 64],
     colours: &'a [u8; 64],
     family: &'a [bool; 256],
@@ -161,7 +163,7 @@ pub fn solve_legal<'a>(
     letters: &mut [u8],
 ) -> Translation
     ghost { Policy }
-    requires policy { λ p. ⌜ fromParts shape (now heads) (now colours) (now family) ≡ p ⌝ }
+    requires policy { λ p. ⌜ fromParts shape quiet (now heads) (now colours) (now family) ≡ p ⌝ }
     requires lawful { λ p. ⌜ legal p ≡ true ⌝ }
     ensures { λ p r. ⌜ Solves p (now (owners .entry)) (tables (now (masks .entry)) (now (parents .entry)) (now («node_priorities» .entry)) (now (sources .entry)) (now (leaves .entry)) (now (targets .entry)) (now (priorities .entry))) (now (winners .entry)) (now (letters .entry)) r (tables (now (masks .exit)) (now (parents .exit)) (now («node_priorities» .exit)) (now (sources .exit)) (now (leaves .exit)) (now (targets .exit)) (now (priorities .exit))) (now (winners .exit)) (now (letters .exit)) ⌝ }
 {
@@ -171,6 +173,7 @@ pub fn solve_legal<'a>(
     }
     let answer = builder::translate_legal(
         shape,
+        quiet,
         heads,
         colours,
         family,
@@ -183,7 +186,7 @@ pub fn solve_legal<'a>(
         priorities,
     );
     let number = decide(
-        policy::from_parts(shape, heads, colours, family),
+        policy::from_parts(shape, quiet, heads, colours, family),
         answer,
         owners,
         sources,

@@ -71,6 +71,7 @@ pub fn solve_bytes(
     }
     let t = solving::solve_legal(
         policy::shape_of(answer.policy),
+        answer.policy.quiet,
         &answer.policy.target,
         &answer.policy.colour,
         &answer.policy.family,

@@ -145,6 +145,7 @@ pub extern "C" fn wulfrenda_translate_bytes(
     }
     let t = builder::translate_legal(
         policy::shape_of(answer.policy),
+        answer.policy.quiet,
         &answer.policy.target,
         &answer.policy.colour,
         &answer.policy.family,

@@ -17,7 +17,7 @@ abbrev start : tie.Else1 → tie.Start
 start c = c .before .before .before .before .before .before .before .before .before
 
 -- the parts make the policy
-parts : (c : tie.After-shape-of) → fromParts (c .shape-of .result) (start (asked c) .args .t1 .target) (start (asked c) .args .t1 .colour) (start (asked c) .args .t1 .family) ≡ start (asked c) .args .t1
+parts : (c : tie.After-shape-of) → fromParts (c .shape-of .result) (start (asked c) .args .t1 .quiet) (start (asked c) .args .t1 .target) (start (asked c) .args .t1 .colour) (start (asked c) .args .t1 .family) ≡ start (asked c) .args .t1
 parts c = parts-are (start (asked c) .args .t1) (c .shape-of .ensures) refl refl refl
 
 is-legal-requires : tie.Need-is-legal-requires
@@ -38,25 +38,25 @@ translate-legal-requires c κs =
     ap legal (parts m) ∙ sym (l .ensures) ∙ unnot (l .result) (asked m .if1 .left)
 
 same-length : tie.Need-same-length
-same-length c = c .before .before .before .before .before .before .before .before .before .before .before .before .before .before .translate-legal .kept .1 .1 .1 .1 .0
+same-length c = c .before .before .before .before .before .before .before .before .before .before .before .before .before .before .translate-legal .kept .1 .1 .1 .1 .1 .0
 
 same-length-2 : tie.Need-same-length-2
-same-length-2 c = c .before .before .before .before .before .before .before .before .before .before .before .before .before .before .translate-legal .kept .1 .1 .1 .1 .1 .0
+same-length-2 c = c .before .before .before .before .before .before .before .before .before .before .before .before .before .before .translate-legal .kept .1 .1 .1 .1 .1 .1 .0
 
 same-length-3 : tie.Need-same-length-3
-same-length-3 c = c .before .before .before .before .before .before .before .before .before .before .before .before .before .before .translate-legal .kept .1 .1 .1 .1 .1 .1 .0
+same-length-3 c = c .before .before .before .before .before .before .before .before .before .before .before .before .before .before .translate-legal .kept .1 .1 .1 .1 .1 .1 .1 .0
 
 same-length-4 : tie.Need-same-length-4
-same-length-4 c = c .before .before .before .before .before .before .before .before .before .before .before .before .before .before .translate-legal .kept .1 .1 .1 .1 .1 .1 .1 .0
+same-length-4 c = c .before .before .before .before .before .before .before .before .before .before .before .before .before .before .translate-legal .kept .1 .1 .1 .1 .1 .1 .1 .1 .0
 
 same-length-5 : tie.Need-same-length-5
-same-length-5 c = c .before .before .before .before .before .before .before .before .before .before .before .before .before .before .translate-legal .kept .1 .1 .1 .1 .1 .1 .1 .1 .0
+same-length-5 c = c .before .before .before .before .before .before .before .before .before .before .before .before .before .before .translate-legal .kept .1 .1 .1 .1 .1 .1 .1 .1 .1 .0
 
 same-length-6 : tie.Need-same-length-6
-same-length-6 c = c .before .before .before .before .before .before .before .before .before .before .before .before .before .before .translate-legal .kept .1 .1 .1 .1 .1 .1 .1 .1 .1 .0
+same-length-6 c = c .before .before .before .before .before .before .before .before .before .before .before .before .before .before .translate-legal .kept .1 .1 .1 .1 .1 .1 .1 .1 .1 .1 .0
 
 same-length-7 : tie.Need-same-length-7
-same-length-7 c = c .before .before .before .before .before .before .before .before .before .before .before .before .before .before .translate-legal .kept .1 .1 .1 .1 .1 .1 .1 .1 .1 .1 .0
+same-length-7 c = c .before .before .before .before .before .before .before .before .before .before .before .before .before .before .translate-legal .kept .1 .1 .1 .1 .1 .1 .1 .1 .1 .1 .1 .0
 
 returns-2 : tie.Need-returns-2
 returns-2 c = same-policy (parts (c .before .before .before .before .before .before .before .before .before .before .before .before .before .before .before .before .before .before .before .before .before .before .before .before .before .before)) (c .before .before .before .before .before .before .before .before .before .before .before .before .before .before .translate-legal .ensures)

@@ -168,8 +168,8 @@ returns-3 c =
       c .before .before .clear8 .ensures ∙ zeros-same (n .fill-nodes .last .1 .1 .1 .1 .1 .1 .0) (s .args .node-priorities .now) (n .fill-nodes .kept .1 .1 .1 .1 .1 .1 .0),
     ) (b .build .ensures))
 
-cast-t64 : tie.Need-cast-t64
-cast-t64 c =
+cast-t65 : tie.Need-cast-t65
+cast-t65 c =
     let b = c .before .before .before .before .before .before .before .before .before .before .before in
     let n = filled b in
     let q = fitting n in
@@ -178,8 +178,8 @@ cast-t64 c =
     let f = nodes-fits (m .from-parts .result) (s .args .masks .now) (s .args .parents .now) (s .args .node-priorities .now) (n .fill-nodes .ensures .answer-is) (counted b .nodes .given .1) in
     omega (arith, f .1, nodes-few (m .from-parts .result) (s .args .masks .now) (f .0))
 
-cast-t65 : tie.Need-cast-t65
-cast-t65 c =
+cast-t66 : tie.Need-cast-t66
+cast-t66 c =
     let b = c .before .before .before .before .before .before .before .before .before .before .before in
     let m = made (fitting (filled b)) in
     let s = start m in
@@ -251,8 +251,8 @@ translate-legal-spec =
     same-length-13
     same-length-14
     returns-3
-    cast-t64
     cast-t65
+    cast-t66
     same-length-15
     same-length-16
     same-length-17

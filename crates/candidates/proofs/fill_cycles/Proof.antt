@@ -16,10 +16,10 @@ use Rattle.candidates.proofs.fill_cycles.Statement.{statement}
 use Rattle.candidates.proofs.fill_cycles.Tie as tie
 
 abbrev Inv-loop : tie.InvT-loop
-Inv-loop heads colours family m rows cycles₀ p states seen₀ n₀ v₀ cycles seen n v = (v ≤ states) × Finding p m cycles₀ cycles seen n v
+Inv-loop quiet heads colours family m rows cycles₀ p states seen₀ n₀ v₀ cycles seen n v = (v ≤ states) × Finding p m cycles₀ cycles seen n v
 
 abbrev μ-loop : tie.MeasureT-loop
-μ-loop heads colours family m rows cycles₀ p states seen₀ n₀ v₀ cycles seen n v = states - v
+μ-loop quiet heads colours family m rows cycles₀ p states seen₀ n₀ v₀ cycles seen n v = states - v
 
 from-parts-requires : tie.Need-from-parts-requires Inv-loop μ-loop
 from-parts-requires c κs = search needs

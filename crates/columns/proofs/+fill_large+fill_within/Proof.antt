@@ -27,7 +27,7 @@ abbrev μ-fill-large : Measures 6 fill-large-kinds.ps ℕ
 μ-fill-large κs a = 1
 
 abbrev μ-fill-within : Measures 9 fill-within-kinds.ps ℕ
-μ-fill-within κs a = 2 * (4096 - length (a .1 .1 .1 .1 .1 .0 .now))
+μ-fill-within κs a = 2 * (4096 - length (a .1 .1 .1 .1 .1 .1 .0 .now))
 
 abbrev fill-large-at : ℕ → In 6 fill-large-kinds.ps
 fill-large-at t =
@@ -67,7 +67,7 @@ fill-large-fill-within-requires : (t : ℕ) → fill-large-lts.Need-fill-within-
 fill-large-fill-within-requires t c κs =
     let s = c .before .before .before .before .before .before .before in
     let a = s .args in
-    let p = fromParts (a .shape) (a .heads .now) (a .colours .now) (a .family .now) in
+    let p = fromParts (a .shape) (a .quiet) (a .heads .now) (a .colours .now) (a .family .now) in
     (omega (arith, s .pre .0), (s .pre .1 .0, (s .pre .1 .1, space-of p (s .pre .1 .0 .0) 4096 refl refl refl)))
 
 fill-large-same-length : (t : ℕ) → fill-large-lts.Need-same-length (fill-large-claims t) (fill-large-at t) fill-large.Post
@@ -130,7 +130,7 @@ fill-within-fill-within-requires : (t : ℕ) → fill-within-lts.Need-fill-withi
 fill-within-fill-within-requires t c κs =
     let s = c .before .before .before .before .before .before .before .before .before .before .before .before .before .before in
     let a = s .args in
-    let p = fromParts (a .shape) (a .heads .now) (a .colours .now) (a .family .now) in
+    let p = fromParts (a .shape) (a .quiet) (a .heads .now) (a .colours .now) (a .family .now) in
     (omega (arith, s .pre .0, c .before .before .before .before .before .before .if1 .left, c .before .before .before .before .before .if2 .taken), (s .pre .1 .0, (s .pre .1 .1 .0, space-of p (s .pre .1 .0 .0) 256 refl refl refl)))
 
 fill-within-same-length-6 : (t : ℕ) → fill-within-lts.Need-same-length-6 (fill-within-claims t) (fill-within-at t) fill-within.Post
@@ -146,7 +146,7 @@ fill-within-fill-large-requires : (t : ℕ) → fill-within-lts.Need-fill-large-
 fill-within-fill-large-requires t c κs =
     let s = c .before .before .before .before .before .before .before .before .before .before .before in
     let a = s .args in
-    let p = fromParts (a .shape) (a .heads .now) (a .colours .now) (a .family .now) in
+    let p = fromParts (a .shape) (a .quiet) (a .heads .now) (a .colours .now) (a .family .now) in
     let most = c .before .before .before .before .most-candidates .ensures ∙ ap mostCandidates (c .before .before .before .before .before .from-parts .ensures) in
     (omega (arith, s .pre .0, c .before .before .before .if1 .left, most, most-few p (s .pre .1 .0 .0)), (s .pre .1 .0, s .pre .1 .1 .0))
 

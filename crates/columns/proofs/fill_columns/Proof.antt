@@ -11,7 +11,7 @@ use Rattle.columns.proofs.fill_columns.Statement.{statement}
 use Rattle.columns.proofs.fill_columns.Tie as tie
 
 -- the parts that are handed on make the policy
-made : (c : tie.After-shape-of) → let a = c .before .before .before .args in fromParts (c .shape-of .result) (a .heads .now) (a .colours .now) (a .family .now) ≡ a .p
+made : (c : tie.After-shape-of) → let a = c .before .before .before .args in fromParts (c .shape-of .result) (a .p .quiet) (a .heads .now) (a .colours .now) (a .family .now) ≡ a .p
 made c = let s = c .before .before .before .pre .1 .0 in parts-are (c .before .before .before .args .p) (c .shape-of .ensures) (s .0) (s .1) (s .3)
 
 shape-of-requires : tie.Need-shape-of-requires

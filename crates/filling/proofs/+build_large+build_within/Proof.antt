@@ -20,7 +20,7 @@ abbrev μ-build-large : Measures 10 build-large-kinds.ps ℕ
 μ-build-large κs a = 1
 
 abbrev μ-build-within : Measures 11 build-within-kinds.ps ℕ
-μ-build-within κs a = 2 * (65535 - length (a .1 .1 .1 .1 .1 .1 .1 .1 .0 .now))
+μ-build-within κs a = 2 * (65535 - length (a .1 .1 .1 .1 .1 .1 .1 .1 .1 .0 .now))
 
 abbrev build-large-at : ℕ → In 10 build-large-kinds.ps
 build-large-at t = and 10 build-large-kinds.ps (is 10 build-large-kinds.ps μ-build-large t) build-large.Pre
@@ -48,16 +48,16 @@ build-large-build-within-requires : (t : ℕ) → build-large-lts.Need-build-wit
 build-large-build-within-requires t c κs = let s = c .before .before .before .before .before .before .before .before .before .before .before .before in (omega (arith, s .pre .0), s .pre .1)
 
 build-large-same-length : (t : ℕ) → build-large-lts.Need-same-length (build-large-claims t) (build-large-at t) build-large.Post
-build-large-same-length t c = c .before .before .before .before .before .before .before .before .before .build-within .kept .1 .1 .1 .1 .1 .1 .1 .1 .1 .1 .0
+build-large-same-length t c = c .before .before .before .before .before .before .before .before .before .build-within .kept .1 .1 .1 .1 .1 .1 .1 .1 .1 .1 .1 .0
 
 build-large-same-length-2 : (t : ℕ) → build-large-lts.Need-same-length-2 (build-large-claims t) (build-large-at t) build-large.Post
-build-large-same-length-2 t c = c .before .before .before .before .before .before .before .before .before .build-within .kept .1 .1 .1 .1 .1 .1 .1 .1 .1 .1 .1 .0
+build-large-same-length-2 t c = c .before .before .before .before .before .before .before .before .before .build-within .kept .1 .1 .1 .1 .1 .1 .1 .1 .1 .1 .1 .1 .0
 
 build-large-same-length-3 : (t : ℕ) → build-large-lts.Need-same-length-3 (build-large-claims t) (build-large-at t) build-large.Post
-build-large-same-length-3 t c = c .before .before .before .before .before .before .before .before .before .build-within .kept .1 .1 .1 .1 .1 .1 .1 .1 .1 .1 .1 .1 .0
+build-large-same-length-3 t c = c .before .before .before .before .before .before .before .before .before .build-within .kept .1 .1 .1 .1 .1 .1 .1 .1 .1 .1 .1 .1 .1 .0
 
 build-large-same-length-4 : (t : ℕ) → build-large-lts.Need-same-length-4 (build-large-claims t) (build-large-at t) build-large.Post
-build-large-same-length-4 t c = c .before .before .before .before .before .before .before .before .before .build-within .kept .1 .1 .1 .1 .1 .1 .1 .1 .1 .1 .1 .1 .1 .0
+build-large-same-length-4 t c = c .before .before .before .before .before .before .before .before .before .build-within .kept .1 .1 .1 .1 .1 .1 .1 .1 .1 .1 .1 .1 .1 .1 .0
 
 build-large-returns : (t : ℕ) → build-large-lts.Need-returns (build-large-claims t) (build-large-at t) build-large.Post
 build-large-returns t c = c .before .before .before .before .before .before .before .before .before .build-within .ensures
@@ -66,19 +66,19 @@ build-within-fill-built-requires : (t : ℕ) → build-within-lts.Need-fill-buil
 build-within-fill-built-requires t c κs = let r = c .before .before .before .before .before .before .before .before .before .before .before .before .before .before .pre .1 in (r .0, (r .1, c .before .before .before .before .before .if1 .taken))
 
 build-within-same-length : (t : ℕ) → build-within-lts.Need-same-length (build-within-claims t) (build-within-at t) build-within.Post
-build-within-same-length t c = c .before .before .before .before .before .before .before .before .before .before .fill-built .kept .1 .1 .1 .1 .1 .1 .1 .1 .0
+build-within-same-length t c = c .before .before .before .before .before .before .before .before .before .before .fill-built .kept .1 .1 .1 .1 .1 .1 .1 .1 .1 .0
 
 build-within-same-length-2 : (t : ℕ) → build-within-lts.Need-same-length-2 (build-within-claims t) (build-within-at t) build-within.Post
-build-within-same-length-2 t c = c .before .before .before .before .before .before .before .before .before .before .fill-built .kept .1 .1 .1 .1 .1 .1 .1 .1 .1 .1 .0
+build-within-same-length-2 t c = c .before .before .before .before .before .before .before .before .before .before .fill-built .kept .1 .1 .1 .1 .1 .1 .1 .1 .1 .1 .1 .0
 
 build-within-same-length-3 : (t : ℕ) → build-within-lts.Need-same-length-3 (build-within-claims t) (build-within-at t) build-within.Post
-build-within-same-length-3 t c = c .before .before .before .before .before .before .before .before .before .before .fill-built .kept .1 .1 .1 .1 .1 .1 .1 .1 .1 .1 .1 .0
+build-within-same-length-3 t c = c .before .before .before .before .before .before .before .before .before .before .fill-built .kept .1 .1 .1 .1 .1 .1 .1 .1 .1 .1 .1 .1 .0
 
 build-within-same-length-4 : (t : ℕ) → build-within-lts.Need-same-length-4 (build-within-claims t) (build-within-at t) build-within.Post
-build-within-same-length-4 t c = c .before .before .before .before .before .before .before .before .before .before .fill-built .kept .1 .1 .1 .1 .1 .1 .1 .1 .1 .1 .1 .1 .0
+build-within-same-length-4 t c = c .before .before .before .before .before .before .before .before .before .before .fill-built .kept .1 .1 .1 .1 .1 .1 .1 .1 .1 .1 .1 .1 .1 .0
 
 build-within-same-length-5 : (t : ℕ) → build-within-lts.Need-same-length-5 (build-within-claims t) (build-within-at t) build-within.Post
-build-within-same-length-5 t c = c .before .before .before .before .before .before .before .before .before .before .fill-built .kept .1 .1 .1 .1 .1 .1 .1 .1 .1 .1 .1 .1 .1 .0
+build-within-same-length-5 t c = c .before .before .before .before .before .before .before .before .before .before .fill-built .kept .1 .1 .1 .1 .1 .1 .1 .1 .1 .1 .1 .1 .1 .1 .0
 
 build-within-returns : (t : ℕ) → build-within-lts.Need-returns (build-within-claims t) (build-within-at t) build-within.Post
 build-within-returns t c = c .before .before .before .before .before .before .before .before .before .before .fill-built .ensures
@@ -90,16 +90,16 @@ build-within-build-within-requires : (t : ℕ) → build-within-lts.Need-build-w
 build-within-build-within-requires t c κs = let s = c .before .before .before .before .before .before .before .before .before .before .before .before .before .before .before in (omega (arith, s .pre .0, c .before .before .before .before .before .before .if1 .left, c .before .before .before .before .before .if2 .taken), s .pre .1)
 
 build-within-same-length-6 : (t : ℕ) → build-within-lts.Need-same-length-6 (build-within-claims t) (build-within-at t) build-within.Post
-build-within-same-length-6 t c = c .before .before .before .before .before .before .before .before .before .build-within .kept .1 .1 .1 .1 .1 .1 .1 .1 .1 .1 .0
+build-within-same-length-6 t c = c .before .before .before .before .before .before .before .before .before .build-within .kept .1 .1 .1 .1 .1 .1 .1 .1 .1 .1 .1 .0
 
 build-within-same-length-7 : (t : ℕ) → build-within-lts.Need-same-length-7 (build-within-claims t) (build-within-at t) build-within.Post
-build-within-same-length-7 t c = c .before .before .before .before .before .before .before .before .before .build-within .kept .1 .1 .1 .1 .1 .1 .1 .1 .1 .1 .1 .0
+build-within-same-length-7 t c = c .before .before .before .before .before .before .before .before .before .build-within .kept .1 .1 .1 .1 .1 .1 .1 .1 .1 .1 .1 .1 .0
 
 build-within-same-length-8 : (t : ℕ) → build-within-lts.Need-same-length-8 (build-within-claims t) (build-within-at t) build-within.Post
-build-within-same-length-8 t c = c .before .before .before .before .before .before .before .before .before .build-within .kept .1 .1 .1 .1 .1 .1 .1 .1 .1 .1 .1 .1 .0
+build-within-same-length-8 t c = c .before .before .before .before .before .before .before .before .before .build-within .kept .1 .1 .1 .1 .1 .1 .1 .1 .1 .1 .1 .1 .1 .0
 
 build-within-same-length-9 : (t : ℕ) → build-within-lts.Need-same-length-9 (build-within-claims t) (build-within-at t) build-within.Post
-build-within-same-length-9 t c = c .before .before .before .before .before .before .before .before .before .build-within .kept .1 .1 .1 .1 .1 .1 .1 .1 .1 .1 .1 .1 .1 .0
+build-within-same-length-9 t c = c .before .before .before .before .before .before .before .before .before .build-within .kept .1 .1 .1 .1 .1 .1 .1 .1 .1 .1 .1 .1 .1 .1 .0
 
 build-within-returns-2 : (t : ℕ) → build-within-lts.Need-returns-2 (build-within-claims t) (build-within-at t) build-within.Post
 build-within-returns-2 t c = c .before .before .before .before .before .before .before .before .before .build-within .ensures
@@ -108,16 +108,16 @@ build-within-build-large-requires : (t : ℕ) → build-within-lts.Need-build-la
 build-within-build-large-requires t c κs = let s = c .before .before .before .before .before .before .before .before .before .before .before .before .before .before in (omega (arith, s .pre .0, c .before .before .before .before .before .if1 .left, s .pre .1 .0 .1 .few, s .pre .1 .0 .2), s .pre .1)
 
 build-within-same-length-10 : (t : ℕ) → build-within-lts.Need-same-length-10 (build-within-claims t) (build-within-at t) build-within.Post
-build-within-same-length-10 t c = c .before .before .before .before .before .before .before .before .build-large .kept .1 .1 .1 .1 .1 .1 .1 .1 .1 .0
+build-within-same-length-10 t c = c .before .before .before .before .before .before .before .before .build-large .kept .1 .1 .1 .1 .1 .1 .1 .1 .1 .1 .0
 
 build-within-same-length-11 : (t : ℕ) → build-within-lts.Need-same-length-11 (build-within-claims t) (build-within-at t) build-within.Post
-build-within-same-length-11 t c = c .before .before .before .before .before .before .before .before .build-large .kept .1 .1 .1 .1 .1 .1 .1 .1 .1 .1 .0
+build-within-same-length-11 t c = c .before .before .before .before .before .before .before .before .build-large .kept .1 .1 .1 .1 .1 .1 .1 .1 .1 .1 .1 .0
 
 build-within-same-length-12 : (t : ℕ) → build-within-lts.Need-same-length-12 (build-within-claims t) (build-within-at t) build-within.Post
-build-within-same-length-12 t c = c .before .before .before .before .before .before .before .before .build-large .kept .1 .1 .1 .1 .1 .1 .1 .1 .1 .1 .1 .0
+build-within-same-length-12 t c = c .before .before .before .before .before .before .before .before .build-large .kept .1 .1 .1 .1 .1 .1 .1 .1 .1 .1 .1 .1 .0
 
 build-within-same-length-13 : (t : ℕ) → build-within-lts.Need-same-length-13 (build-within-claims t) (build-within-at t) build-within.Post
-build-within-same-length-13 t c = c .before .before .before .before .before .before .before .before .build-large .kept .1 .1 .1 .1 .1 .1 .1 .1 .1 .1 .1 .1 .0
+build-within-same-length-13 t c = c .before .before .before .before .before .before .before .before .build-large .kept .1 .1 .1 .1 .1 .1 .1 .1 .1 .1 .1 .1 .1 .0
 
 build-within-returns-3 : (t : ℕ) → build-within-lts.Need-returns-3 (build-within-claims t) (build-within-at t) build-within.Post
 build-within-returns-3 t c = c .before .before .before .before .before .before .before .before .build-large .ensures

@@ -13,7 +13,7 @@ abbrev start : tie.After-shape-of → tie.Start
 start c = c .before .before .before .before .before .before .before .before
 
 -- the parts make the policy
-parts : (c : tie.After-shape-of) → fromParts (c .shape-of .result) (start c .args .heads .now) (start c .args .colours .now) (start c .args .family .now) ≡ start c .args .p
+parts : (c : tie.After-shape-of) → fromParts (c .shape-of .result) (start c .args .p .quiet) (start c .args .heads .now) (start c .args .colours .now) (start c .args .family .now) ≡ start c .args .p
 parts c = let l = start c .pre .0 in parts-are (start c .args .p) (c .shape-of .ensures) (l .0) (l .1) (l .2)
 
 shape-of-requires : tie.Need-shape-of-requires

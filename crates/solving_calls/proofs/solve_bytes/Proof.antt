@@ -36,7 +36,7 @@ abbrev solved : tie.After-unless-refused → tie.After-solve-legal
 solved c = c .before .before .before .before .before .before .before .before .before .before .before .before .before .before .before .before .before .before .before .before .before
 
 -- the policy read, which its parts make again
-parts : (c : tie.After-shape-of) → fromParts (c .shape-of .result) (read (asked (passed c)) .read .result .policy .target) (read (asked (passed c)) .read .result .policy .colour) (read (asked (passed c)) .read .result .policy .family) ≡ readingOf (start (read (asked (passed c))) .args .bytes .now) .policy
+parts : (c : tie.After-shape-of) → fromParts (c .shape-of .result) (read (asked (passed c)) .read .result .policy .quiet) (read (asked (passed c)) .read .result .policy .target) (read (asked (passed c)) .read .result .policy .colour) (read (asked (passed c)) .read .result .policy .family) ≡ readingOf (start (read (asked (passed c))) .args .bytes .now) .policy
 parts c = let r = read (asked (passed c)) in parts-are (r .read .result .policy) (c .shape-of .ensures) refl refl refl ∙ ap (λ (x : Answer). x .policy) (r .read .ensures .answer-is)
 
 -- the number and the offset of the reading
@@ -80,31 +80,31 @@ unless-refused-requires : tie.Need-unless-refused-requires
 unless-refused-requires c κs = search needs
 
 same-length : tie.Need-same-length
-same-length c = solved c .solve-legal .kept .1 .1 .1 .1 .1 .0
+same-length c = solved c .solve-legal .kept .1 .1 .1 .1 .1 .1 .0
 
 same-length-2 : tie.Need-same-length-2
-same-length-2 c = solved c .solve-legal .kept .1 .1 .1 .1 .1 .1 .0
+same-length-2 c = solved c .solve-legal .kept .1 .1 .1 .1 .1 .1 .1 .0
 
 same-length-3 : tie.Need-same-length-3
-same-length-3 c = solved c .solve-legal .kept .1 .1 .1 .1 .1 .1 .1 .0
+same-length-3 c = solved c .solve-legal .kept .1 .1 .1 .1 .1 .1 .1 .1 .0
 
 same-length-4 : tie.Need-same-length-4
-same-length-4 c = solved c .solve-legal .kept .1 .1 .1 .1 .1 .1 .1 .1 .0
+same-length-4 c = solved c .solve-legal .kept .1 .1 .1 .1 .1 .1 .1 .1 .1 .0
 
 same-length-5 : tie.Need-same-length-5
-same-length-5 c = solved c .solve-legal .kept .1 .1 .1 .1 .1 .1 .1 .1 .1 .0
+same-length-5 c = solved c .solve-legal .kept .1 .1 .1 .1 .1 .1 .1 .1 .1 .1 .0
 
 same-length-6 : tie.Need-same-length-6
-same-length-6 c = solved c .solve-legal .kept .1 .1 .1 .1 .1 .1 .1 .1 .1 .1 .0
+same-length-6 c = solved c .solve-legal .kept .1 .1 .1 .1 .1 .1 .1 .1 .1 .1 .1 .0
 
 same-length-7 : tie.Need-same-length-7
-same-length-7 c = solved c .solve-legal .kept .1 .1 .1 .1 .1 .1 .1 .1 .1 .1 .1 .0
+same-length-7 c = solved c .solve-legal .kept .1 .1 .1 .1 .1 .1 .1 .1 .1 .1 .1 .1 .0
 
 same-length-8 : tie.Need-same-length-8
-same-length-8 c = solved c .solve-legal .kept .1 .1 .1 .1 .1 .1 .1 .1 .1 .1 .1 .1 .0
+same-length-8 c = solved c .solve-legal .kept .1 .1 .1 .1 .1 .1 .1 .1 .1 .1 .1 .1 .1 .0
 
 same-length-9 : tie.Need-same-length-9
-same-length-9 c = solved c .solve-legal .kept .1 .1 .1 .1 .1 .1 .1 .1 .1 .1 .1 .1 .1 .0
+same-length-9 c = solved c .solve-legal .kept .1 .1 .1 .1 .1 .1 .1 .1 .1 .1 .1 .1 .1 .1 .0
 
 returns-2 : tie.Need-returns-2
 returns-2 c =

@@ -37,7 +37,7 @@ abbrev translated : tie.After-unless-refused → tie.After-translate-legal
 translated c = c .before .before .before .before .before .before .before .before .before .before .before .before .before .before .before .before .before
 
 -- the policy read, which its parts make again
-parts : (c : tie.After-shape-of) → fromParts (c .shape-of .result) (read (asked (passed c)) .read .result .policy .target) (read (asked (passed c)) .read .result .policy .colour) (read (asked (passed c)) .read .result .policy .family) ≡ readingOf (start (read (asked (passed c))) .args .bytes .now) .policy
+parts : (c : tie.After-shape-of) → fromParts (c .shape-of .result) (read (asked (passed c)) .read .result .policy .quiet) (read (asked (passed c)) .read .result .policy .target) (read (asked (passed c)) .read .result .policy .colour) (read (asked (passed c)) .read .result .policy .family) ≡ readingOf (start (read (asked (passed c))) .args .bytes .now) .policy
 parts c = let r = read (asked (passed c)) in parts-are (r .read .result .policy) (c .shape-of .ensures) refl refl refl ∙ ap (λ (x : Answer). x .policy) (r .read .ensures .answer-is)
 
 -- the number and the offset of the reading
@@ -82,25 +82,25 @@ unless-refused-requires : tie.Need-unless-refused-requires
 unless-refused-requires c κs = search needs
 
 same-length : tie.Need-same-length
-same-length c = translated c .translate-legal .kept .1 .1 .1 .1 .0
+same-length c = translated c .translate-legal .kept .1 .1 .1 .1 .1 .0
 
 same-length-2 : tie.Need-same-length-2
-same-length-2 c = translated c .translate-legal .kept .1 .1 .1 .1 .1 .0
+same-length-2 c = translated c .translate-legal .kept .1 .1 .1 .1 .1 .1 .0
 
 same-length-3 : tie.Need-same-length-3
-same-length-3 c = translated c .translate-legal .kept .1 .1 .1 .1 .1 .1 .0
+same-length-3 c = translated c .translate-legal .kept .1 .1 .1 .1 .1 .1 .1 .0
 
 same-length-4 : tie.Need-same-length-4
-same-length-4 c = translated c .translate-legal .kept .1 .1 .1 .1 .1 .1 .1 .0
+same-length-4 c = translated c .translate-legal .kept .1 .1 .1 .1 .1 .1 .1 .1 .0
 
 same-length-5 : tie.Need-same-length-5
-same-length-5 c = translated c .translate-legal .kept .1 .1 .1 .1 .1 .1 .1 .1 .0
+same-length-5 c = translated c .translate-legal .kept .1 .1 .1 .1 .1 .1 .1 .1 .1 .0
 
 same-length-6 : tie.Need-same-length-6
-same-length-6 c = translated c .translate-legal .kept .1 .1 .1 .1 .1 .1 .1 .1 .1 .0
+same-length-6 c = translated c .translate-legal .kept .1 .1 .1 .1 .1 .1 .1 .1 .1 .1 .0
 
 same-length-7 : tie.Need-same-length-7
-same-length-7 c = translated c .translate-legal .kept .1 .1 .1 .1 .1 .1 .1 .1 .1 .1 .0
+same-length-7 c = translated c .translate-legal .kept .1 .1 .1 .1 .1 .1 .1 .1 .1 .1 .1 .0
 
 returns-2 : tie.Need-returns-2
 returns-2 c =
