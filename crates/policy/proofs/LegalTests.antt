@@ -3,7 +3,7 @@ use Prim.Native.Nat.{ℕ, _+_, _^_, _≤_, _<_}
 use native.Mathlib.Omega.{arith}
 use mathlib.Core.Path.{_≡_, refl, sym, ap, ap₂, _∙_}
 use mathlib.Core.Logic.{_⊎_, inl, inr}
-use mathlib.Core.Bool.{Bool, true, false, not, _&&_, _||_, true≢false, or-true, or-false}
+use mathlib.Core.Bool.{Bool, true, false, not, _&&_, _||_, true≢false, or-true, or-false, and-comm}
 use lib.Dec.{eqb, ltb}
 use borrow.Author.Tests.{lt-ltb, le-ltb}
 use Rattle.lists.specs.Lists.{all, below}
@@ -69,14 +69,14 @@ module _ (p : Policy) where
   unfolding legalGraph
   graph-uncounted f = rw f
 
-  pub graph-counted : legalCounts p ≡ true → (a b : Bool) → a ≡ legalEdges p → b ≡ legalQuiet p → a && b ≡ legalGraph p
+  pub graph-counted : legalCounts p ≡ true → (a b : Bool) → a ≡ legalEdges p → b ≡ legalQuiet p → b && a ≡ legalGraph p
   unfolding legalGraph
-  graph-counted t a b q r = ap₂ _&&_ (q ∙ ap (λ (x : Bool). x && legalEdges p) (sym t)) r
+  graph-counted t a b q r = and-comm b a ∙ ap₂ _&&_ (q ∙ ap (λ (x : Bool). x && legalEdges p) (sym t)) r
 
   pub legal-uncounted : legalCounts p ≡ false → legal p ≡ false
   unfolding legal
   legal-uncounted f = ap (λ (x : Bool). x && legalFamily p) (graph-uncounted f)
 
-  pub legal-counted : legalCounts p ≡ true → (a b c : Bool) → a ≡ legalEdges p → b ≡ legalQuiet p → c ≡ legalFamily p → a && b && c ≡ legal p
+  pub legal-counted : legalCounts p ≡ true → (a b c : Bool) → a ≡ legalEdges p → b ≡ legalQuiet p → c ≡ legalFamily p → b && a && c ≡ legal p
   unfolding legal
   legal-counted t a b c q r s = ap₂ _&&_ (graph-counted t a b q r) s

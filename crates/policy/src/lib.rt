@@ -223,7 +223,7 @@ pub fn is_legal_graph(p: Policy) -> bool
     ensures { λ r. ⌜ r ≡ legalGraph p ⌝ }
 {
     if has_legal_counts(p) {
-        return has_legal_edges(p) & has_legal_quiet(p);
+        return has_legal_quiet(p) & has_legal_edges(p);
     }
     false
 }
@@ -233,7 +233,7 @@ pub fn is_legal(p: Policy) -> bool
     ensures { λ r. ⌜ r ≡ legal p ⌝ }
 {
     if has_legal_counts(p) {
-        return has_legal_edges(p) & has_legal_quiet(p) & has_legal_family(p);
+        return has_legal_quiet(p) & has_legal_edges(p) & has_legal_family(p);
     }
     false
 }

@@ -69,6 +69,7 @@ pub fn policy_of(packed: &[u8]) -> Policy
     if packed.len() != LENGTH {
         return policy::counted(0, 0, 0, 0);
     }
+    let quiet = quiet_at(packed);
     Policy {
         states: packed[0],
         letters: packed[1],
@@ -77,7 +78,7 @@ pub fn policy_of(packed: &[u8]) -> Policy
         target: bytes_at(packed, 4),
         colour: bytes_at(packed, 68),
         family: flags_at(packed),
-        quiet: quiet_at(packed),
+        quiet,
     }
 }
 

@@ -13,17 +13,20 @@ counted-requires c κs = search needs
 returns : tie.Need-returns
 returns c = c .counted .ensures ∙ zero-counted ∙ sym (policy-of-other _ (c .before .if1 .taken))
 
-shared-slice-read-t5 : tie.Need-shared-slice-read-t5
-shared-slice-read-t5 c = search needs
+quiet-at-requires : tie.Need-quiet-at-requires
+quiet-at-requires c κs = search needs
 
-shared-slice-read-t7 : tie.Need-shared-slice-read-t7
-shared-slice-read-t7 c = search needs
+shared-slice-read-t6 : tie.Need-shared-slice-read-t6
+shared-slice-read-t6 c = search needs
 
-shared-slice-read-t9 : tie.Need-shared-slice-read-t9
-shared-slice-read-t9 c = search needs
+shared-slice-read-t8 : tie.Need-shared-slice-read-t8
+shared-slice-read-t8 c = search needs
 
-shared-slice-read-t11 : tie.Need-shared-slice-read-t11
-shared-slice-read-t11 c = search needs
+shared-slice-read-t10 : tie.Need-shared-slice-read-t10
+shared-slice-read-t10 c = search needs
+
+shared-slice-read-t12 : tie.Need-shared-slice-read-t12
+shared-slice-read-t12 c = search needs
 
 bytes-at-requires : tie.Need-bytes-at-requires
 bytes-at-requires c κs = search needs
@@ -34,16 +37,13 @@ bytes-at-requires-2 c κs = search needs
 flags-at-requires : tie.Need-flags-at-requires
 flags-at-requires c κs = search needs
 
-quiet-at-requires : tie.Need-quiet-at-requires
-quiet-at-requires c κs = search needs
-
 returns-2 : tie.Need-returns-2
 unfolding unpacked
 returns-2 c =
-    let target = c .before .before .before .bytes-at .ensures in
-    let colour = c .before .before .bytes-at2 .ensures in
-    let family = c .before .flags-at .ensures in
-    let quiet = c .quiet-at .ensures in
+    let target = c .before .before .bytes-at .ensures in
+    let colour = c .before .bytes-at2 .ensures in
+    let family = c .flags-at .ensures in
+    let quiet = c .before .before .before .before .before .before .before .quiet-at .ensures in
     rw (policy-of _ (c .before .before .before .before .before .before .before .before .if1 .left), target, colour, family, quiet)
 
 pub policy-of-spec : {M : Type 1} → statement M
@@ -52,12 +52,12 @@ policy-of-spec =
     (tie.spec
     counted-requires
     returns
-    shared-slice-read-t5
-    shared-slice-read-t7
-    shared-slice-read-t9
-    shared-slice-read-t11
+    quiet-at-requires
+    shared-slice-read-t6
+    shared-slice-read-t8
+    shared-slice-read-t10
+    shared-slice-read-t12
     bytes-at-requires
     bytes-at-requires-2
     flags-at-requires
-    quiet-at-requires
     returns-2)
