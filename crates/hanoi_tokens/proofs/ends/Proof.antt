@@ -5,27 +5,21 @@ use Rattle.hanoi_tokens.proofs.ends.Tie as tie
 use Rattle.hanoi_tokens.proofs.ends.Reads as reads
 use Rattle.hanoi_tokens.proofs.ends.Lts as lts
 
--- src/lib.rt:182:29
 enum-told : tie.Need-enum-told
 enum-told c = search needs
 
--- src/lib.rt:183:29
 enum-told-2 : tie.Need-enum-told-2
 enum-told-2 c = search needs
 
--- src/lib.rt:184:25
 enum-known-wanted : tie.Need-enum-known-wanted
 enum-known-wanted c = search needs
 
--- src/lib.rt:178:1
 returns : tie.Need-returns
 returns c = search needs
 
--- src/lib.rt:178:1
 returns-2 : tie.Need-returns-2
 returns-2 c = search needs
 
--- src/lib.rt:178:1
 returns-3 : tie.Need-returns-3
 returns-3 c = rw (c .before .wanted .given .1) refl
 

@@ -9,43 +9,33 @@ use Rattle.hanoi_tokens.proofs.takes.Reads as reads
 use Rattle.hanoi_tokens.proofs.takes.Lts as lts
 use Rattle.hanoi_tokens.proofs.is_prefix.Reads as is-prefix-reads
 
--- src/lib.rt:166:23
 enum-known-wanted : tie.Need-enum-known-wanted
 enum-known-wanted c = search needs
 
--- src/lib.rt:166:33
 cast-result : tie.Need-cast-result
 cast-result c = search needs
 
--- src/lib.rt:167:30
 enum-told : tie.Need-enum-told
 enum-told c = search needs
 
--- src/lib.rt:168:25
 enum-known-wanted-2 : tie.Need-enum-known-wanted-2
 enum-known-wanted-2 c = search needs
 
--- src/lib.rt:170:17
 returns : tie.Need-returns
 returns c = rw (c .before .before .wanted2 .given .1, lt-no _ _ (c .if1 .taken)) refl
 
--- src/lib.rt:172:23
 cast-is-prefix : tie.Need-cast-is-prefix
 cast-is-prefix c = search needs
 
--- src/lib.rt:172:13
 is-prefix-requires : tie.Need-is-prefix-requires
 is-prefix-requires c κs = (omega (arith, c .if1 .left), subst Within (c .before .before .wanted2 .given .1) (c .before .before .before .before .pre))
 
--- src/lib.rt:161:1
 returns-2 : tie.Need-returns-2
 returns-2 c = rw (c .before .wanted .given .1) refl
 
--- src/lib.rt:161:1
 returns-3 : tie.Need-returns-3
 returns-3 c = rw (c .enum-told .given .1) refl
 
--- src/lib.rt:161:1
 returns-4 : tie.Need-returns-4
 returns-4 c = rw (c .before .before .before .wanted2 .given .1, lt-yes (c .before .before .before .before .before .args .n) 2147483648 (omega (arith, c .before .if1 .left))) (c .is-prefix .ensures)
 

@@ -18,44 +18,34 @@ Inv-loop p b₀ e₀ b e = (e ≤ 64) × (b ≡ inside (p .quiet) (full p) && al
 abbrev μ-loop : tie.MeasureT-loop
 μ-loop p b₀ e₀ b e = 64 - e
 
--- src/lib.rt:196:9
 returns : tie.Need-returns Inv-loop μ-loop
 returns c = legal-quiet-none (c .before .args .t1) (c .if1 .taken)
 
--- src/lib.rt:198:52
 edges-requires : tie.Need-edges-requires Inv-loop μ-loop
 edges-requires c κs = search needs
 
--- src/lib.rt:198:40
 full-requires : tie.Need-full-requires Inv-loop μ-loop
 full-requires c κs = omega (arith, c .edges .ensures, c .before .before .pre)
 
--- src/lib.rt:198:9
 inside-requires : tie.Need-inside-requires Inv-loop μ-loop
 inside-requires c κs = search needs
 
--- src/lib.rt:199:5
 loop-holds : tie.Need-loop-holds Inv-loop μ-loop
 unfolding full
 loop-holds c = (omega arith, cc (c .inside .ensures, c .before .full .ensures, c .before .before .edges .ensures, and-true (c .inside .result)))
 
--- src/lib.rt:200:19
 has-requires : tie.Need-has-requires Inv-loop μ-loop
 has-requires c κs = omega arith
 
--- src/lib.rt:200:45
 element-copy-out-b : tie.Need-element-copy-out-b Inv-loop μ-loop
 element-copy-out-b c = omega arith
 
--- src/lib.rt:199:9
 add-e : tie.Need-add-e Inv-loop μ-loop
 add-e c = omega arith
 
--- src/lib.rt:199:5
 loop-less : tie.Need-loop-less Inv-loop μ-loop
 loop-less c = omega arith
 
--- src/lib.rt:199:5
 loop-again : tie.Need-loop-again Inv-loop μ-loop
 unfolding isQuiet colourOf
 loop-again c =
@@ -63,7 +53,6 @@ loop-again c =
     let p = d .before .before .before .before .before .args .t1 in
     (omega arith, quiet-turn p (inside (p .quiet) (full p)) (d .loop .e) _ _ _ (d .loop .inv .1) (c .before .has .ensures) refl)
 
--- src/lib.rt:191:1
 returns-2 : tie.Need-returns-2 Inv-loop μ-loop
 unfolding legalQuiet
 returns-2 c = cc (le-antisymm (c .before .loop .inv .0) (c .loop-test .left))

@@ -5,7 +5,6 @@ use Rattle.recursion.proofs.is_odd.Tie as tie
 use Rattle.recursion.proofs.is_odd.Reads as reads
 use Rattle.recursion.proofs.is_odd.Lts as lts
 
--- src/lib.rt:24:1
 returns : tie.Need-returns
 unfolding serves
 returns c = search needs
