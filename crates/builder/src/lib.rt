@@ -84,8 +84,9 @@ pub fn translate(
 }
 
 // The same for a legal policy, without asking question 7. Inner layer: for callers that know the policy to be legal.
-// Two functions call it, so it is not compiled into them, and a policy would be copied: its shape and its arrays stand
-// for it, and the contract speaks of the policy that they make. With the seven tables these are eleven parameters.
+// Two functions call it, so it is not compiled into them, and a policy would be copied: its shape, its quiet edges and
+// its arrays stand for it, and the contract speaks of the policy that they make. With the seven tables these are twelve
+// parameters.
 pub fn translate_legal<'a>(
     shape: Shape,
     quiet: u64,

@@ -1,6 +1,6 @@
 // The columns of masks and parents: the candidates are listed, and the trees of the forest grown, with scratch of the size that a policy needs. Beside a policy stand
-// its arrays, lent: `heads` are the targets of its edges, `colours` their colours; `by` has the edges of each colour. Where a policy would be copied, its shape and its arrays
-// stand for it.
+// its arrays, lent: `heads` are the targets of its edges, `colours` their colours; `by` has the edges of each colour. Where a policy would be copied, its shape, its quiet
+// edges and its arrays stand for it.
 ghost use mathlib.Core.Path.{_≡_};
 ghost use mathlib.Core.Bool.{true};
 ghost use lib.ListN.{length};

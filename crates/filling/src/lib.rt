@@ -1,7 +1,7 @@
 // The automaton's tables from the node tables: the ends of the nodes, the built states and their rows. Inner layer: the policy is legal, the node tables are its
 // forest's, `transient` is the lowest priority of a node, and the tables have lengths that belong together.
 // Beside a policy stand its arrays, lent: `heads` are the targets of its edges, `colours` their colours.
-// Where a policy would be copied, its shape and its arrays stand for it, and the contract speaks of the policy that they make.
+// Where a policy would be copied, its shape, its quiet edges and its arrays stand for it, and the contract speaks of the policy that they make.
 // Each stage reads and writes tables of the caller, so the functions have more than eight parameters.
 use policy::Policy;
 use policy::Shape;

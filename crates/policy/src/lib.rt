@@ -125,8 +125,8 @@ pub fn shape_of(p: Policy) -> Shape
     }
 }
 
-// The policy of a shape, its quiet edges and arrays that are lent: the targets and the colours of its edges, and its family. A function that is not compiled into its caller takes these in
-// place of the policy, which would be copied.
+// The policy of a shape, its quiet edges and arrays that are lent: the targets and the colours of its edges, and its family. A function that is not compiled into its
+// caller takes these in place of the policy, which would be copied.
 pub fn from_parts(
     shape: Shape,
     quiet: u64,

@@ -143,8 +143,8 @@ pub fn solve(
     )
 }
 
-// The same for a legal policy, without asking question 7. Inner layer: for callers that know the policy to be legal. The policy's shape and its arrays stand for it, as in
-// builder::translate_legal.
+// The same for a legal policy, without asking question 7. Inner layer: for callers that know the policy to be legal. The policy's shape, its quiet edges and its arrays stand
+// for it, as in builder::translate_legal.
 pub fn solve_legal<'a>(
     shape: Shape,
     quiet: u64,
