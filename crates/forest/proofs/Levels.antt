@@ -41,6 +41,10 @@ module _ (p : Policy) where
   unfolding mostLevels
   plain-levels z = omega (arith, plain-level-none z)
 
+  pub plain-levels-left : p .quiet ≡ 0 → (m : ℕ) → levelsLeft p m ≡ ones (coloursOf p m)
+  unfolding levelsLeft
+  plain-levels-left z m = omega (arith, plain-level-none z)
+
   pub levels-most : legal p ≡ true → (m : ℕ) → levelsLeft p m ≤ mostLevels p
   unfolding levelsLeft mostLevels
   levels-most lawful m = omega (arith, ones-le (p .colours) (coloursOf p m) (colours-lt p lawful m))
