@@ -4,7 +4,7 @@
 
 use comparison::{commands, counts, damaged, hex, policies, random, root, shuffled, unhex};
 use comparison::{OwnedTables, SolvedTables};
-use independent::fast::{self, Translator};
+use independent::fast::{self, Search, Translator};
 use independent::policy::{from_record, Policy};
 use independent::random::{kind, Family, Quiet, Random, Shape};
 use independent::solve::Solver;
@@ -280,16 +280,20 @@ fn a_long_formula() {
     assert_eq!(text_read_alike(text.as_bytes()), 0);
 }
 
-/// Translates in tables with so many places for nodes and states on both sides, from the record and from the command bytes.
+/// Translates in tables with so many places for nodes and states on both sides, from the record and from the command bytes; on the independent side by both searches.
 fn translated_alike(
-    translator: &mut Translator,
+    [by_sets, by_nodes]: &mut [Translator; 2],
     p: &Policy,
     (nodes, states): (usize, usize),
 ) -> Result<(), u8> {
     let mut expected = OwnedTables::new(nodes, states, states * p.letters, 0xa5);
     let (mut by_record, mut by_bytes) = (expected.clone(), expected.clone());
-    let theirs = expected.fill(translator, p).map(counts);
+    let mut other = expected.clone();
+    let theirs = expected.fill(by_sets, p).map(counts);
     let text = format!("policy {} in {nodes} and {states}", p.hex());
+    let by_nodes = other.fill(by_nodes, p).map(counts);
+    alike(by_nodes, theirs, format!("both searches for {text}"));
+    alike(other.difference(&expected), None, &text);
     let ours = refusal(by_record.translate(&proved(p)));
     alike(ours, theirs, format!("the record of {text}"));
     let bytes = p.bytes();
@@ -305,14 +309,14 @@ fn translated_alike(
 #[test]
 fn translating() {
     let mut random = random(12);
-    let mut translator = Translator::default();
+    let mut translators = Search::ALL.map(Translator::new);
     let (mut fitting, mut kinds) = (0, [0; 4]);
     // nodes of quiet edges alone, rejecting and accepting, and trees with a level more than there are colours
     let (mut quiet, mut deeper) = ([0; 2], 0);
     for i in 0..policies(12_000) {
         let p = random.policy(&shape(i));
         let most = 65_535;
-        let (nodes, states) = match translator.translate(&p, most, most) {
+        let (nodes, states) = match translators[1].translate(&p, most, most) {
             Ok(a) => {
                 if let Some(kind) = kind(&p, a) {
                     kinds[kind as usize] += 1;
@@ -325,7 +329,7 @@ fn translating() {
             }
             Err(number) => {
                 for places in [most, most + 1] {
-                    let answer = translated_alike(&mut translator, &p, (places, places));
+                    let answer = translated_alike(&mut translators, &p, (places, places));
                     assert_eq!(answer, Err(number));
                 }
                 continue;
@@ -334,7 +338,7 @@ fn translating() {
         fitting += 1;
         let longer = (nodes + random.below(9), states + random.below(9));
         let mut alike = |places, answer| {
-            assert_eq!(translated_alike(&mut translator, &p, places), answer);
+            assert_eq!(translated_alike(&mut translators, &p, places), answer);
         };
         alike((nodes, states), Ok(()));
         alike(longer, Ok(()));
@@ -358,9 +362,27 @@ fn translating() {
 }
 
 #[test]
+fn translating_large_forests() {
+    let mut translators = Search::ALL.map(Translator::new);
+    let mut refused = 0;
+    let folder = root().join("tests/comparison/policies");
+    for entry in fs::read_dir(folder).unwrap() {
+        let path = entry.unwrap().path();
+        if path.extension().is_some_and(|x| x == "hex") {
+            let text = fs::read_to_string(&path).unwrap();
+            let p = policy::read(&unhex(&text)).unwrap().0;
+            let answer = translated_alike(&mut translators, &p, (65_535, 65_535));
+            refused += usize::from(answer == Err(9));
+        }
+    }
+    // two have more nodes than fit
+    assert_eq!(refused, 2);
+}
+
+#[test]
 fn trees_of_nine_levels() {
     let mut random = random(18);
-    let (mut translator, mut solver) = (Translator::default(), Solver::default());
+    let (mut translators, mut solver) = (Search::ALL.map(Translator::new), Solver::default());
     // with priorities 0 to 8, and 1 to 9
     let mut nine = [0; 2];
     for i in 0..policies(1_000) {
@@ -373,7 +395,7 @@ fn trees_of_nine_levels() {
             ..Shape::any(64)
         };
         let p = random.policy(&shape);
-        let Ok(a) = translator.translate(&p, 5_000, 5_000) else {
+        let Ok(a) = translators[1].translate(&p, 5_000, 5_000) else {
             continue;
         };
         if a.levels() == 9 {
@@ -381,7 +403,7 @@ fn trees_of_nine_levels() {
             nine[usize::from(most == Some(9))] += 1;
         }
         let (nodes, states) = (a.nodes.len(), a.states.len());
-        let answer = translated_alike(&mut translator, &p, (nodes, states));
+        let answer = translated_alike(&mut translators, &p, (nodes, states));
         assert_eq!(answer, Ok(()));
         let owners = owners(&mut random, p.states);
         let tables = SolvedTables::new(nodes, states, states * p.letters, 0xa5);
@@ -410,7 +432,7 @@ fn bytes_alike(translator: &mut Translator, bytes: &[u8], mut tables: OwnedTable
 #[test]
 fn from_command_bytes_to_tables() {
     let mut random = random(17);
-    let mut translator = Translator::default();
+    let mut translators = Search::ALL.map(Translator::new);
     let mut answers = [0; 11];
     for i in 0..policies(12_000) {
         let p = random.policy(&shape(i));
@@ -421,7 +443,8 @@ fn from_command_bytes_to_tables() {
         let rows = states * p.letters + usize::from(random.chance(5));
         let tables = OwnedTables::new(nodes, states, rows, 0xa5);
         for bytes in [damaged(&mut random, bytes.clone()), bytes] {
-            answers[bytes_alike(&mut translator, &bytes, tables.clone()) as usize] += 1;
+            let translator = &mut translators[i as usize / 2 % 2];
+            answers[bytes_alike(translator, &bytes, tables.clone()) as usize] += 1;
         }
     }
     // every answer came up but 7: what was read is legal

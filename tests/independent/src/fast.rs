@@ -1,11 +1,15 @@
-//! A quick translator: children of a cycle by taking colours away from it, one at a time, and splitting what is left into strongly connected components. Quiet edges
-//! are taken away by no colour, so that where all colours are gone cycles of quiet edges are left.
-//! A [`Translator`] keeps its buffers from one policy to the next.
+//! A quick translator, on strongly connected components, with two ways to find the children of a node. Quiet edges are taken away by no colour, so that where all
+//! colours are gone cycles of quiet edges are left. A [`Translator`] keeps its buffers from one policy to the next.
+//! Comparing two policies, by taking colours of either away.
 
+use crate::children::Children;
+use crate::cycles::{Cycles, Name};
 use crate::policy::Policy;
 use crate::{Automaton, Node, Refusal, Tables, NONE};
-use std::collections::{HashMap, HashSet};
+use std::collections::HashSet;
 use std::hash::{BuildHasherDefault, Hasher};
+
+pub use crate::children::Search;
 
 /// A hash for edge sets and states: one multiplication.
 #[derive(Default)]
@@ -75,14 +79,6 @@ impl Graph {
         self.family[self.colours(mask)]
     }
 
-    fn states(&self, mask: u64) -> u16 {
-        let mut set = 0;
-        for (v, edges) in self.leaving.iter().enumerate() {
-            set |= ((mask & edges != 0) as u16) << v;
-        }
-        set
-    }
-
     /// The largest cycles inside an edge set.
     fn components(&self, mask: u64, out: &mut Vec<u64>) {
         let mut next = [0u16; 16];
@@ -138,83 +134,27 @@ impl Graph {
     }
 }
 
-/// The children of the cycles met so far, one list after the other, and what the search for them needs.
-#[derive(Default)]
-struct Children {
-    known: HashMap<u64, (u32, u32), BuildHasherDefault<Mix>>,
-    lists: Vec<u64>,
-    seen: Masks,
-    todo: Vec<u64>,
-    parts: Vec<u64>,
-    found: Vec<u64>,
-}
-
-impl Children {
-    fn clear(&mut self) {
-        self.known.clear();
-        self.lists.clear();
-    }
-
-    /// Where the list of the largest cycles of the other verdict inside a cycle stands; they ascend.
-    fn of(&mut self, g: &Graph, mask: u64) -> (usize, usize) {
-        if let Some(&(from, to)) = self.known.get(&mask) {
-            return (from as usize, to as usize);
-        }
-        let verdict = g.accepts(mask);
-        self.found.clear();
-        self.seen.clear();
-        self.todo.push(mask);
-        while let Some(cycle) = self.todo.pop() {
-            for edges in &g.by_colour {
-                let less = cycle & !edges;
-                if less == cycle || less == 0 || !self.seen.insert(less) {
-                    continue;
-                }
-                self.parts.clear();
-                g.components(less, &mut self.parts);
-                for &part in &self.parts {
-                    if g.accepts(part) != verdict {
-                        self.found.push(part);
-                    } else {
-                        self.todo.push(part);
-                    }
-                }
-            }
-        }
-        self.found
-            .sort_unstable_by_key(|m| std::cmp::Reverse(m.count_ones()));
-        let from = self.lists.len();
-        for &m in &self.found {
-            if !self.lists[from..].iter().any(|&x| x & m == m) {
-                self.lists.push(m);
-            }
-        }
-        self.lists[from..].sort_unstable();
-        self.known
-            .insert(mask, (from as u32, self.lists.len() as u32));
-        (from, self.lists.len())
-    }
-}
-
 /// A translator with its buffers.
 #[derive(Default)]
 pub struct Translator {
-    g: Graph,
+    cycles: Cycles,
     children: Children,
-    roots: Vec<u64>,
-    /// First child and next sibling of each node, and the states that it contains.
-    first: Vec<u16>,
+    /// The next sibling of each node, and the states that it contains.
     next: Vec<u16>,
     states: Vec<u16>,
     /// The policy states that each node is a leaf of, and the built state of (node, policy state) or the first one below.
     leaf_of: Vec<u16>,
     at: Vec<u16>,
-    /// The greatest level of the tree that grows.
-    greatest: u8,
     out: Automaton,
 }
 
 impl Translator {
+    pub fn new(search: Search) -> Self {
+        let mut translator = Translator::default();
+        translator.children.search = search;
+        translator
+    }
+
     /// Translates into tables of so many nodes and states.
     pub fn translate(
         &mut self,
@@ -222,23 +162,21 @@ impl Translator {
         node_room: usize,
         state_room: usize,
     ) -> Result<&Automaton, Refusal> {
-        self.g.set(p);
-        self.children.clear();
-        self.roots.clear();
-        self.g.components(full(p), &mut self.roots);
-        self.roots.sort_unstable();
+        self.cycles.set(p);
+        self.children.set(&mut self.cycles);
         self.out.nodes.clear();
-        self.first.clear();
         self.next.clear();
         self.states.clear();
+        self.children.find_roots(&mut self.cycles);
         // the most levels of a rejecting tree, and of an accepting one
         let mut most = [0; 2];
-        for i in 0..self.roots.len() {
-            let root = self.roots[i];
-            self.greatest = 0;
+        for i in 0..self.children.found.len() {
+            let root = self.children.found[i].1;
+            let from = self.out.nodes.len();
             self.grow(root, NONE, 0, node_room.min(NONE as usize))?;
-            let most = &mut most[self.g.accepts(root) as usize];
-            *most = (self.greatest + 1).max(*most);
+            let most = &mut most[self.cycles.accepts(root) as usize];
+            let levels = self.out.nodes[from..].iter().map(|n| n.priority + 1);
+            *most = levels.fold(*most, u8::max);
         }
         let least = (most[1] < most[0]) as u8;
         self.number(2 * least);
@@ -272,41 +210,76 @@ impl Translator {
         answer
     }
 
-    /// The tree below a cycle; a node's priority is its level until all are numbered.
-    fn grow(&mut self, mask: u64, parent: u16, level: u8, room: usize) -> Result<u16, Refusal> {
+    /// The tree below a cycle; a node's priority is its level until all are numbered. A tree that stands is copied.
+    fn grow(&mut self, name: Name, parent: u16, level: u8, room: usize) -> Result<(), Refusal> {
         let number = self.out.nodes.len();
+        let cycle = *self.cycles.cycle(name);
+        if cycle.tree.0 < cycle.tree.1 {
+            return self.copy(cycle.tree, parent, level, room);
+        }
         if number == room {
             return Err(9);
         }
         self.out.nodes.push(Node {
-            mask,
+            mask: cycle.mask,
             parent,
             priority: level,
         });
-        self.greatest = self.greatest.max(level);
-        self.first.push(NONE);
         self.next.push(NONE);
-        self.states.push(self.g.states(mask));
-        let (from, to) = self.children.of(&self.g, mask);
-        let mut last = NONE;
-        for i in from..to {
-            let c = self.grow(self.children.lists[i], number as u16, level + 1, room)?;
-            if last == NONE {
-                self.first[number] = c;
-            } else {
-                self.next[last as usize] = c;
+        self.states.push(cycle.states);
+        let from = self.children.found.len();
+        self.children.find(&mut self.cycles, name);
+        for i in from..self.children.found.len() {
+            let child = self.out.nodes.len();
+            self.grow(self.children.found[i].1, number as u16, level + 1, room)?;
+            if i + 1 < self.children.found.len() {
+                self.next[child] = self.out.nodes.len() as u16;
             }
-            last = c;
         }
-        Ok(number as u16)
+        self.children.found.truncate(from);
+        self.cycles.cycle(name).tree = (number as u32, self.out.nodes.len() as u32);
+        Ok(())
+    }
+
+    fn copy(
+        &mut self,
+        (from, to): (u32, u32),
+        parent: u16,
+        level: u8,
+        room: usize,
+    ) -> Result<(), Refusal> {
+        let (from, to) = (from as usize, to as usize);
+        let nodes = &mut self.out.nodes;
+        let number = nodes.len();
+        if to - from > room - number {
+            return Err(9);
+        }
+        let further = (number - from) as u16;
+        let deeper = level.wrapping_sub(nodes[from].priority);
+        nodes.extend_from_within(from..to);
+        for node in &mut nodes[number..] {
+            node.parent = node.parent.wrapping_add(further);
+            node.priority = node.priority.wrapping_add(deeper);
+        }
+        nodes[number].parent = parent;
+        self.next.extend_from_within(from..to);
+        for next in &mut self.next[number..] {
+            if *next != NONE {
+                *next += further;
+            }
+        }
+        self.next[number] = NONE;
+        self.states.extend_from_within(from..to);
+        Ok(())
     }
 
     /// From levels to priorities: a rejecting root has 1, and an accepting one what is given.
     fn number(&mut self, accepting: u8) {
-        let mut first = 0;
+        let (mut first, mut roots) = (0, self.children.found.iter());
         for node in &mut self.out.nodes {
             if node.parent == NONE {
-                first = if self.g.accepts(node.mask) {
+                let root = roots.next().expect("as many roots");
+                first = if self.cycles.accepts(root.1) {
                     accepting
                 } else {
                     1
@@ -358,7 +331,7 @@ impl Translator {
         for &(v, l) in states.iter() {
             for a in 0..p.letters {
                 let e = v as usize * p.letters + a;
-                let w = self.g.target[e] as usize;
+                let w = p.edges[e].0;
                 let (mut n, mut led) = (l, NONE);
                 while n != NONE && nodes[n as usize].mask >> e & 1 == 0 {
                     led = n;

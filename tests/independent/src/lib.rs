@@ -1,9 +1,11 @@
 //! A translator of Muller policies into parity automata, written from the papers alone: `brute` follows the definitions by listing edge sets,
-//! `fast` works on strongly connected components. A solver of the supervisor's game on the rows, `solve`, and a check of its solutions by the definitions, `check`.
+//! `fast` works on strongly connected components, by either of two searches. A solver of the supervisor's game on the rows, `solve`, and a check of its solutions by the definitions, `check`.
 //! A reader of the Hanoi format, `hanoi`. They share nothing with what is proved. `random` and `texts` make policies and texts to try them on.
 
 pub mod brute;
 pub mod check;
+mod children;
+mod cycles;
 pub mod fast;
 pub mod hanoi;
 pub mod judge;
@@ -16,7 +18,7 @@ pub mod texts;
 pub const NONE: u16 = 65_535;
 
 /// A node of the forest.
-#[derive(Clone, Debug, PartialEq, Eq)]
+#[derive(Clone, Copy, Debug, PartialEq, Eq)]
 pub struct Node {
     pub mask: u64,
     pub parent: u16,

@@ -1,13 +1,13 @@
-//! The two independent ways agree with each other, with quiet edges and without, and both with document 01's listing of policy B. The solver agrees with what comes of trying all letters, and so
+//! The independent ways to translate agree with each other, with quiet edges and without, and all with document 01's listing of policy B. The solver agrees with what comes of trying all letters, and so
 //! does the check of solutions, on right ones and on wrong ones.
 
-use independent::fast::Translator;
+use independent::fast::{Search, Translator};
 use independent::policy::{from_record, Policy};
 use independent::random::{kind, Random, Shape};
 use independent::solve::{Solver, NO_LETTER};
 use independent::{alike, brute, check, fast, judge, policy, Automaton, Node, Tables, NONE};
 
-/// A policy of at most 12 edges in every way that there is: read, as a record, translated, judged. What both translators give.
+/// A policy of at most 12 edges in every way that there is: read, as a record, translated, judged. What all translators give.
 fn agreed(random: &mut Random, kept: &mut Policy, p: &Policy) -> Automaton {
     let (bytes, text) = (p.bytes(), p.hex());
     assert!(p.is_legal(), "{text}");
@@ -18,6 +18,11 @@ fn agreed(random: &mut Random, kept: &mut Policy, p: &Policy) -> Automaton {
     let slow = brute::translate(p);
     let quick = fast::translate(p, 100_000, 100_000).unwrap();
     alike(&slow, &quick, &text);
+    for search in Search::ALL {
+        let mut translator = Translator::new(search);
+        let quick = translator.translate(p, 100_000, 100_000);
+        alike(Ok(&slow), quick, format!("{text} {search:?}"));
+    }
     let targets: Vec<u16> = quick.rows.iter().map(|r| r.0).collect();
     let priorities: Vec<u8> = quick.rows.iter().map(|r| r.1).collect();
     for _ in 0..5 {
@@ -76,6 +81,26 @@ fn both_ways_agree() {
     }
     // each kind of numbering came up
     assert!(kinds.iter().all(|&n| n > 20), "{kinds:?}");
+}
+
+#[test]
+fn both_searches_agree_on_larger_policies() {
+    let mut random = Random::new(14);
+    let mut translators = Search::ALL.map(Translator::new);
+    // policies that fit, and those that have no place
+    let (mut fitting, mut nodes) = ([0; 2], 0);
+    for i in 0..2_000 {
+        let shape = [Shape::any(64), Shape::parts(64)][i % 2].clone();
+        let shape = if i % 4 < 2 { shape } else { shape.with_quiet() };
+        let p = random.policy(&shape);
+        let [first, second] = &mut translators;
+        let first = first.translate(&p, 500, 1_500);
+        alike(first, second.translate(&p, 500, 1_500), p.hex());
+        fitting[usize::from(first.is_ok())] += 1;
+        nodes += first.map_or(0, |a| a.nodes.len());
+    }
+    assert!(fitting.iter().all(|&n| n > 50), "{fitting:?}");
+    assert!(nodes > 20_000, "{nodes}");
 }
 
 /// Compares two policies of one graph in both ways, if they are small.
@@ -344,9 +369,12 @@ fn policy_b_prints_as_document_01_shows() {
     assert_eq!(end, bytes.len());
     let shown = "nodes 3 states 2\nn 0 15 - 1\nn 1 1 0 2\nn 2 8 0 2\ns 0 0 1\ns 1 1 2\nt 0 0 0 2\nt 0 1 1 1\nt 1 0 0 1\nt 1 1 1 2\nstart 0\n";
     assert_eq!(brute::translate(&p).listing(2), shown);
-    assert_eq!(fast::translate(&p, 3, 2).unwrap().listing(2), shown);
-    assert_eq!(fast::translate(&p, 2, 2), Err(9));
-    assert_eq!(fast::translate(&p, 3, 1), Err(10));
+    for search in Search::ALL {
+        let mut translator = Translator::new(search);
+        assert_eq!(translator.translate(&p, 3, 2).unwrap().listing(2), shown);
+        assert_eq!(translator.translate(&p, 2, 2), Err(9));
+        assert_eq!(translator.translate(&p, 3, 1), Err(10));
+    }
 }
 
 /// A game on rows: letters, rows, and the owner of each state.

@@ -1,6 +1,6 @@
-//! Once their buffers have grown, the quick translator and the solver go from command bytes to tables and allocate nothing.
+//! Once their buffers have grown, the quick translator, by either search, and the solver go from command bytes to tables and allocate nothing.
 
-use independent::fast::Translator;
+use independent::fast::{Search, Translator};
 use independent::policy::Policy;
 use independent::random::{Random, Shape};
 use independent::solve::{Solution, Solver};
@@ -36,7 +36,8 @@ fn nothing_is_allocated_again() {
     let policies: Vec<Vec<u8>> = (0..400)
         .map(|i| random.policy(&shapes[i % 2]).bytes())
         .collect();
-    let (mut translator, mut solver) = (Translator::default(), Solver::default());
+    let [mut by_sets, mut by_nodes] = Search::ALL.map(Translator::new);
+    let mut solver = Solver::default();
     let mut kept = Policy::default();
     let (mut node_masks, mut node_parents) = ([0; PLACES], [0; PLACES]);
     let (mut node_priorities, mut state_sources) = ([0; PLACES], [0; PLACES]);
@@ -44,7 +45,7 @@ fn nothing_is_allocated_again() {
     let (mut row_targets, mut row_priorities) = ([0; 8 * PLACES], [0; 8 * PLACES]);
     let (mut state_winners, mut state_letters) = ([0; PLACES], [0; PLACES]);
     let owners: Vec<u8> = (0..16).map(|_| random.below(2) as u8).collect();
-    let mut each = |solving: bool| {
+    let mut each = |call: &str| {
         let mut fitting = 0;
         for bytes in &policies {
             kept.read(bytes).unwrap();
@@ -62,19 +63,19 @@ fn nothing_is_allocated_again() {
                 state_winners: &mut state_winners,
                 state_letters: &mut state_letters,
             };
-            let answer = if solving {
-                solver.fill(&kept, &owners[..kept.states], tables, solution)
-            } else {
-                translator.fill(&kept, tables)
+            let answer = match call {
+                "by sets" => by_sets.fill(&kept, tables),
+                "by nodes" => by_nodes.fill(&kept, tables),
+                _ => solver.fill(&kept, &owners[..kept.states], tables, solution),
             };
             fitting += usize::from(answer.is_ok());
         }
         fitting
     };
-    for solving in [false, true] {
-        assert!(each(solving) > 200);
+    for call in ["by sets", "by nodes", "solving"] {
+        assert!(each(call) > 200);
         let before = CALLS.get();
-        each(solving);
-        assert_eq!(CALLS.get(), before, "solving: {solving}");
+        each(call);
+        assert_eq!(CALLS.get(), before, "{call}");
     }
 }
