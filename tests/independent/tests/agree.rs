@@ -3,7 +3,7 @@
 
 use independent::fast::{Search, Translator};
 use independent::policy::{from_record, Policy};
-use independent::random::{kind, Random, Shape};
+use independent::random::{kind, Family, Random, Shape};
 use independent::solve::{Solver, NO_LETTER};
 use independent::{alike, brute, check, fast, judge, policy, Automaton, Node, Tables, NONE};
 
@@ -90,7 +90,16 @@ fn both_searches_agree_on_larger_policies() {
     // policies that fit, and those that have no place
     let (mut fitting, mut nodes) = ([0; 2], 0);
     for i in 0..2_000 {
-        let shape = [Shape::any(64), Shape::parts(64)][i % 2].clone();
+        let shape = match i % 3 {
+            0 => Shape::any(64),
+            1 => Shape::parts(64),
+            // few sets of one verdict
+            _ => Shape {
+                colours: 7..=8,
+                family: Family::Chance([2, 98][i % 2]),
+                ..Shape::any(64)
+            },
+        };
         let shape = if i % 4 < 2 { shape } else { shape.with_quiet() };
         let p = random.policy(&shape);
         let [first, second] = &mut translators;
