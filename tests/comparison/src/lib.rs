@@ -1,6 +1,8 @@
 //! What the comparisons and the benchmark share: tables to lend and the check of a solution, policies as hexadecimal text, seeds, commands in any order, damage, and the
 //! program.
 
+pub mod times;
+
 use independent::fast::Translator;
 use independent::random::Random;
 use independent::solve::Solver;

@@ -362,7 +362,7 @@ fn translating() {
 }
 
 #[test]
-fn translating_large_forests() {
+fn translating_stored_policies() {
     let mut translators = Search::ALL.map(Translator::new);
     let mut refused = 0;
     let folder = root().join("tests/comparison/policies");

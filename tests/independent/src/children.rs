@@ -7,8 +7,8 @@ use crate::cycles::{Cycles, Name};
 pub enum Search {
     /// All cycles that can be nodes are listed first, colour set by colour set; the children of a node are the largest ones of the list inside it.
     BySets,
-    /// Colours are taken away from the node, one at a time, and what is left falls into largest cycles. One of the other verdict is looked into no further, and the largest
-    /// of these are the children; one of the same verdict loses colours in turn.
+    /// Colours are taken away from the node, one at a time, and what is left falls into largest cycles. One of the other verdict is looked into no further, and the
+    /// largest of these are the children; one of the same verdict loses colours in turn.
     #[default]
     ByNodes,
 }

@@ -1,6 +1,6 @@
 //! A translator of Muller policies into parity automata, written from the papers alone: `brute` follows the definitions by listing edge sets,
-//! `fast` works on strongly connected components, by either of two searches. A solver of the supervisor's game on the rows, `solve`, and a check of its solutions by the definitions, `check`.
-//! A reader of the Hanoi format, `hanoi`. They share nothing with what is proved. `random` and `texts` make policies and texts to try them on.
+//! `fast` works on strongly connected components, by either of two searches. A solver of the supervisor's game on the rows, `solve`, and a check of its solutions by
+//! the definitions, `check`. A reader of the Hanoi format, `hanoi`. They share nothing with what is proved. `random` and `texts` make policies and texts to try them on.
 
 pub mod brute;
 pub mod check;
