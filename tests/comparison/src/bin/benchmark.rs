@@ -1,5 +1,6 @@
 //! The proved library and the fast independent translator, solver and reader side by side: the same policies, the same work, the best of several rounds. Prints tables.
 
+use comparison::times::{least_times, text as time, Independent, Times, Translation};
 use comparison::{unhex, OwnedTables, SolvedTables};
 use independent::policy::{self, Policy};
 use independent::random::{Family, Quiet, Random, Shape, Targets};
@@ -10,14 +11,18 @@ use std::ops::RangeInclusive;
 use std::time::{Duration, Instant};
 use wulfrenda::Run;
 
+/// At least seven rounds, or three where they are long.
+fn another_round(rounds: usize, spent: Duration) -> bool {
+    let within = |ms| spent < Duration::from_millis(ms);
+    rounds < 3 || within(600) || rounds < 7 && within(3_000)
+}
+
 /// The least time of one call, in nanoseconds. The two are called in turn, so that both see the same machine.
 fn best(mut ours: impl FnMut(), mut theirs: impl FnMut()) -> (f64, f64) {
     let mut least = [f64::MAX; 2];
     let begin = Instant::now();
     let mut rounds = 0;
-    // at least seven rounds, or three where they are long
-    let spent = |ms| begin.elapsed() >= Duration::from_millis(ms);
-    while rounds < 3 || !spent(600) || rounds < 7 && !spent(3_000) {
+    while another_round(rounds, begin.elapsed()) {
         let t = Instant::now();
         ours();
         least[0] = least[0].min(t.elapsed().as_nanos() as f64);
@@ -31,59 +36,29 @@ fn best(mut ours: impl FnMut(), mut theirs: impl FnMut()) -> (f64, f64) {
 
 fn ignore<T>(_: T) {}
 
-fn time(ns: f64) -> String {
-    match ns {
-        _ if ns < 1e4 => format!("{ns:.0} ns"),
-        _ if ns < 1e7 => format!("{:.1} µs", ns / 1e3),
-        _ => format!("{:.1} ms", ns / 1e6),
-    }
-}
-
-/// From command bytes to the seven tables, for a list of policies, with the same questions on both sides.
+/// From command bytes to the seven tables, for a list of policies, with the same questions on both sides. Each policy has the better of the independent searches.
 fn translating(name: &str, policies: &[Policy]) {
-    let mut translator = fast::Translator::default();
-    let mut kept = Policy::default();
-    let bytes: Vec<Vec<u8>> = policies.iter().map(Policy::bytes).collect();
-    let (mut nodes, mut rows) = (0, 0);
-    let mut ours: Vec<OwnedTables> = Vec::new();
-    for p in policies {
-        let room = match translator.translate(p, 65_535, 65_535) {
-            Ok(a) => (a.nodes.len(), a.states.len()),
-            Err(_) => (65_535, 65_535),
-        };
-        nodes += room.0;
-        rows += room.1 * p.letters;
-        ours.push(OwnedTables::new(room.0, room.1, room.1 * p.letters, 0));
-    }
-    let mut theirs = ours.clone();
-    let rounds = (20_000 / (nodes + rows)).max(1);
-    let (ours, theirs) = best(
-        || {
-            for _ in 0..rounds {
-                for (b, t) in bytes.iter().zip(&mut ours) {
-                    black_box(t.translate_bytes(black_box(b))).ok();
-                }
-            }
-        },
-        || {
-            for _ in 0..rounds {
-                for (b, t) in bytes.iter().zip(&mut theirs) {
-                    kept.read(black_box(b)).unwrap();
-                    black_box(t.fill(&mut translator, &kept)).ok();
-                }
-            }
-        },
-    );
-    let (each, all) = (policies.len() as f64, rounds as f64);
+    let mut independent = Independent::default();
+    let translations = policies
+        .iter()
+        .map(|p| Translation::new(&mut independent, p));
+    let mut translations: Vec<Translation> = translations.collect();
+    let times = least_times(&mut independent, &mut translations, another_round);
+    let nodes: usize = translations.iter().map(|t| t.nodes).sum();
+    let rows: usize = translations.iter().map(|t| t.rows).sum();
+    let sum = |time: fn(&Times) -> f64| -> f64 { times.iter().map(time).sum() };
+    let (ours, each) = (sum(|t| t.ours), policies.len() as f64);
     println!(
-        "| {name} | {} | {} | {} | {} | {:.0} | {:.1} | {:.2} |",
+        "| {name} | {} | {} | {} | {} | {} | {:.0} | {:.1} | {:.2} | {:.2} |",
         nodes / policies.len(),
         rows / policies.len(),
-        time(ours / all / each),
-        time(theirs / all / each),
-        ours / all / nodes as f64,
-        ours / all / rows as f64,
-        ours / theirs
+        time(ours / each),
+        time(sum(|t| t.by_sets) / each),
+        time(sum(|t| t.by_nodes) / each),
+        ours / nodes as f64,
+        ours / rows as f64,
+        ours / sum(Times::independent),
+        times.iter().map(Times::ratio).fold(0.0, f64::max),
     );
 }
 
@@ -347,13 +322,21 @@ fn main() {
     };
     let quiet_sites = third(100, shape(4..=8, 2..=4, 3..=5, half));
     let quiet_large = third(10, shape(16..=16, 4..=4, 8..=8, half));
+    let mut more = Random::new(6);
+    let mut thirty = |states, letters, colours| -> Vec<Policy> {
+        let shape = shape(states, letters, colours, half);
+        (0..30).map(|_| more.policy(&shape)).collect()
+    };
+    let medium = thirty(8..=12, 4..=4, 4..=6);
+    let wide = thirty(16..=16, 4..=4, 8..=8);
+    let square = thirty(8..=8, 8..=8, 8..=8);
     let known = [
         include_str!("../../../../examples/a.hex"),
         include_str!("../../../../examples/b.hex"),
         include_str!("../../../../examples/c.hex"),
     ];
-    println!("| policies | nodes | rows | ours | independent | ns a node | ns a row | ratio |");
-    println!("|---|---:|---:|---:|---:|---:|---:|---:|");
+    println!("| policies | nodes | rows | ours | by sets | by nodes | ns a node | ns a row | ratio to the better | worst |");
+    println!("|---|---:|---:|---:|---:|---:|---:|---:|---:|---:|");
     translating("A, B and C", &known.map(file));
     translating("100 small: 1 to 3 states and colours", &small);
     translating("100 sites: 4 to 8 states, 3 to 5 colours", &sites);
@@ -378,6 +361,21 @@ fn main() {
         "10 of 16 states, 4 letters, 8 colours, a third quiet",
         &quiet_large,
     );
+    translating("30 medium: 8 to 12 states, 4 to 6 colours", &medium);
+    translating("30 of 16 states, 4 letters, 8 colours", &wide);
+    translating("30 of 8 states, 8 letters, 8 colours", &square);
+    for text in [
+        include_str!("../../policies/few_nodes_2.hex"),
+        include_str!("../../policies/few_nodes_4.hex"),
+        include_str!("../../policies/few_nodes_17.hex"),
+        include_str!("../../policies/few_nodes_62.hex"),
+        include_str!("../../policies/few_nodes_64.hex"),
+    ] {
+        let p = file(text);
+        let (states, letters) = (p.states, p.letters);
+        let name = format!("few nodes: {states} states, {letters} letters, 8 colours");
+        translating(&name, &[p]);
+    }
 
     println!("\n| games | states | rows | ours | independent | ratio | ours, solving alone | independent | ns a row |");
     println!("|---|---:|---:|---:|---:|---:|---:|---:|---:|");
