@@ -81,7 +81,7 @@ impl Translation {
 
 /// What the clock takes by itself.
 fn clock() -> Duration {
-    let times = (0..1_000).map(|_| Instant::now().elapsed());
+    let times = (0..100).map(|_| Instant::now().elapsed());
     times.min().unwrap_or_default()
 }
 

@@ -17,6 +17,11 @@ const FEW: usize = 5;
 /// A climb ends after so many steps that gain nothing.
 const PATIENCE: usize = 300;
 
+/// How long a policy is measured: each, those that seem better, and those that are printed.
+const ONCE: Duration = Duration::from_micros(300);
+const AGAIN: Duration = Duration::from_millis(5);
+const AT_LAST: Duration = Duration::from_millis(200);
+
 /// How many policies of each size are printed.
 const SHOWN: usize = 3;
 
@@ -45,19 +50,21 @@ impl Found {
     }
 }
 
-/// The policy's times, unless its forest has another size: the least of so many rounds.
+/// The policy's times, unless its forest has another size: the least of five rounds, and of as many as there is time for.
 fn measured(
     independent: &mut Independent,
     policy: &Policy,
     size: &RangeInclusive<usize>,
-    rounds: usize,
+    time: Duration,
 ) -> Option<Found> {
     let translation = Translation::new(independent, policy);
     let nodes = translation.nodes;
     size.contains(&nodes).then(|| Found {
         policy: policy.clone(),
         nodes,
-        times: least_times(independent, &mut [translation], |n, _| n < rounds)[0],
+        times: least_times(independent, &mut [translation], |rounds, spent| {
+            rounds < 5 || spent < time
+        })[0],
     })
 }
 
@@ -142,6 +149,33 @@ fn reshape(random: &mut Random, q: &mut Policy) {
     }
 }
 
+/// Climbs from a random policy, if that has a forest of this size, until nothing is gained any more.
+fn climb(
+    random: &mut Random,
+    independent: &mut Independent,
+    size: &RangeInclusive<usize>,
+    time_is_left: impl Fn() -> bool,
+) -> Option<Found> {
+    let mut here = measured(independent, &start(random), size, AGAIN)?;
+    let mut in_vain = 0;
+    while in_vain < PATIENCE && time_is_left() {
+        in_vain += 1;
+        let beside = step(random, &here.policy);
+        let seems = measured(independent, &beside, size, ONCE);
+        if seems.is_none_or(|x| x.times.ratio() < 1.01 * here.times.ratio()) {
+            continue;
+        }
+        // both are measured again, one after the other
+        here = measured(independent, &here.policy, size, AGAIN)?;
+        let there = measured(independent, &beside, size, AGAIN)?;
+        if there.times.ratio() > 1.01 * here.times.ratio() {
+            here = there;
+            in_vain = 0;
+        }
+    }
+    Some(here)
+}
+
 fn main() {
     let mut arguments = std::env::args().skip(1);
     let mut number = |usual: u64| {
@@ -155,39 +189,16 @@ fn main() {
     let mut best = SIZES.map(|_| Vec::<Found>::new());
     let begin = Instant::now();
     let time_is_left = || begin.elapsed() < Duration::from_secs(seconds);
-    for turn in (0..SIZES.len()).cycle() {
-        let size = &SIZES[turn];
-        if !time_is_left() {
-            break;
+    while time_is_left() {
+        for (size, list) in SIZES.iter().zip(&mut best) {
+            list.extend(climb(&mut random, &mut independent, size, time_is_left));
+            list.sort_by(|a, b| b.times.ratio().total_cmp(&a.times.ratio()));
+            list.truncate(SHOWN);
         }
-        let Some(mut here) = measured(&mut independent, &start(&mut random), size, 10) else {
-            continue;
-        };
-        let mut in_vain = 0;
-        while in_vain < PATIENCE && time_is_left() {
-            in_vain += 1;
-            let beside = step(&mut random, &here.policy);
-            // what seems better is measured again, and so is the policy that it replaces
-            let seems = measured(&mut independent, &beside, size, 5);
-            if seems.is_none_or(|x| x.times.ratio() < 1.01 * here.times.ratio()) {
-                continue;
-            }
-            let mut again = |p| measured(&mut independent, p, size, 40).expect("the same size");
-            let (there, now) = (again(&beside), again(&here.policy));
-            here = now;
-            if there.times.ratio() > 1.01 * here.times.ratio() {
-                here = there;
-                in_vain = 0;
-            }
-        }
-        let list = &mut best[turn];
-        list.push(here);
-        list.sort_by(|a, b| b.times.ratio().total_cmp(&a.times.ratio()));
-        list.truncate(SHOWN);
     }
     for (size, list) in SIZES.iter().zip(&best) {
         for found in list {
-            let again = measured(&mut independent, &found.policy, size, 1_000);
+            let again = measured(&mut independent, &found.policy, size, AT_LAST);
             again.expect("the same size").print();
         }
     }
