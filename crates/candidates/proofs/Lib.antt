@@ -1,7 +1,6 @@
-pub mod Few
 pub mod Full
-pub mod Candidates
+pub mod Roots
 pub mod LargerFirst
-pub mod Covered
-pub mod OnCycles
-pub mod CandidateLaws
+pub mod Wanted
+pub mod Listing
+pub mod Candidates

@@ -1,56 +1,68 @@
--- Where nodes are looked for: one list of cycles for the whole policy, by colour sets, holds every node of the forest.
-use Prim.Native.Nat.{ℕ, _-_, _*_, _^_, _<_}
+-- Where the nodes of a tree are looked for: two lists of cycles inside the root, one for each verdict, that hold the root and the children of each of their members.
+use Prim.Native.Nat.{ℕ, zero, suc, _+_, _-_, _<_, _≤_}
 use mathlib.Core.Path.{_≡_}
-use mathlib.Core.Bool.{Bool, false, not, _&&_, cond}
-use mathlib.Core.List.{List, [], _∷_, map}
-use lib.Dec.{eqb}
+use mathlib.Core.Bool.{Bool, true, false, not, _&&_, _||_, cond}
+use mathlib.Core.List.{List, [], _∷_, _++_, map, List·Memᴰ}
+use lib.Bits.{bitAnd}
+use lib.Dec.{eqb, ltb}
 use lib.ListN.{length, getD}
-use Rattle.lists.specs.Lists.{any, filter, flat, below}
+use Rattle.lists.specs.Lists.{any, filter, below, Distinct}
 use Rattle.lists.specs.Bools.{differs}
-use Rattle.masks.specs.Masks.{properly}
+use Rattle.masks.specs.Masks.{inside, properly}
 use Rattle.policy.specs.declared.Policy.{Policy}
-use Rattle.policy.specs.Policies.{coloursOf, accepting, full}
+use Rattle.policy.specs.Policies.{coloursOf, inFamily, accepting, legal, full}
 use Rattle.policy.specs.ByColour.{edgesIn}
-use Rattle.graph.specs.Cycles.{contains}
-use Rattle.graph.specs.Through.{cycleThrough}
-use Rattle.forest.specs.Forest.{inOrder, largest}
+use Rattle.graph.specs.Cycles.{isCycle}
+use Rattle.components.specs.Components.{largestIn}
+use Rattle.forest.specs.Forest.{inOrder, largest, children}
 
+-- ---- what is worth a search
+-- k has all of e, and lies inside y
+unfoldable pub covers : ℕ → ℕ → ℕ → Bool
+covers e y k = inside e k && inside k y
+
+-- a cycle inside m with exactly the colours c may be a child of y, whose colours are h: y has them all and an edge of m, and what it has of m lies in no listed cycle
+-- inside y. `same` are the listed cycles with the verdict of c
+unfoldable pub mayHold : ℕ → ℕ → List ℕ → ℕ → ℕ → Bool
+mayHold c m same h y = inside c h && not (eqb (bitAnd m y) 0) && not (any (covers (bitAnd m y) y) same)
+
+-- the same of some listed cycle of the other verdict. Where a list is long, a look at it costs more than it saves, and the answer is yes
+unfoldable pub wanted : ℕ → ℕ → List ℕ → List ℕ → List ℕ → Bool
+wanted c m other hues same = ltb 16 (length other) || ltb 16 (length same) || any (λ i. mayHold c m same (getD hues i 0) (getD other i 0)) (below (length other))
+
+-- ---- wanted cycles after a list; `hue` gives the colours of an edge set
+module _ (hue : ℕ → ℕ) where
+  unfoldable pub isWanted : ℕ → ℕ → List ℕ → List ℕ → Bool
+  isWanted c m other same = wanted c m other (map hue other) same
+
+  -- a list, and x after it where its colours are exactly c and it is wanted
+  unfoldable pub withCycle : ℕ → List ℕ → List ℕ → ℕ → List ℕ
+  withCycle c other same x = cond (eqb (hue x) c && isWanted c x other same) (same ++ (x ∷ [])) same
+
+  unfoldable pub withCycles : ℕ → List ℕ → List ℕ → List ℕ → List ℕ
+  withCycles c other same [] = same
+  withCycles c other same (x ∷ xs) = withCycles c other (withCycle c other same x) xs
+
+-- ---- the candidates of a root
 module _ (p : Policy) where
-  -- x is a cycle whose lowest state is v, given that it is 0 or a cycle through v
-  unfoldable pub lowestIs : ℕ → ℕ → Bool
-  lowestIs v x = not (eqb x 0) && not (any (λ u. contains p u x) (below v))
+  -- a list of the verdict of c, and after it the wanted cycles inside the root r with exactly the colours c
+  unfoldable pub withSet : ℕ → ℕ → List ℕ → List ℕ → List ℕ
+  withSet r c other same = let m = bitAnd (edgesIn p c) r in cond (isWanted (coloursOf p) c m other same) (withCycles (coloursOf p) c other same (largestIn p m)) same
 
-  -- the largest cycle through v inside m, if v is its lowest state
-  unfoldable pub largestAt : ℕ → ℕ → List ℕ
-  largestAt m v = let x = cycleThrough p m v in cond (lowestIs v x) (x ∷ []) []
+  -- the list of verdict b, after the first n sets below the colours of the root r, by falling mask: r itself, and the wanted cycles of each set of its colours
+  unfoldable pub candidatesTo : ℕ → ℕ → Bool → List ℕ
+  candidatesTo r zero b = cond (differs b (accepting p r)) [] (r ∷ [])
+  candidatesTo r (suc n) b =
+      let c = coloursOf p r - 1 - n in
+      let same = candidatesTo r n b in
+      cond (inside c (coloursOf p r) && not (differs b (inFamily p c))) (withSet r c (candidatesTo r n (not b)) same) same
 
-  -- the largest cycles inside m, by their lowest states
-  unfoldable pub largestIn : ℕ → List ℕ
-  largestIn m = flat (map (largestAt m) (below (p .states)))
-
-  -- the largest cycles with colours in c, if their colours are exactly c
-  unfoldable pub candidatesOf : ℕ → List ℕ
-  candidatesOf c = filter (λ x. eqb (coloursOf p x) c) (largestIn (edgesIn p c))
-
-  -- the sets of the policy's colours, by falling mask: the one at position i
-  unfoldable pub coloursAt : ℕ → ℕ
-  coloursAt i = 2 ^ p .colours - 1 - i
-
-  -- for every set of colours, by falling mask, and every state
-  unfoldable pub candidates : List ℕ
-  candidates = flat (map (λ i. candidatesOf (coloursAt i)) (below (2 ^ p .colours)))
-
-  -- how many there can be: one for each set of colours and each state
-  unfoldable pub mostCandidates : ℕ
-  mostCandidates = p .states * 2 ^ p .colours
-
-  -- those with a given verdict
-  unfoldable pub judged : Bool → List ℕ
-  judged b = filter (λ m. not (differs b (accepting p m))) candidates
+  unfoldable pub candidates : ℕ → Bool → List ℕ
+  candidates r b = candidatesTo r (coloursOf p r) b
 
   -- the candidates for a root: the largest cycles of all
   unfoldable pub rootCandidates : List ℕ
-  rootCandidates = largestIn (full p)
+  rootCandidates = largestIn p (full p)
 
 -- ---- the children of a node on a list
 -- the largest of l properly inside n, in sibling order
@@ -60,3 +72,12 @@ childrenIn l n = inOrder (largest (filter (λ m. properly m n) l))
 -- the order that a search for them goes by: no member stands before one that it lies properly inside
 abbrev pub LargerFirst : List ℕ → Type 0
 LargerFirst l = (i j : ℕ) → i < j → j < length l → properly (getD l i 0) (getD l j 0) ≡ false
+
+-- what a search for nodes goes by: lists of accepting and of rejecting cycles of a legal policy, by the verdict v, each once and larger ones first, with the children of
+-- each of their members
+pub record Candidates (p : Policy) (a r : List ℕ) : Type 0 where
+  pub lawful : legal p ≡ true
+  pub are : (v : Bool) (x : ℕ) → List·Memᴰ x (cond v a r) → (isCycle p x ≡ true) × (accepting p x ≡ v)
+  pub ordered : (v : Bool) → Distinct (cond v a r) × LargerFirst (cond v a r)
+  pub closed : (v : Bool) (x c : ℕ) → List·Memᴰ x (cond v a r) → List·Memᴰ c (children p x) → List·Memᴰ c (cond v r a)
+  pub few : length a + length r ≤ 4096

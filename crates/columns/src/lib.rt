@@ -1,164 +1,140 @@
-// The columns of masks and parents: the candidates are listed, and the trees of the forest grown, with scratch of the size that a policy needs. Beside a policy stand
-// its arrays, lent: `heads` are the targets of its edges, `colours` their colours; `by` has the edges of each colour. Where a policy would be copied, its shape, its quiet
-// edges and its arrays stand for it.
+// The columns of masks and parents: the trees of the forest, grown with space of the size that a policy needs. For a policy stand its parts, as for growing: its counts, the
+// targets of its edges, the edges that leave and enter each state, those of each colour, and its family.
 ghost use mathlib.Core.Path.{_≡_};
 ghost use mathlib.Core.Bool.{true};
+ghost use mathlib.Core.List.{List};
+ghost use Prim.Native.Nat.{ℕ};
 ghost use lib.ListN.{length};
 ghost use Rattle.policy.specs.declared.Policy.{Policy};
-ghost use Rattle.policy.specs.Making.{fromParts};
 ghost use Rattle.policy.specs.Policies.{legal};
 ghost use Rattle.policy.specs.ByColour.{byColour};
-ghost use Rattle.candidates.specs.Candidates.{mostCandidates};
-ghost use Rattle.trees.specs.Growing.{ForestWritten};
-ghost use Rattle.columns.specs.CandidateScratch.{CandidateScratch};
+ghost use Rattle.candidates.specs.Candidates.{rootCandidates};
+ghost use Rattle.listing.specs.Listing.{PartsOf};
+ghost use Rattle.roots.specs.Roots.{Space, RootsWritten, ForestWritten};
 use policy::Policy;
-use policy::Shape;
+use roots::Progress;
 
-// How many candidates there can be.
-fn most_candidates(p: Policy) -> usize
-    requires { ⌜ legal p ≡ true ⌝ }
-    ensures { λ r. ⌜ r ≡ mostCandidates p ⌝ }
-{
-    p.states as usize * (1 << p.colours)
-}
-
-// With scratch that is enough. There are many parameters, here and below: the parts of the policy, the scratch, the tables.
-fn fill_with(
-    shape: Shape,
-    quiet: u64,
+// With the space that is lent where it is enough, and otherwise with more. A call that has much space is slow to begin, so it is made only for a policy that needs it; that this
+// function calls itself keeps the compiler from laying out the space of the larger policies for every one.
+fn fill_within(
+    states: usize,
+    letters: usize,
     heads: &[u8; 64],
-    colours: &[u8; 64],
+    out: &[u64; 16],
+    into: &[u64; 16],
     by: &[u64; 9],
     family: &[bool; 256],
+    roots: &[u64],
+    from: Progress,
     accepting: &mut [u64],
+    accepted: &mut [u8],
     rejecting: &mut [u64],
+    rejected: &mut [u8],
     scratch: &mut [u16],
     masks: &mut [u64],
     parents: &mut [u16],
 ) -> usize
-    ghost { Policy }
-    requires policy { λ p. ⌜ fromParts shape quiet (now heads) (now colours) (now family) ≡ p ⌝ }
-    requires lawful { λ p. ⌜ (legal p ≡ true) × (now by ≡ byColour p) ⌝ }
-    requires tables { λ _. ⌜ length (now parents) ≡ length (now masks) ⌝ }
-    requires space { λ p. ⌜ CandidateScratch p (mostCandidates p) (now accepting) (now rejecting) (now scratch) ⌝ }
-    ensures { λ p r. ⌜ ForestWritten p (now (masks .entry)) (now (parents .entry)) (now (masks .exit)) (now (parents .exit)) r ⌝ }
+    requires policy { ⌜ ((p : Policy) × (m₀ : List ℕ) × (r₀ : List ℕ) × PartsOf p states letters (now heads) (now out) (now into) (now by) × (now family ≡ p .family) × (now roots ≡ rootCandidates p) × RootsWritten p m₀ r₀ (now masks) (now parents) (from .next) (from .after)) ⌝ }
+    requires space { ⌜ Space (now accepting) (now accepted) (now rejecting) (now rejected) (now scratch) ⌝ }
+    ensures { λ r. ⌜ (((p : Policy) (m₀ r₀ : List ℕ) → PartsOf p states letters (now (heads .entry)) (now (out .entry)) (now (into .entry)) (now (by .entry)) → now (family .entry) ≡ p .family → now (roots .entry) ≡ rootCandidates p → RootsWritten p m₀ r₀ (now (masks .entry)) (now (parents .entry)) (from .next) (from .after) → ForestWritten p m₀ r₀ (now (masks .exit)) (now (parents .exit)) r)) ⌝ }
 {
-    let p = policy::from_parts(shape, quiet, heads, colours, family);
-    let mut roots = [0u64; 16];
-    let listed = candidates::fill_candidates(
-        p,
+    let grown = roots::grow_trees(
+        states,
+        letters,
         heads,
+        out,
+        into,
         by,
         family,
+        roots,
+        from,
         accepting,
+        accepted,
         rejecting,
-        &mut roots,
-    );
-    let accepted = listed.accepting;
-    let rejected = listed.rejecting;
-    let rooted = listed.roots;
-    trees::grow_roots(
-        p,
-        by,
-        family,
-        &accepting[..accepted],
-        &rejecting[..rejected],
-        &roots[..rooted],
+        rejected,
+        scratch,
         masks,
         parents,
-        scratch,
-    )
-}
-
-// With the scratch that is lent where it is enough, and otherwise with more. A call that has much scratch is slow to begin, so it is made only for a policy that needs
-// it; that this function calls itself keeps the compiler from laying out the scratch of the larger policies for every one.
-fn fill_within(
-    shape: Shape,
-    quiet: u64,
-    heads: &[u8; 64],
-    colours: &[u8; 64],
-    by: &[u64; 9],
-    family: &[bool; 256],
-    accepting: &mut [u64],
-    rejecting: &mut [u64],
-    scratch: &mut [u16],
-    masks: &mut [u64],
-    parents: &mut [u16],
-) -> usize
-    ghost { Policy }
-    requires policy { λ p. ⌜ fromParts shape quiet (now heads) (now colours) (now family) ≡ p ⌝ }
-    requires lawful { λ p. ⌜ (legal p ≡ true) × (now by ≡ byColour p) ⌝ }
-    requires tables { λ _. ⌜ length (now parents) ≡ length (now masks) ⌝ }
-    requires space { λ p. ⌜ CandidateScratch p (length (now accepting)) (now accepting) (now rejecting) (now scratch) ⌝ }
-    ensures { λ p r. ⌜ ForestWritten p (now (masks .entry)) (now (parents .entry)) (now (masks .exit)) (now (parents .exit)) r ⌝ }
-{
-    let p = policy::from_parts(shape, quiet, heads, colours, family);
-    let most = most_candidates(p);
-    if most <= accepting.len() {
-        return fill_with(
-            shape,
-            quiet,
-            heads,
-            colours,
-            by,
-            family,
-            accepting,
-            rejecting,
-            scratch,
-            masks,
-            parents,
-        );
+    );
+    if grown.done {
+        return grown.next;
     }
-    if most <= 256 {
+    if accepting.len() < 256 {
         let mut more_accepting = [0u64; 256];
+        let mut more_accepted = [0u8; 256];
         let mut more_rejecting = [0u64; 256];
-        let mut more_scratch = [0u16; 2816];
+        let mut more_rejected = [0u8; 256];
+        let mut more_scratch = [0u16; 3328];
         return fill_within(
-            shape,
-            quiet,
+            states,
+            letters,
             heads,
-            colours,
+            out,
+            into,
             by,
             family,
+            roots,
+            grown,
             &mut more_accepting,
+            &mut more_accepted,
             &mut more_rejecting,
+            &mut more_rejected,
             &mut more_scratch,
             masks,
             parents,
         );
     }
-    fill_large(shape, quiet, heads, colours, by, family, masks, parents)
+    fill_large(
+        states,
+        letters,
+        heads,
+        out,
+        into,
+        by,
+        family,
+        roots,
+        grown,
+        masks,
+        parents,
+    )
 }
 
-// With scratch for any policy.
+// With space for any policy.
 fn fill_large(
-    shape: Shape,
-    quiet: u64,
+    states: usize,
+    letters: usize,
     heads: &[u8; 64],
-    colours: &[u8; 64],
+    out: &[u64; 16],
+    into: &[u64; 16],
     by: &[u64; 9],
     family: &[bool; 256],
+    roots: &[u64],
+    from: Progress,
     masks: &mut [u64],
     parents: &mut [u16],
 ) -> usize
-    ghost { Policy }
-    requires policy { λ p. ⌜ fromParts shape quiet (now heads) (now colours) (now family) ≡ p ⌝ }
-    requires lawful { λ p. ⌜ (legal p ≡ true) × (now by ≡ byColour p) ⌝ }
-    requires tables { λ _. ⌜ length (now parents) ≡ length (now masks) ⌝ }
-    ensures { λ p r. ⌜ ForestWritten p (now (masks .entry)) (now (parents .entry)) (now (masks .exit)) (now (parents .exit)) r ⌝ }
+    requires { ⌜ ((p : Policy) × (m₀ : List ℕ) × (r₀ : List ℕ) × PartsOf p states letters (now heads) (now out) (now into) (now by) × (now family ≡ p .family) × (now roots ≡ rootCandidates p) × RootsWritten p m₀ r₀ (now masks) (now parents) (from .next) (from .after)) ⌝ }
+    ensures { λ r. ⌜ (((p : Policy) (m₀ r₀ : List ℕ) → PartsOf p states letters (now (heads .entry)) (now (out .entry)) (now (into .entry)) (now (by .entry)) → now (family .entry) ≡ p .family → now (roots .entry) ≡ rootCandidates p → RootsWritten p m₀ r₀ (now (masks .entry)) (now (parents .entry)) (from .next) (from .after) → ForestWritten p m₀ r₀ (now (masks .exit)) (now (parents .exit)) r)) ⌝ }
 {
     let mut accepting = [0u64; 4096];
+    let mut accepted = [0u8; 4096];
     let mut rejecting = [0u64; 4096];
+    let mut rejected = [0u8; 4096];
     let mut scratch = [0u16; 45056];
     fill_within(
-        shape,
-        quiet,
+        states,
+        letters,
         heads,
-        colours,
+        out,
+        into,
         by,
         family,
+        roots,
+        from,
         &mut accepting,
+        &mut accepted,
         &mut rejecting,
+        &mut rejected,
         &mut scratch,
         masks,
         parents,
@@ -170,45 +146,85 @@ fn fill_large(
 pub fn fill_columns(
     p: Policy,
     heads: &[u8; 64],
-    colours: &[u8; 64],
     by: &[u64; 9],
     family: &[bool; 256],
     masks: &mut [u64],
     parents: &mut [u16],
 ) -> usize
     requires lawful { ⌜ legal p ≡ true ⌝ }
-    requires lent { ⌜ (now heads ≡ p .target) × (now colours ≡ p .colour) × (now by ≡ byColour p) × (now family ≡ p .family) ⌝ }
+    requires lent { ⌜ (now heads ≡ p .target) × (now by ≡ byColour p) × (now family ≡ p .family) ⌝ }
     requires tables { ⌜ length (now parents) ≡ length (now masks) ⌝ }
     ensures { λ r. ⌜ ForestWritten p (now (masks .entry)) (now (parents .entry)) (now (masks .exit)) (now (parents .exit)) r ⌝ }
 {
-    let shape = policy::shape_of(p);
-    let mut accepting = [0u64; 32];
-    let mut rejecting = [0u64; 32];
-    let mut scratch = [0u16; 352];
-    if most_candidates(p) <= 32 {
-        return fill_with(
-            shape,
-            p.quiet,
+    let states = p.states as usize;
+    let letters = p.letters as usize;
+    let n = policy::edges(p);
+    let out = graph::edges_out(states, letters);
+    let into = graph::edges_into(heads, n);
+    let mut rows = [0u16; 16];
+    let mut roots = [0u64; 16];
+    let rooted = components::fill_cycles(
+        states,
+        letters,
+        heads,
+        &out,
+        &into,
+        masks::full(n),
+        &mut rows,
+        &mut roots,
+    );
+    if (states <= 4) & (p.colours <= 3) {
+        let mut accepting = [0u64; 24];
+        let mut accepted = [0u8; 24];
+        let mut rejecting = [0u64; 24];
+        let mut rejected = [0u8; 24];
+        let mut scratch = [0u16; 312];
+        return fill_within(
+            states,
+            letters,
             heads,
-            colours,
+            &out,
+            &into,
             by,
             family,
+            &roots[..rooted],
+            Progress {
+                next: 0,
+                after: 0,
+                done: false,
+            },
             &mut accepting,
+            &mut accepted,
             &mut rejecting,
+            &mut rejected,
             &mut scratch,
             masks,
             parents,
         );
     }
+    let mut accepting = [0u64; 64];
+    let mut accepted = [0u8; 64];
+    let mut rejecting = [0u64; 64];
+    let mut rejected = [0u8; 64];
+    let mut scratch = [0u16; 832];
     fill_within(
-        shape,
-        p.quiet,
+        states,
+        letters,
         heads,
-        colours,
+        &out,
+        &into,
         by,
         family,
+        &roots[..rooted],
+        Progress {
+            next: 0,
+            after: 0,
+            done: false,
+        },
         &mut accepting,
+        &mut accepted,
         &mut rejecting,
+        &mut rejected,
         &mut scratch,
         masks,
         parents,

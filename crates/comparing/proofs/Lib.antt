@@ -2,3 +2,4 @@ pub mod Meaning
 pub mod Pairs
 pub mod Searches
 pub mod Answers
+pub mod Subsets

@@ -1,6 +1,7 @@
 -- Which pairs of colour sets are searched for a cycle, and by which tables: a pair is searched only if the verdicts differ and its edges have all of its colours, in p
 -- already those in the colours c alone; any other pair agrees. Assumes nothing.
-use Prim.Native.Nat.{ℕ, _^_}
+use Prim.Native.Nat.{ℕ, _^_, _<_}
+use native.Mathlib.Omega.{arith}
 use mathlib.Core.Path.{_≡_, refl, sym, ap, ap₂, _∙_, subst}
 use mathlib.Core.Logic.{_⊎_, inl, inr, _≢_}
 use mathlib.Core.Bool.{Bool, true, false, not, _&&_, _||_, true≢false, Bool·beq}
@@ -9,15 +10,16 @@ use lib.Bits.{bitAnd}
 use lib.Dec.{eqb}
 use lib.ListN.{getD}
 use Rattle.lists.specs.Lists.{below}
-use Rattle.lists.proofs.Bools.{test, and-l, and-absent, and-implied}
+use Rattle.lists.proofs.Bools.{test, and-l, and-absent}
 use Rattle.lists.proofs.Lists.{each-all}
+use Rattle.lists.proofs.AnyAll.{all-not}
 use Rattle.lists.specs.Bools.{differs}
 use Rattle.masks.specs.Masks.{inside}
-use Rattle.masks.proofs.Bits.{inside-antisym}
+use Rattle.masks.proofs.Bits.{inside-antisym, inside-le}
 use Rattle.policy.specs.declared.Policy.{Policy}
-use Rattle.policy.specs.Policies.{coloursOf, inFamily}
+use Rattle.policy.specs.Policies.{coloursOf, inFamily, legal}
 use Rattle.policy.specs.ByColour.{edgesIn, tableEdges, tableColours}
-use Rattle.policy.proofs.Laws.{colours-up}
+use Rattle.policy.proofs.Laws.{colours-up, colours-lt}
 use Rattle.policy.proofs.ByColour.{table-edges-are, table-colours-are, edges-in-colours}
 use Rattle.comparing.specs.Pairs.{ColourTables, pairEdges, exactly, noCycle, needsSearch, pairAgrees, setAgrees, exactlyBy, needsSearchBy}
 use Rattle.comparing.proofs.Pairs.{pair-inside-p, exactly-p, exactly-q, none-missing}
@@ -59,6 +61,30 @@ module _ (p q : Policy) where
       none d (inl t) = absurd (h (whole-p c d t))
       none d (inr f) = f
 
+  -- ---- the colours in use: those that the edges in the colours c have in q
+  -- a set with another colour agrees
+  outside-agrees : (c d : ℕ) → inside d (coloursOf q (edgesIn p c)) ≡ false → pairAgrees p q c d ≡ true
+  unfolding needsSearch
+  outside-agrees c d f = unsearched-agrees c d (and-absent (differs (inFamily p c) (inFamily q d)) (exactly p q c d (pairEdges p q c d)) (none (test (exactly p q c d (pairEdges p q c d)))))
+    where
+      none : (exactly p q c d (pairEdges p q c d) ≡ true) ⊎ (exactly p q c d (pairEdges p q c d) ≡ false) → exactly p q c d (pairEdges p q c d) ≡ false
+      none (inl t) = absurd (true≢false (sym (whole-q c d t) ∙ f))
+      none (inr z) = z
+
+  -- so it is enough that each set of them does
+  pub used-agrees : (c used : ℕ) → used ≡ coloursOf q (edgesIn p c) → ((d : ℕ) → inside d used ≡ true → pairAgrees p q c d ≡ true) → setAgrees p q c ≡ true
+  unfolding setAgrees
+  used-agrees c used e h = each-all (pairAgrees p q c) (below (2 ^ q .colours)) (λ d _. go d (test (inside d used)))
+    where
+      go : (d : ℕ) → (inside d used ≡ true) ⊎ (inside d used ≡ false) → pairAgrees p q c d ≡ true
+      go d (inl t) = h d t
+      go d (inr f) = outside-agrees c d (ap (inside d) (sym e) ∙ f)
+
+  -- and c does not agree if one of them does not
+  pub used-not : legal q ≡ true → (c used d : ℕ) → used ≡ coloursOf q (edgesIn p c) → inside d used ≡ true → pairAgrees p q c d ≡ false → setAgrees p q c ≡ false
+  unfolding setAgrees
+  used-not ok c used d e i f = all-not (pairAgrees p q c) (2 ^ q .colours) d (omega (arith, inside-le d used i, subst (λ (k : ℕ). k < 2 ^ q .colours) (sym e) (colours-lt q ok (edgesIn p c)))) f
+
   -- ---- by the tables
   module _ (t u : List ℕ) (k : ColourTables p q t u) where
     pub edges-p : (c : ℕ) → tableEdges t c ≡ edgesIn p c
@@ -82,13 +108,10 @@ module _ (p q : Policy) where
     unfolding exactlyBy exactly
     exactly-by c d m = ap₂ (λ (a b : ℕ). eqb a c && eqb b d) (colours-p m) (colours-q m)
 
-    pub search-by : (c d : ℕ) (b : Bool) (m s : ℕ) → b ≡ inFamily p c → m ≡ tableEdges t c → s ≡ tableColours u m → needsSearchBy t u (q .family) b m s c d ≡ needsSearch p q c d
+    pub search-by : (c d : ℕ) (b : Bool) (m : ℕ) → b ≡ inFamily p c → m ≡ tableEdges t c → needsSearchBy t u (q .family) b m c d ≡ needsSearch p q c d
     unfolding needsSearchBy needsSearch inFamily
-    search-by c d b m s verdict is used =
-        ap₂ (λ (x : Bool) (y : Bool). x && inside d s && y) (ap (λ (x : Bool). differs x (getD (q .family) d false)) verdict)
-        (exactly-by c d (bitAnd m (tableEdges u d)) ∙ ap (exactly p q c d) (ap (λ (x : ℕ). bitAnd x (tableEdges u d)) is ∙ pair-edges-by c d))
-        ∙ and-implied (differs (inFamily p c) (inFamily q d)) (inside d s) (exactly p q c d (pairEdges p q c d))
-        (λ e. ap (inside d) (used ∙ colours-q m ∙ ap (coloursOf q) (is ∙ edges-p c)) ∙ whole-q c d e)
+    search-by c d b m verdict is =
+        ap₂ _&&_ (ap (λ (x : Bool). differs x (getD (q .family) d false)) verdict) (exactly-by c d (bitAnd m (tableEdges u d)) ∙ ap (exactly p q c d) (ap (λ (x : ℕ). bitAnd x (tableEdges u d)) is ∙ pair-edges-by c d))
 
 -- ---- the tests in the code
 same-is : (a b : Bool) → differs b a ≡ not (Bool·beq a b)
@@ -97,22 +120,13 @@ same-is true false = refl
 same-is false true = refl
 same-is false false = refl
 
-module _ (t u : List ℕ) (f : List Bool) (b : Bool) (m s c d : ℕ) where
+module _ (t u : List ℕ) (f : List Bool) (b : Bool) (m c d : ℕ) where
   -- one verdict in both
-  pub by-one : Bool·beq (getD f d false) b ≡ true → needsSearchBy t u f b m s c d ≡ false
+  pub by-one : Bool·beq (getD f d false) b ≡ true → needsSearchBy t u f b m c d ≡ false
   unfolding needsSearchBy
   by-one h = rw (same-is (getD f d false) b, h) refl
 
-  -- two verdicts, and d has a colour that none of the edges m has in q
-  pub by-outside : inside d s ≡ false → needsSearchBy t u f b m s c d ≡ false
+  -- two verdicts
+  pub by-two : Bool·beq (getD f d false) b ≡ false → needsSearchBy t u f b m c d ≡ exactlyBy t u c d (bitAnd m (tableEdges u d))
   unfolding needsSearchBy
-  by-outside h = go (differs b (getD f d false)) (exactlyBy t u c d (bitAnd m (tableEdges u d)))
-    where
-      go : (x y : Bool) → x && inside d s && y ≡ false
-      go true y = rw h refl
-      go false y = refl
-
-  -- two verdicts, and d has only such colours
-  pub by-two : Bool·beq (getD f d false) b ≡ false → inside d s ≡ true → needsSearchBy t u f b m s c d ≡ exactlyBy t u c d (bitAnd m (tableEdges u d))
-  unfolding needsSearchBy
-  by-two h i = rw (same-is (getD f d false) b, h, i) refl
+  by-two h = rw (same-is (getD f d false) b, h) refl

@@ -9,11 +9,10 @@ use lib.Dec.{eqb}
 use lib.ListN.{getD}
 use Rattle.lists.specs.Lists.{all, below}
 use Rattle.lists.specs.Bools.{differs}
-use Rattle.masks.specs.Masks.{inside}
 use Rattle.policy.specs.declared.Policy.{Policy}
 use Rattle.policy.specs.Policies.{coloursOf, inFamily, legal}
 use Rattle.policy.specs.ByColour.{byColour, tableEdges, tableColours, edgesIn}
-use Rattle.graph.specs.Through.{cycleThrough}
+use Rattle.graph.specs.Through.{GraphOf, EndsOf, cycleThrough}
 use Rattle.graph.specs.SameGraph.{sameGraph}
 
 module _ (p q : Policy) where
@@ -28,6 +27,18 @@ module _ (p q : Policy) where
     pub comparable : Comparable
     pub of-p : t ≡ byColour p
     pub of-q : u ≡ byColour q
+
+  -- what a search for cycles goes by: these, the graph of p, and the edges that leave and enter each state
+  pub record Searchable (states letters : ℕ) (heads out into t u : List ℕ) : Type 0 where
+    pub tables : ColourTables t u
+    pub graph : GraphOf p states letters heads
+    pub ends : EndsOf p out into
+
+  -- what is asked of the set c of p's colours: b is its verdict, and f the family of q
+  pub record Asked (states letters : ℕ) (heads out into t u : List ℕ) (f : List Bool) (c : ℕ) (b : Bool) : Type 0 where
+    pub search : Searchable states letters heads out into t u
+    pub family-is : f ≡ q .family
+    pub verdict-is : b ≡ inFamily p c
 
   -- ---- one pair of colour sets
   -- the edges with colours in c, in p, and in d, in q
@@ -68,6 +79,6 @@ sameHead t u e = eqb (getD t e 0) (getD u e 0)
 unfoldable pub exactlyBy : List ℕ → List ℕ → ℕ → ℕ → ℕ → Bool
 exactlyBy t u c d m = eqb (tableColours t m) c && eqb (tableColours u m) d
 
--- b is the verdict of c in p, f the family of q; m is the edges of p in the colours c, and s their colours in q
-unfoldable pub needsSearchBy : List ℕ → List ℕ → List Bool → Bool → ℕ → ℕ → ℕ → ℕ → Bool
-needsSearchBy t u f b m s c d = differs b (getD f d false) && inside d s && exactlyBy t u c d (bitAnd m (tableEdges u d))
+-- b is the verdict of c in p, f the family of q, and m the edges of p in the colours c
+unfoldable pub needsSearchBy : List ℕ → List ℕ → List Bool → Bool → ℕ → ℕ → ℕ → Bool
+needsSearchBy t u f b m c d = differs b (getD f d false) && exactlyBy t u c d (bitAnd m (tableEdges u d))

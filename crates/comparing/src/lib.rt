@@ -2,13 +2,13 @@
 // where the two differ, the largest cycles of the edges with these colours tell whether there is such a cycle. The edges of each policy are taken by colour once.
 ghost use mathlib.Core.Path.{_≡_};
 ghost use mathlib.Core.Bool.{true};
-ghost use Prim.Native.Nat.{_<_, _≤_, _^_};
+ghost use Prim.Native.Nat.{_≤_, _^_};
 ghost use lib.ListN.{length};
-ghost use Rattle.policy.specs.Policies.{inFamily, legal};
-ghost use Rattle.graph.specs.Through.{Rows};
+ghost use Rattle.policy.specs.Policies.{legal};
+ghost use Rattle.policy.specs.declared.Policy.{Policy};
 ghost use Rattle.graph.specs.SameGraph.{sameGraph, sameTargets};
 ghost use Rattle.comparing.specs.Comparing.{Compares};
-ghost use Rattle.comparing.specs.Pairs.{Comparable, ColourTables, pairEdges, exactlyBy, needsSearchBy, noCycleAt, noCycle, setAgrees, pairsAgree};
+ghost use Rattle.comparing.specs.Pairs.{Comparable, Searchable, Asked, exactlyBy, needsSearchBy, noCycle, setAgrees, pairsAgree};
 use policy::Policy;
 
 // Whether every cycle has the same verdict in both; or document 01's number.
@@ -54,80 +54,64 @@ fn has_same_graph(p: Policy, q: Policy, heads: &[u8; 64], others: &[u8; 64]) -> 
 fn has_exactly(t: &[u64; 9], u: &[u64; 9], c: u8, d: u8, m: u64) -> bool
     ensures { λ r. ⌜ r ≡ exactlyBy (now (t .entry)) (now (u .entry)) c d m ⌝ }
 {
-    (policy::colours_in(t, m) == c) & (policy::colours_in(u, m) == d)
-}
-
-// Whether no cycle through v has exactly these colours. m is the edges with these colours; the heads are the targets of p's edges, and the rows are those of m. Every
-// table is lent by itself, and q is there for the contract: that makes ten parameters here, and nine in set_agrees.
-fn has_no_cycle_at(
-    p: Policy,
-    q: Policy,
-    heads: &[u8; 64],
-    rows: &[u64; 16],
-    t: &[u64; 9],
-    u: &[u64; 9],
-    c: u8,
-    d: u8,
-    m: u64,
-    v: usize,
-) -> bool
-    requires { ⌜ ColourTables p q (now t) (now u) × (m ≡ pairEdges p q c d) × (now heads ≡ p .target) × Rows p m (now rows) × (v < p .states) ⌝ }
-    ensures { λ r. ⌜ r ≡ noCycleAt p q c d v ⌝ }
-{
-    let x = graph::cycle_through(p, heads, rows, m, v);
-    if x == 0 {
-        return true;
+    if policy::colours_in(t, m) != c {
+        return false;
     }
-    !has_exactly(t, u, c, d, x)
+    policy::colours_in(u, m) == d
 }
 
-// Whether no cycle has exactly these colours. The rows are space that is lent.
+// Whether no cycle has exactly these colours. The graph is p's, and the heads are the targets of its edges; `out` and `into`
+// are the edges that leave and enter each state. The rows are space that is lent, and `left` has the states on cycles that
+// are on none of those looked at. Every table is lent by itself: that makes ten parameters here, and eleven in set_agrees.
 fn has_no_cycle(
-    p: Policy,
-    q: Policy,
+    states: usize,
+    letters: usize,
     heads: &[u8; 64],
-    rows: &mut [u64; 16],
+    out: &[u64; 16],
+    into: &[u64; 16],
+    rows: &mut [u16; 16],
     t: &[u64; 9],
     u: &[u64; 9],
     c: u8,
     d: u8,
 ) -> bool
-    requires { ⌜ ColourTables p q (now t) (now u) × (now heads ≡ p .target) × (length (now rows) ≡ 16) ⌝ }
-    ensures { λ r. ⌜ (r ≡ noCycle p q c d) × (length (now (rows .exit)) ≡ 16) ⌝ }
+    requires { ⌜ ((p : Policy) × (q : Policy) × Searchable p q states letters (now heads) (now out) (now into) (now t) (now u)) × (length (now rows) ≡ 16) ⌝ }
+    ensures { λ r. ⌜ ((p q : Policy) → Searchable p q states letters (now (heads .entry)) (now (out .entry)) (now (into .entry)) (now (t .entry)) (now (u .entry)) → r ≡ noCycle p q c d) × (length (now (rows .exit)) ≡ 16) ⌝ }
 {
-    let n = p.states as usize;
     let m = masks::both(policy::edges_in(t, c), policy::edges_in(u, d));
-    graph::reach_all(p, heads, m, rows);
-    for v in 0..n {
-        if !has_no_cycle_at(p, q, heads, rows, t, u, c, d, m, v) {
-            return false;
+    graph::reach_all(states, letters, heads, m, rows);
+    let mut left = graph::states_on_cycles(states, rows);
+    for v in 0..states {
+        if masks::has(left, v) {
+            let s = graph::cycle_states(rows, v);
+            let x = graph::edges_between(states, out, into, m, s);
+            if has_exactly(t, u, c, d, x) {
+                return false;
+            }
+            left = masks::without(left, s);
         }
     }
     true
 }
 
 // Whether the verdicts differ, and the edges with these colours have all of them; where they have not, there is no cycle with exactly these. m is the edges of p in the
-// colours c, used their colours in q, and verdict that of c; family is q's.
+// colours c, and verdict that of c; family is q's.
 fn needs_search(
     t: &[u64; 9],
     u: &[u64; 9],
     family: &[bool; 256],
     verdict: bool,
     m: u64,
-    used: u8,
     c: u8,
     d: u8,
 ) -> bool
-    ensures { λ r. ⌜ r ≡ needsSearchBy (now (t .entry)) (now (u .entry)) (now (family .entry)) verdict m used c d ⌝ }
+    ensures { λ r. ⌜ r ≡ needsSearchBy (now (t .entry)) (now (u .entry)) (now (family .entry)) verdict m c d ⌝ }
 {
     if family[d as usize] == verdict {
         return false;
     }
-    if masks::set_inside(d, used) {
-        let x = masks::both(m, policy::edges_in(u, d));
-        return has_exactly(t, u, c, d, x);
-    }
-    false
+    let x = masks::both(m, policy::edges_in(u, d));
+    has_exactly(t, u, c, d, x)
 }
 
 // ---- all pairs
@@ -140,36 +124,41 @@ fn sets(n: u8) -> usize
     1 << n
 }
 
-// Whether c agrees with every set of q's colours: the cycles with exactly these colours, if there are any, have the same verdict in both. verdict is that of c, and
-// family is q's.
+// Whether c agrees with every set of q's colours: the cycles with exactly these colours, if there are any, have the same verdict in both. Only sets of the colours in
+// use have to be looked at, those that the edges in the colours c have in q: each is the largest below the one before. verdict is that of c, and family is q's.
 fn set_agrees(
-    p: Policy,
-    q: Policy,
+    states: usize,
+    letters: usize,
     heads: &[u8; 64],
+    out: &[u64; 16],
+    into: &[u64; 16],
     family: &[bool; 256],
-    rows: &mut [u64; 16],
+    rows: &mut [u16; 16],
     t: &[u64; 9],
     u: &[u64; 9],
     c: u8,
     verdict: bool,
 ) -> bool
-    requires { ⌜ ColourTables p q (now t) (now u) × (now heads ≡ p .target) × (now family ≡ q .family) × (verdict ≡ inFamily p c) × (length (now rows) ≡ 16) ⌝ }
-    ensures { λ r. ⌜ (r ≡ setAgrees p q c) × (length (now (rows .exit)) ≡ 16) ⌝ }
+    requires { ⌜ ((p : Policy) × (q : Policy) × Asked p q states letters (now heads) (now out) (now into) (now t) (now u) (now family) c verdict) × (length (now rows) ≡ 16) ⌝ }
+    ensures { λ r. ⌜ ((p q : Policy) → Asked p q states letters (now (heads .entry)) (now (out .entry)) (now (into .entry)) (now (t .entry)) (now (u .entry)) (now (family .entry)) c verdict → r ≡ setAgrees p q c) × (length (now (rows .exit)) ≡ 16) ⌝ }
 {
     let m = policy::edges_in(t, c);
     if policy::colours_in(t, m) != c {
         return true;
     }
     let used = policy::colours_in(u, m);
-    let n = sets(q.colours);
-    for d in 0..n {
-        if needs_search(t, u, family, verdict, m, used, c, d as u8) {
-            if !has_no_cycle(p, q, heads, rows, t, u, c, d as u8) {
+    let mut d = used;
+    loop {
+        if needs_search(t, u, family, verdict, m, c, d) {
+            if !has_no_cycle(states, letters, heads, out, into, rows, t, u, c, d) {
                 return false;
             }
         }
+        if d == 0 {
+            return true;
+        }
+        d = (d - 1) & used;
     }
-    true
 }
 
 // Whether every pair agrees. The heads, the colours and the family are p's; the colours2 are q's colours, and the family2 is q's family.
@@ -187,11 +176,27 @@ fn pairs_agree<'a, 'b>(
 {
     let t = policy::by_colour(p, colours);
     let u = policy::by_colour(q, colours2);
-    let mut rows = [0u64; 16];
+    let states = p.states as usize;
+    let letters = p.letters as usize;
+    let out = graph::edges_out(states, letters);
+    let into = graph::edges_into(heads, policy::edges(p));
+    let mut rows = [0u16; 16];
     let n = sets(p.colours);
     for c in 0..n {
         let verdict = family[c];
-        if !set_agrees(p, q, heads, family2, &mut rows, &t, &u, c as u8, verdict) {
+        if !set_agrees(
+            states,
+            letters,
+            heads,
+            &out,
+            &into,
+            family2,
+            &mut rows,
+            &t,
+            &u,
+            c as u8,
+            verdict,
+        ) {
             return false;
         }
     }

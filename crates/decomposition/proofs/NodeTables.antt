@@ -14,7 +14,7 @@ use Rattle.tables.proofs.Columns.{column-padded, sets-cleared}
 use Rattle.policy.specs.declared.Policy.{Policy}
 use Rattle.forest.specs.Forest.{forest, transientPriority, nodeMasks, nodeParents, nodePriorities, forestFits}
 use Rattle.forest.proofs.Columns.{length-masks, length-parents}
-use Rattle.trees.specs.Growing.{ForestWritten}
+use Rattle.roots.specs.Roots.{ForestWritten}
 use Rattle.decomposition.specs.declared.Filled.the-variants.{Nodes, TooMany}
 use Rattle.decomposition.specs.NodeTables.{NodeColumns, nodeTables, fillingOf, refusalOf, countAfter, lowestAfter, filledOf, Fills}
 

@@ -1,32 +1,29 @@
--- The table of what each state reaches: after the rows are joined at every state, row v is what v reaches. Joining at k leaves each row
--- closed by way of the states up to k, so that no round has to be repeated. Then one turn of each loop of the code, and the ranges that a
--- legal policy gives it. Assumes nothing.
-use Prim.Native.Nat.{ℕ, zero, suc, _+_, _-_, _*_, _%_, _≤_, _<_}
+-- The table of what each state reaches by one edge or more: after the rows are joined at every state, row v is what v reaches. Joining at k
+-- leaves each row closed by way of the states up to k, so that no round has to be repeated. Then one turn of each loop of the code, and the
+-- ranges that a legal policy gives it. Assumes nothing.
+use Prim.Native.Nat.{ℕ, zero, suc, _+_, _*_, _%_, _^_, _≤_, _<_}
 use native.Mathlib.Omega.{arith}
-use native.Mathlib.Decide.{ℕ-discrete, decLt}
-use native.Mathlib.Nat.{mod-lt, div-add-mod', mul-le-mul-right, zero-mul, suc-mul, add-zero}
+use native.Mathlib.Decide.{ℕ-discrete}
+use native.Mathlib.Nat.{mod-lt, div-add-mod', mul-le-mul-right, suc-mul}
 use native.Mathlib.Numerals.{add-one}
 use mathlib.Core.Path.{_≡_, refl, sym, ap, _∙_, subst}
 use mathlib.Core.Logic.{_⊎_, inl, inr}
-use mathlib.Core.Bool.{Bool, true, false, _&&_, cond, and-true, and-false, false≢true}
-use mathlib.Core.List.{List, [], _∷_, _++_, map, List·Memᴰ}
+use mathlib.Core.Bool.{Bool, true, false, cond, false≢true}
+use mathlib.Core.List.{List, [], _∷_}
 use lib.Bits.{bitOr}
-use lib.ListN.{length, getD, set, length-set, drop, length-append, length-drop, List·getD-append}
-use lib.Seq.{getD-set-same, getD-set-other, ext-getD, getD-append-add, getD-drop}
-use Rattle.lists.proofs.Bools.{test, or-cases, or-left, or-right, and-l, and-r, both, bool-ext}
-use Rattle.lists.specs.Lists.{below}
-use Rattle.lists.proofs.Lists.{length-map-below, getD-map-below}
-use Rattle.masks.specs.Masks.{has, insert, maskOf, members}
-use Rattle.masks.proofs.MaskOf.{mask-of-none, mask-of-in, mask-of-out, has-mask-of, mask-of-some}
-use Rattle.masks.proofs.Bits.{has-none, has-or, mask-ext}
-use Rattle.masks.proofs.Members.{insert-cases, insert-keeps, insert-adds, members-has, members-lt}
+use lib.ListN.{length, getD, set, length-set}
+use lib.Seq.{getD-set-same, getD-set-other}
+use Rattle.lists.proofs.Bools.{test, or-cases, or-left, or-right, bool-ext}
+use Rattle.masks.specs.Masks.{has, insert, members}
+use Rattle.masks.proofs.Bits.{has-none, has-or, mask-ext, insert-lt}
+use Rattle.masks.proofs.Members.{insert-cases, insert-keeps, insert-adds, members-has, members-lt, has-members}
 use Rattle.policy.specs.declared.Policy.{Policy}
 use Rattle.policy.specs.Policies.{edges, edgeOf, source, targetOf, legal}
-use Rattle.policy.proofs.Laws.{legal-counts, edges-le, legal-target, source-edge, edge-lt, source-lt}
-use Rattle.graph.specs.Cycles.{Path, reach}
-use Rattle.graph.specs.Through.{cycleThrough, Rows, withTarget, edgeRow, edgeRows, AreStates, joinRow, joinRows, joinedRows, mutualTo, inner, innerTo, reachRows}
-use Rattle.graph.proofs.Paths.{reach-sound, reach-complete}
-use Rattle.graph.proofs.Through.{Leads, leads-join, leads-edge, through-some, some-through}
+use Rattle.policy.proofs.Laws.{legal-counts, legal-target, source-edge, edge-lt}
+use Rattle.graph.specs.Cycles.{Path}
+use Rattle.graph.specs.Through.{GraphOf, Rows, onward, withTarget, edgeRow, edgeRows, AreStates, joinRow, joinRows, joinedRows}
+use Rattle.graph.proofs.Cycles.{Targets}
+use Rattle.graph.proofs.Onward.{Onward, onward-trans, onward-some, some-onward}
 
 -- ---- a row joined at k
 join-cases : (row k pivot x : ℕ) → has (joinRow row k pivot) x ≡ true → (has row x ≡ true) ⊎ ((has row k ≡ true) × (has pivot x ≡ true))
@@ -133,11 +130,6 @@ unfolding joinedRows
 joined-length rows n zero = refl
 joined-length rows n (suc k) = join-length (joinedRows rows n k) k (getD (joinedRows rows n k) k 0) n ∙ joined-length rows n k
 
-joined-after : (rows : List ℕ) (n k u : ℕ) → n ≤ u → getD (joinedRows rows n k) u 0 ≡ getD rows u 0
-unfolding joinedRows
-joined-after rows n zero u l = refl
-joined-after rows n (suc k) u l = join-after (joinedRows rows n k) k (getD (joinedRows rows n k) k 0) n u l ∙ joined-after rows n k u l
-
 joined-next : (rows : List ℕ) (n : ℕ) → n ≤ length rows → (k u : ℕ) → u < n
     → getD (joinedRows rows n (suc k)) u 0 ≡ joinRow (getD (joinedRows rows n k) u 0) k (getD (joinedRows rows n k) k 0)
 unfolding joinedRows
@@ -148,11 +140,6 @@ module _ (rows t : List ℕ) (l m : ℕ) where
   unfolding edgeRows
   edge-rows-length zero = refl
   edge-rows-length (suc n) = simp length-set (edge-rows-length n)
-
-  edge-rows-after : (n u : ℕ) → n ≤ u → getD (edgeRows rows t l m n) u 0 ≡ getD rows u 0
-  unfolding edgeRows
-  edge-rows-after zero u k = refl
-  edge-rows-after (suc n) u k = getD-set-other (edgeRows rows t l m n) n u _ 0 (λ q. omega arith) ∙ edge-rows-after n u (omega arith)
 
   edge-rows-at : (n v : ℕ) → n ≤ length rows → v < n → getD (edgeRows rows t l m n) v 0 ≡ edgeRow t l m v l
   unfolding edgeRows
@@ -165,20 +152,11 @@ module _ (rows t : List ℕ) (l m : ℕ) where
           ∙ ap (λ (z : ℕ). edgeRow t l m z l) (sym q)
       go (no q) ih = getD-set-other (edgeRows rows t l m n) n v (edgeRow t l m n l) 0 q ∙ ih (omega arith)
 
-rows-long : (rows t : List ℕ) (l m i n k : ℕ) → length (joinedRows (edgeRows rows t l m i) n k) ≡ length rows
+pub rows-long : (rows t : List ℕ) (l m i n k : ℕ) → length (joinedRows (edgeRows rows t l m i) n k) ≡ length rows
 rows-long rows t l m i n k = joined-length (edgeRows rows t l m i) n k ∙ edge-rows-length rows t l m i
 
 module _ (p : Policy) (m : ℕ) where
-  -- ---- a first row: the state, and the targets of its edges in m
-  edge-row-self : (v a : ℕ) → has (edgeRow (p .target) (p .letters) m v a) v ≡ true
-  unfolding edgeRow withTarget edgeOf targetOf
-  edge-row-self v zero = insert-adds 0 v
-  edge-row-self v (suc a) = go (has m (edgeOf p v a)) (edge-row-self v a)
-    where
-      go : (b : Bool) → has (edgeRow (p .target) (p .letters) m v a) v ≡ true → has (cond b (insert (edgeRow (p .target) (p .letters) m v a) (targetOf p (edgeOf p v a))) (edgeRow (p .target) (p .letters) m v a)) v ≡ true
-      go true h = insert-keeps (edgeRow (p .target) (p .letters) m v a) (targetOf p (edgeOf p v a)) v h
-      go false h = h
-
+  -- ---- a first row: the targets of the edges in m
   edge-row-has : (v a b : ℕ) → b < a → has m (edgeOf p v b) ≡ true → has (edgeRow (p .target) (p .letters) m v a) (targetOf p (edgeOf p v b)) ≡ true
   unfolding edgeRow withTarget edgeOf targetOf
   edge-row-has v zero b l t = absurd (omega arith)
@@ -195,52 +173,49 @@ module _ (p : Policy) (m : ℕ) where
       go (yes q) ih = rw (← q, t) (insert-adds (edgeRow (p .target) (p .letters) m v b) (targetOf p e))
       go (no q) ih = keep (has m (edgeOf p v a)) (targetOf p (edgeOf p v a)) (ih (omega arith) t)
 
-  edge-row-cases : (v a x : ℕ) → has (edgeRow (p .target) (p .letters) m v a) x ≡ true → (v ≡ x) ⊎ ((b : ℕ) × (b < a) × (has m (edgeOf p v b) ≡ true) × (targetOf p (edgeOf p v b) ≡ x))
+  edge-row-cases : (v a x : ℕ) → has (edgeRow (p .target) (p .letters) m v a) x ≡ true → (b : ℕ) × (b < a) × (has m (edgeOf p v b) ≡ true) × (targetOf p (edgeOf p v b) ≡ x)
   unfolding edgeRow withTarget edgeOf targetOf
-  edge-row-cases v zero x h = go (insert-cases 0 v x h)
-    where
-      go : (has 0 x ≡ true) ⊎ (v ≡ x) → (v ≡ x) ⊎ ((b : ℕ) × (b < 0) × (has m (edgeOf p v b) ≡ true) × (targetOf p (edgeOf p v b) ≡ x))
-      go (inl t) = absurd (false≢true (sym (has-none x) ∙ t))
-      go (inr q) = inl q
+  edge-row-cases v zero x h = absurd (false≢true (sym (has-none x) ∙ h))
   edge-row-cases v (suc a) x h = go (test (has m (edgeOf p v a))) (edge-row-cases v a x)
     where
       From : ℕ → Type 0
-      From k = (v ≡ x) ⊎ ((b : ℕ) × (b < k) × (has m (edgeOf p v b) ≡ true) × (targetOf p (edgeOf p v b) ≡ x))
+      From k = (b : ℕ) × (b < k) × (has m (edgeOf p v b) ≡ true) × (targetOf p (edgeOf p v b) ≡ x)
 
       up : From a → From (suc a)
-      up (inl q) = inl q
-      up (inr r) = inr (r .0, omega (arith, r .1), r .2, r .3)
+      up r = (r .0, omega (arith, r .1), r .2, r .3)
 
       new : has m (edgeOf p v a) ≡ true → (has (edgeRow (p .target) (p .letters) m v a) x ≡ true → From a) → (has (edgeRow (p .target) (p .letters) m v a) x ≡ true) ⊎ (targetOf p (edgeOf p v a) ≡ x) → From (suc a)
       new t ih (inl k) = up (ih k)
-      new t ih (inr k) = inr (a, omega arith, t, k)
+      new t ih (inr k) = (a, omega arith, t, k)
 
       go : (has m (edgeOf p v a) ≡ true) ⊎ (has m (edgeOf p v a) ≡ false) → (has (edgeRow (p .target) (p .letters) m v a) x ≡ true → From a) → From (suc a)
       go (inl t) ih = new t ih (insert-cases (edgeRow (p .target) (p .letters) m v a) (targetOf p (edgeOf p v a)) x (rw t at h))
       go (inr k) ih = up (ih (rw k at h))
 
   -- ---- the rows joined at every state are what each state reaches
-  module _ (ok : legal p ≡ true) (rows : List ℕ) (room : p .states ≤ length rows) where
+  module _ (ok : legal p ≡ true) (rows : List ℕ) (room : 16 ≤ length rows) where
+    targets : Targets p
+    targets e l = legal-target p ok e l
+
+    first : List ℕ
+    first = edgeRows rows (p .target) (p .letters) m (p .states)
+
     -- row u, joined at the states below k
     row : ℕ → ℕ → ℕ
-    row k u = getD (joinedRows (edgeRows rows (p .target) (p .letters) m (p .states)) (p .states) k) u 0
+    row k u = getD (joinedRows first 16 k) u 0
 
     next : (k u : ℕ) → k < p .states → u < p .states → row (suc k) u ≡ joinRow (row k u) k (row k k)
-    unfolding row
-    next k u lk lu = joined-next (edgeRows rows (p .target) (p .letters) m (p .states)) (p .states) (omega (arith, edge-rows-length rows (p .target) (p .letters) m (p .states))) k u lu
+    unfolding row first
+    next k u lk lu = joined-next first 16 (omega (arith, edge-rows-length rows (p .target) (p .letters) m (p .states))) k u (omega (arith, legal-counts p ok .states-few))
 
     first-is : (u : ℕ) → u < p .states → row 0 u ≡ edgeRow (p .target) (p .letters) m u (p .letters)
-    unfolding row joinedRows
-    first-is u l = edge-rows-at rows (p .target) (p .letters) m (p .states) u room l
+    unfolding row joinedRows first
+    first-is u l = edge-rows-at rows (p .target) (p .letters) m (p .states) u (omega (arith, legal-counts p ok .states-few)) l
 
-    first-sound : (u x : ℕ) → u < p .states → has (row 0 u) x ≡ true → Leads p m u x
-    first-sound u x l h = go (edge-row-cases u (p .letters) x (sym (ap (λ (r : ℕ). has r x) (first-is u l)) ∙ h))
-      where
-        go : (u ≡ x) ⊎ ((b : ℕ) × (b < p .letters) × (has m (edgeOf p u b) ≡ true) × (targetOf p (edgeOf p u b) ≡ x)) → Leads p m u x
-        go (inl q) = ([], q)
-        go (inr r) =
-            let e = edgeOf p u (r .0) in
-            subst (λ (z : ℕ). Leads p m z x) (source-edge p ok u (r .0) (r .1)) (subst (Leads p m (source p e)) (r .3) (leads-edge p m e (edge-lt p u (r .0) l (r .1)) (r .2)))
+    first-sound : (u x : ℕ) → u < p .states → has (row 0 u) x ≡ true → Onward p m u x
+    first-sound u x l h =
+        let r = edge-row-cases u (p .letters) x (sym (ap (λ (r : ℕ). has r x) (first-is u l)) ∙ h) in
+        (edgeOf p u (r .0), edge-lt p u (r .0) l (r .1), r .2, source-edge p ok u (r .0) (r .1), ([], r .3))
 
     -- an edge is that of its source and a letter
     edge-split : (e : ℕ) → edgeOf p (source p e) (e % p .letters) ≡ e
@@ -253,96 +228,69 @@ module _ (p : Policy) (m : ℕ) where
         ∙ subst (λ (z : ℕ). has (edgeRow (p .target) (p .letters) m (source p e) (p .letters)) (targetOf p z) ≡ true) (edge-split e)
         (edge-row-has (source p e) (p .letters) (e % p .letters) (mod-lt e (omega (arith, legal-counts p ok .letters-some))) (ap (has m) (edge-split e) ∙ t))
 
-    last-path : (u : ℕ) (w : List ℕ) (x : ℕ) → u < p .states → Path p (members (edges p) m) u w x → has (row (p .states) u) x ≡ true
-    last-path u [] x l a = turns-keep (p .states) row next (p .states) u x (omega arith) l
-        (ap (λ (r : ℕ). has r x) (first-is u l) ∙ subst (λ (z : ℕ). has (edgeRow (p .target) (p .letters) m u (p .letters)) z ≡ true) a (edge-row-self u (p .letters)))
-    last-path u (e ∷ w) x l a =
-        let le = members-lt (edges p) m e (a .1) in
-        let lt : targetOf p e < p .states = legal-target p ok e le in
-        let ls : source p e < p .states = subst (λ (z : ℕ). z < p .states) (sym (a .0)) l in
-        let one : has (row (p .states) u) (targetOf p e) ≡ true = subst (λ (z : ℕ). has (row (p .states) z) (targetOf p e) ≡ true) (a .0)
-        (turns-keep (p .states) row next (p .states) (source p e) (targetOf p e) (omega arith) ls (first-edge e ls (members-has (edges p) m e (a .1)))) in
-        turns-closed (p .states) row next (p .states) (targetOf p e) u x (omega arith) lt l one (last-path (targetOf p e) w x lt (a .2))
+    last-edge : (u e : ℕ) → u < p .states → source p e ≡ u → has m e ≡ true → has (row (p .states) u) (targetOf p e) ≡ true
+    last-edge u e l s h =
+        let ls : source p e < p .states = subst (λ (z : ℕ). z < p .states) (sym s) l in
+        subst (λ (z : ℕ). has (row (p .states) z) (targetOf p e) ≡ true) s (turns-keep (p .states) row next (p .states) (source p e) (targetOf p e) (omega arith) ls (first-edge e ls h))
 
-    pub rows-reach : Rows p m (joinedRows (edgeRows rows (p .target) (p .letters) m (p .states)) (p .states) (p .states))
-    unfolding row
-    rows-reach v l = mask-ext (row (p .states) v) (reach p (members (edges p) m) v) (λ x. bool-ext (has (row (p .states) v) x) (has (reach p (members (edges p) m) v) x) (sound x) (complete x))
+    last-path : (u e : ℕ) (w : List ℕ) (x : ℕ) → u < p .states → Path p (members (edges p) m) u (e ∷ w) x → has (row (p .states) u) x ≡ true
+    last-path u e [] x l a = subst (λ (z : ℕ). has (row (p .states) u) z ≡ true) (a .2) (last-edge u e l (a .0) (members-has (edges p) m e (a .1)))
+    last-path u e (f ∷ w) x l a =
+        let lt = targets e (members-lt (edges p) m e (a .1)) in
+        turns-closed (p .states) row next (p .states) (targetOf p e) u x (omega arith) lt l (last-edge u e l (a .0) (members-has (edges p) m e (a .1))) (last-path (targetOf p e) f w x lt (a .2))
+
+    rows-reach : (v : ℕ) → v < p .states → row (p .states) v ≡ onward p m v
+    rows-reach v l = mask-ext (row (p .states) v) (onward p m v) (λ x. bool-ext (has (row (p .states) v) x) (has (onward p m v) x) (sound x) (complete x))
       where
-        sound : (x : ℕ) → has (row (p .states) v) x ≡ true → has (reach p (members (edges p) m) v) x ≡ true
-        sound x h =
-            let w = turns-sound (p .states) row next (Leads p m) (leads-join p m) first-sound (p .states) v x (omega arith) l h in
-            reach-complete p (members (edges p) m) v l (λ e k. legal-target p ok e (members-lt (edges p) m e k)) (w .0) x (w .1)
+        sound : (x : ℕ) → has (row (p .states) v) x ≡ true → has (onward p m v) x ≡ true
+        sound x h = some-onward p m v x targets (turns-sound (p .states) row next (Onward p m) (onward-trans p m) first-sound (p .states) v x (omega arith) l h)
 
-        complete : (x : ℕ) → has (reach p (members (edges p) m) v) x ≡ true → has (row (p .states) v) x ≡ true
-        complete x h = let w = reach-sound p (members (edges p) m) v x h in last-path v (w .0) x l (w .1)
+        complete : (x : ℕ) → has (onward p m v) x ≡ true → has (row (p .states) v) x ≡ true
+        complete x h = let r = onward-some p m v x h .1 in last-path v (r .0) (r .4 .0) x l (r .3, has-members (edges p) m (r .0) (r .1) (r .2), r .4 .1)
 
--- ---- the table with these rows
-module _ (p : Policy) (m : ℕ) (rows : List ℕ) (room : p .states ≤ length rows) where
-  at-long : length (map (reach p (members (edges p) m)) (below (p .states))) ≡ p .states
-  at-long = length-map-below (reach p (members (edges p) m)) (p .states)
+-- the rows that the code makes are those of every policy with this graph
+pub joined-are : (p : Policy) (m states letters : ℕ) (heads rows₀ rows : List ℕ) → GraphOf p states letters heads → length rows₀ ≡ 16
+    → rows ≡ joinedRows (edgeRows rows₀ heads letters m states) 16 states → Rows p m rows
+unfolding first row
+joined-are p m states letters heads rows₀ rows g long e =
+    let is : rows ≡ joinedRows (edgeRows rows₀ (p .target) (p .letters) m (p .states)) 16 (p .states) = e ∙ rw (g .states-are, g .letters-are, g .heads-are) refl in
+    subst (λ (r : List ℕ). Rows p m r) (sym is) (record { row-is = rows-reach p m (g .lawful) rows₀ (omega arith) })
 
-  length-reach-rows : length (reachRows p m rows) ≡ length rows
-  unfolding reachRows
-  length-reach-rows = length-append (map (reach p (members (edges p) m)) (below (p .states))) (drop (p .states) rows) ∙ omega (arith, at-long, length-drop (p .states) rows)
+-- ---- what the code asks of a graph
+pub record Fits (states letters : ℕ) (heads : List ℕ) : Type 0 where
+  pub few : states ≤ 16
+  pub edges-few : states * letters ≤ 64
+  pub are-states : AreStates heads (states * letters)
 
-  reach-rows : Rows p m (reachRows p m rows)
-  unfolding reachRows
-  reach-rows v l =
-      List·getD-append (map (reach p (members (edges p) m)) (below (p .states))) (drop (p .states) rows) 0 v (omega (arith, at-long))
-      ∙ getD-map-below (reach p (members (edges p) m)) (p .states) v 0 l
+pub graph-fits : (p : Policy) (states letters : ℕ) (heads : List ℕ) → GraphOf p states letters heads → Fits states letters heads
+unfolding targetOf edges
+graph-fits p states letters heads g =
+    let k = legal-counts p (g .lawful) in
+    let is : states * letters ≡ edges p = rw (g .states-are, g .letters-are) refl in
+    record {
+      few = omega (arith, k .states-few, g .states-are);
+      edges-few = omega (arith, is, k .edges-few);
+      are-states = λ e l. subst (λ (t : List ℕ). getD t e 0 < 16) (sym (g .heads-are)) (omega (arith, legal-target p (g .lawful) e (omega (arith, is, l)), k .states-few));
+    }
 
-  reach-rows-past : (u : ℕ) → getD (reachRows p m rows) (p .states + u) 0 ≡ getD rows (p .states + u) 0
-  unfolding reachRows
-  reach-rows-past u =
-      ap (λ (n : ℕ). getD (map (reach p (members (edges p) m)) (below (p .states)) ++ drop (p .states) rows) (n + u) 0) (sym at-long)
-      ∙ getD-append-add (map (reach p (members (edges p) m)) (below (p .states))) (drop (p .states) rows) u 0 ∙ getD-drop (p .states) rows u 0
+-- the edges of a state are edges
+pub row-within : (v n l : ℕ) → v < n → v * l + l ≤ n * l
+row-within v n l h = omega (arith, mul-le-mul-right l h, suc-mul v l)
 
-  pub joined-are : legal p ≡ true → joinedRows (edgeRows rows (p .target) (p .letters) m (p .states)) (p .states) (p .states) ≡ reachRows p m rows
-  joined-are ok = ext-getD 0 joined (reachRows p m rows) (long ∙ sym length-reach-rows) (λ v h. go v (decLt v (p .states)))
-    where
-      joined : List ℕ
-      joined = joinedRows (edgeRows rows (p .target) (p .letters) m (p .states)) (p .states) (p .states)
+pub row-states : (v n l : ℕ) (t : List ℕ) → v < n → AreStates t (n * l) → AreStates t (v * l + l)
+row-states v n l t h k e le = k e (omega (arith, row-within v n l h))
 
-      long : length joined ≡ length rows
-      long = rows-long rows (p .target) (p .letters) m (p .states) (p .states) (p .states)
-
-      past : (v : ℕ) → p .states ≤ v → getD joined v 0 ≡ getD rows v 0
-      past v l = joined-after (edgeRows rows (p .target) (p .letters) m (p .states)) (p .states) (p .states) v l ∙ edge-rows-after rows (p .target) (p .letters) m (p .states) v l
-
-      go : (v : ℕ) → Dec (v < p .states) → getD joined v 0 ≡ getD (reachRows p m rows) v 0
-      go v (yes l) = rows-reach p m ok rows room v l ∙ sym (reach-rows v l)
-      go v (no n) =
-          let e : p .states + (v - p .states) ≡ v = omega arith in
-          past v (omega arith) ∙ sym (subst (λ (u : ℕ). getD (reachRows p m rows) u 0 ≡ getD rows u 0) e (reach-rows-past (v - p .states)))
-
--- what the table is good for
-pub reached : (p : Policy) (m : ℕ) (rows₀ rows : List ℕ) → legal p ≡ true → length rows₀ ≡ 16 → rows ≡ reachRows p m rows₀ → Rows p m rows × (length rows ≡ 16)
-reached p m rows₀ rows ok long e =
-    let room : p .states ≤ length rows₀ = omega (arith, legal-counts p ok .states-few) in
-    (subst (λ (r : List ℕ). Rows p m r) (sym e) (reach-rows p m rows₀ room), ap length e ∙ length-reach-rows p m rows₀ room ∙ long)
-
--- ---- what the code asks of a legal policy
-module _ (p : Policy) (ok : legal p ≡ true) where
-  pub target-few : (e : ℕ) → e < edges p → getD (p .target) e 0 < 16
-  unfolding targetOf
-  target-few e l = omega (arith, legal-target p ok e l, legal-counts p ok .states-few)
-
-  pub state-few : (v : ℕ) → v < p .states → v < 16
-  state-few v l = omega (arith, legal-counts p ok .states-few)
-
-  -- the edges of a state are edges
-  row-within : (v : ℕ) → v < p .states → v * p .letters + p .letters ≤ edges p
-  unfolding edges
-  row-within v l = omega (arith, mul-le-mul-right (p .letters) l, suc-mul v (p .letters))
-
-  pub row-few : (v : ℕ) → v < p .states → v * p .letters + p .letters ≤ 64
-  row-few v l = omega (arith, row-within v l, edges-le p ok)
-
-  pub row-states : (v : ℕ) → v < p .states → AreStates (p .target) (v * p .letters + p .letters)
-  row-states v l e le = target-few e (omega (arith, row-within v l))
+pub edge-row-few : (t : List ℕ) (l m v a : ℕ) → AreStates t (v * l + a) → edgeRow t l m v a < 2 ^ 16
+unfolding edgeRow withTarget
+edge-row-few t l m v zero h = omega arith
+edge-row-few t l m v (suc a) h = go (has m (v * l + a)) (edge-row-few t l m v a (λ e k. h e (omega arith)))
+  where
+    go : (b : Bool) → edgeRow t l m v a < 2 ^ 16 → cond b (insert (edgeRow t l m v a) (getD t (v * l + a) 0)) (edgeRow t l m v a) < 2 ^ 16
+    go true k = insert-lt (edgeRow t l m v a) (getD t (v * l + a) 0) 16 k (h (v * l + a) (omega arith))
+    go false k = k
 
 -- ---- one turn of each loop
-pub edge-row-none : (t : List ℕ) (l m v : ℕ) → edgeRow t l m v 0 ≡ insert 0 v
+pub edge-row-none : (t : List ℕ) (l m v : ℕ) → edgeRow t l m v 0 ≡ 0
 unfolding edgeRow
 edge-row-none t l m v = refl
 
@@ -373,150 +321,3 @@ joined-none rows n = refl
 pub joined-more : (rows : List ℕ) (n k : ℕ) → joinedRows rows n (k + 1) ≡ joinRows (joinedRows rows n k) k (getD (joinedRows rows n k) k 0) n
 unfolding joinedRows
 joined-more rows n k = rw add-one
-
-pub mutual-none : (rows : List ℕ) (v : ℕ) → mutualTo rows v 0 ≡ 0
-unfolding mutualTo
-mutual-none rows v = mask-of-none (λ (w : ℕ). has (getD rows v 0) w && has (getD rows w 0) v)
-
-pub mutual-next : (rows : List ℕ) (v n : ℕ)
-    → mutualTo rows v (n + 1) ≡ cond (has (getD rows v 0) n && has (getD rows n 0) v) (insert (mutualTo rows v n) n) (mutualTo rows v n)
-unfolding mutualTo
-mutual-next rows v n = go (has (getD rows v 0) n && has (getD rows n 0) v) refl
-  where
-    go : (b : Bool) → has (getD rows v 0) n && has (getD rows n 0) v ≡ b → mutualTo rows v (n + 1) ≡ cond b (insert (mutualTo rows v n) n) (mutualTo rows v n)
-    go true h = mask-of-in (λ (w : ℕ). has (getD rows v 0) w && has (getD rows w 0) v) n h
-    go false h = mask-of-out (λ (w : ℕ). has (getD rows v 0) w && has (getD rows w 0) v) n h
-
-pub inner-none : (t : List ℕ) (l m s u x : ℕ) → inner t l m s u x 0 ≡ x
-unfolding inner
-inner-none t l m s u x = refl
-
-pub inner-next : (t : List ℕ) (l m s u x a : ℕ)
-    → inner t l m s u x (a + 1)
-    ≡ cond (has m (u * l + a) && has s (getD t (u * l + a) 0)) (insert (inner t l m s u x a) (u * l + a)) (inner t l m s u x a)
-unfolding inner
-inner-next t l m s u x a = rw (add-one a) refl
-
-pub inner-to-none : (t : List ℕ) (l m s : ℕ) → innerTo t l m s 0 ≡ 0
-unfolding innerTo
-inner-to-none t l m s = refl
-
-pub inner-to-in : (t : List ℕ) (l m s u : ℕ) → has s u ≡ true → innerTo t l m s (u + 1) ≡ inner t l m s u (innerTo t l m s u) l
-unfolding innerTo
-inner-to-in t l m s u h = rw (add-one u, h) refl
-
-pub inner-to-out : (t : List ℕ) (l m s u : ℕ) → has s u ≡ false → innerTo t l m s (u + 1) ≡ innerTo t l m s u
-unfolding innerTo
-inner-to-out t l m s u h = rw (add-one u, h) refl
-
--- ---- the edges between the states of s, state by state: those below the first one of u, then those of u
-module _ (p : Policy) (ok : legal p ≡ true) (m s : ℕ) where
-  between : ℕ → Bool
-  between e = has m e && has s (source p e) && has s (targetOf p e)
-
-  -- such edges that leave the states below u
-  betweenTo : ℕ → ℕ
-  betweenTo u = maskOf between (u * p .letters)
-
-  module _ (u : ℕ) where
-    -- whether the edge at letter a is one, by whether s has u
-    between-at : (b : Bool) → has s u ≡ b → (a : ℕ) → a < p .letters → between (u * p .letters + a) ≡ has m (u * p .letters + a) && b && has s (getD (p .target) (u * p .letters + a) 0)
-    unfolding between targetOf edgeOf
-    between-at b h a la = rw (source-edge p ok u a la, h) refl
-
-    inner-between : has s u ≡ true → (a : ℕ) → a ≤ p .letters → inner (p .target) (p .letters) m s u (betweenTo u) a ≡ maskOf between (u * p .letters + a)
-    unfolding inner betweenTo
-    inner-between h zero k = ap (maskOf between) (sym (add-zero (u * p .letters)))
-    inner-between h (suc a) k = go (test into) (inner-between h a (omega arith))
-      where
-        e : ℕ
-        e = u * p .letters + a
-
-        into : Bool
-        into = has m e && has s (getD (p .target) e 0)
-
-        is : between e ≡ into
-        is = between-at true h a k ∙ ap (λ (b : Bool). b && has s (getD (p .target) e 0)) (and-true (has m e))
-
-        next : maskOf between (e + 1) ≡ maskOf between (u * p .letters + suc a)
-        next = let q : e + 1 ≡ u * p .letters + suc a = omega arith in ap (maskOf between) q
-
-        go : (into ≡ true) ⊎ (into ≡ false) → inner (p .target) (p .letters) m s u (betweenTo u) a ≡ maskOf between e → inner (p .target) (p .letters) m s u (betweenTo u) (suc a) ≡ maskOf between (u * p .letters + suc a)
-        go (inl t) ih = rw t (ap (λ (x : ℕ). insert x e) ih ∙ sym (mask-of-in between e (is ∙ t)) ∙ next)
-        go (inr f) ih = rw f (ih ∙ sym (mask-of-out between e (is ∙ f)) ∙ next)
-
-    none-between : has s u ≡ false → (a : ℕ) → a ≤ p .letters → betweenTo u ≡ maskOf between (u * p .letters + a)
-    unfolding betweenTo
-    none-between h zero k = ap (maskOf between) (sym (add-zero (u * p .letters)))
-    none-between h (suc a) k =
-        let e = u * p .letters + a in
-        let off : between e ≡ false = between-at false h a k ∙ ap (λ (b : Bool). b && has s (getD (p .target) e 0)) (and-false (has m e)) in
-        let q : e + 1 ≡ u * p .letters + suc a = omega arith in
-        none-between h a (omega arith) ∙ sym (mask-of-out between e off) ∙ ap (maskOf between) q
-
-    last : maskOf between (u * p .letters + p .letters) ≡ betweenTo (suc u)
-    unfolding betweenTo
-    last = let q : u * p .letters + p .letters ≡ suc u * p .letters = rw (suc-mul u (p .letters)) (omega arith) in ap (maskOf between) q
-
-  inner-to : (u : ℕ) → innerTo (p .target) (p .letters) m s u ≡ betweenTo u
-  unfolding innerTo betweenTo
-  inner-to zero = sym (ap (maskOf between) (zero-mul (p .letters)) ∙ mask-of-none between)
-  inner-to (suc u) = go (test (has s u)) (inner-to u)
-    where
-      go : (has s u ≡ true) ⊎ (has s u ≡ false) → innerTo (p .target) (p .letters) m s u ≡ betweenTo u → innerTo (p .target) (p .letters) m s (suc u) ≡ betweenTo (suc u)
-      go (inl t) ih = rw t (ap (λ (x : ℕ). inner (p .target) (p .letters) m s u x (p .letters)) ih ∙ inner-between u t (p .letters) (omega arith) ∙ last u)
-      go (inr f) ih = rw f (ih ∙ none-between u f (p .letters) (omega arith) ∙ last u)
-
--- ---- the largest cycle through v is the edges of m between the states that v reaches and that reach v
-module _ (p : Policy) (ok : legal p ≡ true) (m v : ℕ) (rows : List ℕ) (is : Rows p m rows) (l : v < p .states) where
-  es : List ℕ
-  es = members (edges p) m
-
-  ring : ℕ
-  ring = mutualTo rows v (p .states)
-
-  targets-lt : (e : ℕ) → List·Memᴰ e es → targetOf p e < p .states
-  unfolding es
-  targets-lt e k = legal-target p ok e (members-lt (edges p) m e k)
-
-  ring-some : (w : ℕ) → has ring w ≡ true → Leads p m v w × Leads p m w v
-  unfolding ring mutualTo es
-  ring-some w h =
-      let r = mask-of-some (λ (w : ℕ). has (getD rows v 0) w && has (getD rows w 0) v) (p .states) w h in
-      let a = and-l (has (getD rows v 0) w) (has (getD rows w 0) v) (r .1) in
-      let b = and-r (has (getD rows v 0) w) (has (getD rows w 0) v) (r .1) in
-      (reach-sound p es v w (ap (λ (x : ℕ). has x w) (sym (is v l)) ∙ a), reach-sound p es w v (ap (λ (x : ℕ). has x v) (sym (is w (r .0))) ∙ b))
-
-  some-ring : (w : ℕ) → w < p .states → Leads p m v w → Leads p m w v → has ring w ≡ true
-  unfolding ring mutualTo es
-  some-ring w lw a b =
-      has-mask-of (λ (w : ℕ). has (getD rows v 0) w && has (getD rows w 0) v) (p .states) w lw
-      ∙ both (has (getD rows v 0) w) (has (getD rows w 0) v) (ap (λ (x : ℕ). has x w) (is v l) ∙ reach-complete p es v l targets-lt (a .0) w (a .1))
-      (ap (λ (x : ℕ). has x v) (is w lw) ∙ reach-complete p es w lw targets-lt (b .0) v (b .1))
-
-  ring-through : betweenTo p ok m ring (p .states) ≡ cycleThrough p m v
-  unfolding betweenTo between edges
-  ring-through = mask-ext (betweenTo p ok m ring (p .states)) (cycleThrough p m v) (λ e. bool-ext (has (betweenTo p ok m ring (p .states)) e) (has (cycleThrough p m v) e) (there e) (back e))
-    where
-      targets : (e : ℕ) → e < edges p → targetOf p e < p .states
-      targets e k = legal-target p ok e k
-
-      there : (e : ℕ) → has (betweenTo p ok m ring (p .states)) e ≡ true → has (cycleThrough p m v) e ≡ true
-      there e h =
-          let r = mask-of-some (between p ok m ring) (p .states * p .letters) e h in
-          let a = and-l (has m e && has ring (source p e)) (has ring (targetOf p e)) (r .1) in
-          let t = and-l (has m e) (has ring (source p e)) a in
-          some-through p targets m v l e (r .0) t (ring-some (source p e) (and-r (has m e) (has ring (source p e)) a) .0) (ring-some (targetOf p e) (and-r (has m e && has ring (source p e)) (has ring (targetOf p e)) (r .1)) .1)
-
-      back : (e : ℕ) → has (cycleThrough p m v) e ≡ true → has (betweenTo p ok m ring (p .states)) e ≡ true
-      back e h =
-          let r = through-some p m v e h in
-          let step = leads-edge p m e (r .0) (r .1) in
-          let src = some-ring (source p e) (source-lt p ok e (r .0)) (r .2) (leads-join p m (source p e) (targetOf p e) v step (r .3)) in
-          let tgt = some-ring (targetOf p e) (targets e (r .0)) (leads-join p m v (source p e) (targetOf p e) (r .2) step) (r .3) in
-          has-mask-of (between p ok m ring) (p .states * p .letters) e (r .0)
-          ∙ both (has m e && has ring (source p e)) (has ring (targetOf p e)) (both (has m e) (has ring (source p e)) (r .1) src) tgt
-
-  pub rows-through : (t : List ℕ) (s : ℕ) → t ≡ p .target → s ≡ mutualTo rows v (p .states) → innerTo t (p .letters) m s (p .states) ≡ cycleThrough p m v
-  unfolding ring
-  rows-through t s e q = rw (e, q) (inner-to p ok m ring (p .states) ∙ ring-through)

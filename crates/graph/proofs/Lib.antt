@@ -1,7 +1,9 @@
 pub mod Paths
 pub mod Cycles
 pub mod Through
+pub mod Onward
 pub mod CodeLaws
+pub mod OnCycle
 pub mod Inside
 pub mod SameGraph
 pub mod Walks

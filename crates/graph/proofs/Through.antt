@@ -32,7 +32,7 @@ module _ (p : Policy) where
   leads-up a b u v i r = (r .0, path-weaken p (members (edges p) a) (members (edges p) b) (λ e k. has-members (edges p) b e (members-lt (edges p) a e k) (inside-all a b i e (members-has (edges p) a e k))) u (r .0) v (r .1))
 
   -- a path from a state comes to a state
-  leads-state : Targets p → (m u : ℕ) (w : List ℕ) (v : ℕ) → u < p .states → Path p (members (edges p) m) u w v → v < p .states
+  pub leads-state : Targets p → (m u : ℕ) (w : List ℕ) (v : ℕ) → u < p .states → Path p (members (edges p) m) u w v → v < p .states
   leads-state targets m u [] v l a = subst (λ (x : ℕ). x < p .states) a l
   leads-state targets m u (e ∷ w) v l a = leads-state targets m (targetOf p e) w v (targets e (members-lt (edges p) m e (a .1))) (a .2)
 

@@ -1,13 +1,13 @@
-// Paths and cycles of a policy's graph. A set of states is a mask, as a set of edges is. The rows of an edge set m: row v has the states that v
-// reaches inside m.
+// Paths and cycles of a policy's graph, which is given by the numbers of states and letters and by the heads, the targets
+// of its edges: a policy itself would be copied at each call. A set of states is a mask, as a set of edges is. The rows of
+// an edge set m: row v has the states that v reaches inside m by one edge or more.
 ghost use mathlib.Core.Path.{_≡_};
-ghost use mathlib.Core.Bool.{true, _&&_};
 ghost use Prim.Native.Nat.{_+_, _*_, _<_, _≤_};
 ghost use lib.ListN.{length, getD};
-ghost use Rattle.masks.specs.Masks.{has};
-ghost use Rattle.policy.specs.Policies.{legal};
-ghost use Rattle.graph.specs.Through.{cycleThrough, Rows, reachRows, withTarget, edgeRow, edgeRows, AreStates, joinRow, joinRows, mutualTo, inner};
-use policy::Policy;
+ghost use Rattle.policy.specs.declared.Policy.{Policy};
+ghost use Rattle.graph.specs.Through.{GraphOf, Rows, ownEdges, leaving, entering, withTarget, edgeRow, edgeRows, AreStates, joinRow, joinRows, statesOnCycles, cycleStates, between};
+
+// ---- the rows
 
 // A row, with the target of edge e where e is in m. The targets are t.
 fn with_target(t: &[u8; 64], m: u64, row: u64, e: usize) -> u64
@@ -17,124 +17,147 @@ fn with_target(t: &[u8; 64], m: u64, row: u64, e: usize) -> u64
     masks::with_if(row, t[e] as usize, masks::has(m, e))
 }
 
-// State v, with the targets of its edges in m.
-fn edge_row(t: &[u8; 64], letters: usize, m: u64, v: usize) -> u64
-    requires { ⌜ (v < 16) × (v * letters + letters ≤ 64) × AreStates (now t) (v * letters + letters) ⌝ }
+// The targets of the edges of v in m.
+fn edge_row(t: &[u8; 64], letters: usize, m: u64, v: usize) -> u16
+    requires { ⌜ (v * letters + letters ≤ 64) × AreStates (now t) (v * letters + letters) ⌝ }
     ensures { λ r. ⌜ r ≡ edgeRow (now (t .entry)) letters m v letters ⌝ }
 {
     let first = v * letters;
-    let mut row = masks::with(0, v);
+    let mut row: u64 = 0;
     for a in 0..letters {
         row = with_target(t, m, row, first + a);
     }
-    row
+    row as u16
 }
 
 // The rows of single edges.
-fn edge_rows(p: Policy, heads: &[u8; 64], m: u64, rows: &mut [u64; 16])
-    requires { ⌜ (legal p ≡ true) × (now heads ≡ p .target) ⌝ }
-    ensures { λ _. ⌜ now (rows .exit) ≡ edgeRows (now (rows .entry)) (p .target) (p .letters) m (p .states) ⌝ }
+fn edge_rows(states: usize, letters: usize, heads: &[u8; 64], m: u64, rows: &mut [u16; 16])
+    requires { ⌜ (states ≤ 16) × (states * letters ≤ 64) × AreStates (now heads) (states * letters) ⌝ }
+    ensures { λ _. ⌜ now (rows .exit) ≡ edgeRows (now (rows .entry)) (now (heads .entry)) letters m states ⌝ }
 {
-    let n = p.states as usize;
-    let letters = p.letters as usize;
-    for v in 0..n {
+    for v in 0..states {
         rows[v] = edge_row(heads, letters, m, v);
     }
 }
 
 // A row that has k, with the row of k.
-fn join_row(row: u64, k: usize, pivot: u64) -> u64
-    requires { ⌜ k < 64 ⌝ }
+fn join_row(row: u16, k: usize, pivot: u16) -> u16
+    requires { ⌜ k < 16 ⌝ }
     ensures { λ r. ⌜ r ≡ joinRow row k pivot ⌝ }
 {
-    if masks::has(row, k) {
-        return masks::either(row, pivot);
+    if (row >> k) % 2 == 1 {
+        return row | pivot;
     }
     row
 }
 
-// The rows below n, each so joined.
-fn join_rows(rows: &mut [u64; 16], k: usize, n: usize)
-    requires { ⌜ (k < n) × (n ≤ 16) ⌝ }
-    ensures { λ _. ⌜ now (rows .exit) ≡ joinRows (now (rows .entry)) k (getD (now (rows .entry)) k 0) n ⌝ }
+// The rows, each so joined: always 16 of them, so that they go into vector instructions.
+fn join_rows(rows: &mut [u16; 16], k: usize)
+    requires { ⌜ k < 16 ⌝ }
+    ensures { λ _. ⌜ now (rows .exit) ≡ joinRows (now (rows .entry)) k (getD (now (rows .entry)) k 0) 16 ⌝ }
 {
     let pivot = rows[k];
-    for u in 0..n {
+    for u in 0..16 {
         rows[u] = join_row(rows[u], k, pivot);
     }
 }
 
-// The states that each state reaches inside m, whatever the rows held before; rows past the states stay. The heads are the targets of p's edges, lent, since p's own
-// would be copied at each call.
-pub fn reach_all(p: Policy, heads: &[u8; 64], m: u64, rows: &mut [u64; 16])
-    requires { ⌜ (legal p ≡ true) × (now heads ≡ p .target) × (length (now rows) ≡ 16) ⌝ }
-    ensures { λ _. ⌜ now (rows .exit) ≡ reachRows p m (now (rows .entry)) ⌝ }
+// The rows of m, whatever they held before. Nothing is said of rows past the states.
+pub fn reach_all(states: usize, letters: usize, heads: &[u8; 64], m: u64, rows: &mut [u16; 16])
+    requires { ⌜ ((p : Policy) × GraphOf p states letters (now heads)) × (length (now rows) ≡ 16) ⌝ }
+    ensures { λ _. ⌜ ((p : Policy) → GraphOf p states letters (now (heads .entry)) → Rows p m (now (rows .exit))) × (length (now (rows .exit)) ≡ 16) ⌝ }
 {
-    let n = p.states as usize;
-    edge_rows(p, heads, m, rows);
-    for k in 0..n {
-        join_rows(rows, k, n);
+    edge_rows(states, letters, heads, m, rows);
+    for k in 0..states {
+        join_rows(rows, k);
     }
 }
 
-// Whether w is in v's row, and v in w's.
-fn is_mutual(from: u64, row: u64, w: usize, v: usize) -> bool
-    requires { ⌜ (w < 64) × (v < 64) ⌝ }
-    ensures { λ r. ⌜ r ≡ has from w && has row v ⌝ }
+// ---- the largest cycle through a state: the edges of m between the states on it
+
+// A row as a set of states.
+fn wide(row: u16) -> u64
+    ensures { λ r. ⌜ r ≡ row ⌝ }
 {
-    masks::has(from, w) & masks::has(row, v)
+    row as u64
 }
 
-// The states below n that v reaches and that reach v.
-fn both_ways(rows: &[u64; 16], n: usize, v: usize) -> u64
-    requires { ⌜ (n ≤ 16) × (v < 16) ⌝ }
-    ensures { λ r. ⌜ r ≡ mutualTo (now (rows .entry)) v n ⌝ }
+// The states on cycles: those that are in their own rows.
+pub fn states_on_cycles(states: usize, rows: &[u16; 16]) -> u64
+    requires { ⌜ states ≤ 16 ⌝ }
+    ensures { λ r. ⌜ r ≡ statesOnCycles (now (rows .entry)) states ⌝ }
 {
-    let from = rows[v];
     let mut s: u64 = 0;
-    for w in 0..n {
-        s = masks::with_if(s, w, is_mutual(from, rows[w], w, v));
+    for w in 0..states {
+        s = masks::with_if(s, w, masks::has(wide(rows[w]), w));
     }
     s
 }
 
-// Whether edge e is in m, and its target t in s.
-fn leads_into(m: u64, s: u64, e: usize, t: usize) -> bool
-    requires { ⌜ (e < 64) × (t < 64) ⌝ }
-    ensures { λ r. ⌜ r ≡ has m e && has s t ⌝ }
+// The states on the largest cycle through v, where there is one: those of v's row that have the same row.
+pub fn cycle_states(rows: &[u16; 16], v: usize) -> u64
+    requires { ⌜ v < 16 ⌝ }
+    ensures { λ r. ⌜ r ≡ cycleStates (now (rows .entry)) v ⌝ }
 {
-    masks::has(m, e) & masks::has(s, t)
-}
-
-// The edges x, with those of m that leave u and lead to a state of s.
-fn with_inner(heads: &[u8; 64], letters: usize, m: u64, s: u64, u: usize, x: u64) -> u64
-    requires { ⌜ (u < 16) × (u * letters + letters ≤ 64) × AreStates (now heads) (u * letters + letters) ⌝ }
-    ensures { λ r. ⌜ r ≡ inner (now (heads .entry)) letters m s u x letters ⌝ }
-{
-    let first = u * letters;
-    let mut r = x;
-    for a in 0..letters {
-        let e = first + a;
-        let t = heads[e] as usize;
-        r = masks::with_if(r, e, leads_into(m, s, e, t));
+    let row = rows[v];
+    let mut s: u64 = 0;
+    for w in 0..16 {
+        s = masks::with_if(s, w, rows[w] == row);
     }
-    r
+    masks::both(s, wide(row))
 }
 
-// The largest cycle through state v inside m; empty where there is none: the edges of m between states that v reaches and that reach v. The heads are the targets of
-// p's edges, and the rows are those of m.
-pub fn cycle_through(p: Policy, heads: &[u8; 64], rows: &[u64; 16], m: u64, v: usize) -> u64
-    requires { ⌜ (legal p ≡ true) × (now heads ≡ p .target) × (v < p .states) × Rows p m (now rows) ⌝ }
-    ensures { λ r. ⌜ r ≡ cycleThrough p m v ⌝ }
+// The edges of m between states of s, by the tables of the edges that leave and enter each state. The tables are read before
+// the test, so that there is no branch.
+pub fn edges_between(states: usize, out: &[u64; 16], into: &[u64; 16], m: u64, s: u64) -> u64
+    requires { ⌜ states ≤ 16 ⌝ }
+    ensures { λ r. ⌜ r ≡ between (now (out .entry)) (now (into .entry)) m s states ⌝ }
 {
-    let n = p.states as usize;
-    let letters = p.letters as usize;
-    let s = both_ways(rows, n, v);
-    let mut r: u64 = 0;
-    for u in 0..n {
-        if masks::has(s, u) {
-            r = with_inner(heads, letters, m, s, u, r);
+    let mut a: u64 = 0;
+    let mut b: u64 = 0;
+    for v in 0..states {
+        let x = out[v];
+        let y = into[v];
+        if masks::has(s, v) {
+            a = masks::either(a, x);
+            b = masks::either(b, y);
         }
     }
-    r
+    masks::both(masks::both(a, b), m)
+}
+
+// ---- the tables of edges, made once for a policy
+
+// The edges that leave state v.
+fn own_edges(letters: usize, v: usize) -> u64
+    requires { ⌜ v * letters + letters ≤ 64 ⌝ }
+    ensures { λ r. ⌜ r ≡ ownEdges letters v ⌝ }
+{
+    let first = v * letters;
+    masks::full(letters) << first
+}
+
+// The edges that leave each state.
+pub fn edges_out(states: usize, letters: usize) -> [u64; 16]
+    requires { ⌜ (states ≤ 16) × (states * letters ≤ 64) ⌝ }
+    ensures { λ r. ⌜ r ≡ leaving letters states ⌝ }
+{
+    let mut t = [0u64; 16];
+    for v in 0..states {
+        t[v] = own_edges(letters, v);
+    }
+    t
+}
+
+// The edges below n that enter each state.
+pub fn edges_into(heads: &[u8; 64], n: usize) -> [u64; 16]
+    requires { ⌜ (n ≤ 64) × AreStates (now heads) n ⌝ }
+    ensures { λ r. ⌜ r ≡ entering (now (heads .entry)) n ⌝ }
+{
+    let mut t = [0u64; 16];
+    for e in 0..n {
+        let v = heads[e] as usize;
+        t[v] = masks::with(t[v], e);
+    }
+    t
 }

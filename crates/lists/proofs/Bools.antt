@@ -105,6 +105,10 @@ pub or-none : (a b : Bool) → a || b ≡ false → a ≡ false
 or-none true b e = e
 or-none false b e = refl
 
+pub or-rest : (a b : Bool) → a || b ≡ false → b ≡ false
+or-rest true b e = absurd (true≢false e)
+or-rest false b e = e
+
 -- a choice between two tests that is one of them
 pub cond-not : (b : Bool) → not b ≡ cond b false true
 cond-not true = refl

@@ -1,13 +1,14 @@
 -- The table of the edges by colour: one turn of each loop over it, and that it gives the edges of a colour set and the colours of an edge set. Assumes nothing.
-use Prim.Native.Nat.{ℕ, zero, suc, _+_, _-_, _^_, _<_}
+use Prim.Native.Nat.{ℕ, zero, suc, _+_, _-_, _*_, _/_, _%_, _^_, _≤_, _<_}
 use native.Mathlib.Omega.{arith}
 use native.Mathlib.Decide.{ℕ-discrete, decLt}
+use native.Mathlib.Nat.{mod-lt, mul-zero, mul-one, mul-le-mul-left}
 use native.Mathlib.Numerals.{add-one}
 use mathlib.Core.Path.{_≡_, refl, sym, ap, ap₂, _∙_, subst}
 use mathlib.Core.Logic.{_⊎_, inl, inr, _≢_}
 use mathlib.Core.Bool.{Bool, true, false, not, _&&_, cond, true≢false, false≢true, and-true}
 use mathlib.Core.List.{List, List·Memᴰ}
-use lib.Bits.{bitAnd, bitOr}
+use lib.Bits.{bitAnd, bitOr, or-zero-r}
 use lib.Dec.{eqb}
 use lib.ListN.{length, getD, set, replicate, length-set}
 use lib.Seq.{ext-getD, getD-set-same, getD-set-other}
@@ -28,13 +29,30 @@ pub edges-none : (t : List ℕ) (c : ℕ) → tableEdgesTo t 0 c ≡ getD t 8 0
 unfolding tableEdgesTo
 edges-none t c = refl
 
-pub edges-with : (t : List ℕ) (n c : ℕ) → has c n ≡ true → tableEdgesTo t (n + 1) c ≡ bitOr (tableEdgesTo t n c) (getD t n 0)
+-- an entry or nothing
+pub edges-next : (t : List ℕ) (n c : ℕ) → tableEdgesTo t (n + 1) c ≡ bitOr (tableEdgesTo t n c) (cond (has c n) (getD t n 0) 0)
 unfolding tableEdgesTo
-edges-with t n c h = rw add-one (ap (λ (b : Bool). cond b (bitOr (tableEdgesTo t n c) (getD t n 0)) (tableEdgesTo t n c)) h)
+edges-next t n c = rw add-one (go (has c n))
+  where
+    go : (b : Bool) → cond b (bitOr (tableEdgesTo t n c) (getD t n 0)) (tableEdgesTo t n c) ≡ bitOr (tableEdgesTo t n c) (cond b (getD t n 0) 0)
+    go true = refl
+    go false = sym (or-zero-r (tableEdgesTo t n c))
 
-pub edges-without : (t : List ℕ) (n c : ℕ) → has c n ≡ false → tableEdgesTo t (n + 1) c ≡ tableEdgesTo t n c
-unfolding tableEdgesTo
-edges-without t n c h = rw add-one (ap (λ (b : Bool). cond b (bitOr (tableEdgesTo t n c) (getD t n 0)) (tableEdgesTo t n c)) h)
+-- by a product with 1 or 0
+pub times-le : (x n : ℕ) → x * (n % 2) ≤ x
+times-le x n =
+    let k : n % 2 < 2 = mod-lt n (omega arith) in
+    let h : n % 2 ≤ 1 = omega arith in
+    omega (arith, mul-le-mul-left x h, mul-one x)
+
+pub times-chosen : (x c k : ℕ) → x * (c / 2 ^ k % 2) ≡ cond (has c k) x 0
+unfolding has
+times-chosen x c k = go (c / 2 ^ k % 2) (mod-lt (c / 2 ^ k) (omega arith))
+  where
+    go : (b : ℕ) → b < 2 → x * b ≡ cond (eqb b 1) x 0
+    go zero h = mul-zero x
+    go (suc zero) h = mul-one x
+    go (suc (suc b)) h = absurd (omega arith)
 
 pub colours-to-none : (t : List ℕ) (m : ℕ) → tableColoursTo t 0 m ≡ 0
 unfolding tableColoursTo

@@ -2,9 +2,10 @@
 // Edge number = state times letters plus letter. Entries past the last edge are 0. family[s] says whether the colour set s is in the family. The quiet edges, a set, have no
 // colour, and a recorded colour of 0.
 ghost use mathlib.Core.Path.{_≡_};
-ghost use Prim.Native.Nat.{_≤_};
-ghost use mathlib.Core.Bool.{true};
+ghost use Prim.Native.Nat.{_<_, _≤_};
+ghost use mathlib.Core.Bool.{true, cond};
 ghost use lib.ListN.{replicate};
+ghost use Rattle.masks.specs.Masks.{has};
 ghost use Rattle.policy.specs.ByColour.{byColour, tableEdges, tableColours};
 ghost use Rattle.policy.specs.Making.{counted, shapeOf, fromParts};
 ghost use Rattle.policy.specs.Policies.{accepting, countsFit, edges, legal, legalCounts, legalEdges, legalFamily, legalGraph, legalQuiet};
@@ -62,15 +63,21 @@ pub fn by_colour(p: Policy, colours: &[u8; 64]) -> [u64; 9]
     t
 }
 
+// An edge set where the colour set c has colour k, and else none. By a product, since a branch could not be foretold.
+fn where_has(c: u8, k: u8, m: u64) -> u64
+    requires { ⌜ k < 8 ⌝ }
+    ensures { λ r. ⌜ r ≡ cond (has c k) m 0 ⌝ }
+{
+    m * ((c >> k) % 2) as u64
+}
+
 // The edges whose colours lie in a colour set, by such a table.
 pub fn edges_in(t: &[u64; 9], c: u8) -> u64
     ensures { λ r. ⌜ r ≡ tableEdges (now (t .entry)) c ⌝ }
 {
     let mut m = t[8];
     for k in 0..8u8 {
-        if masks::set_has(c, k) {
-            m = masks::either(m, t[k as usize]);
-        }
+        m = masks::either(m, where_has(c, k, t[k as usize]));
     }
     m
 }

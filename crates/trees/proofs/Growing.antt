@@ -21,18 +21,15 @@ use Rattle.tables.proofs.Stores.{sets-append, sets-first, sets-head, stored-len
 use Rattle.tables.proofs.Columns.{column-sets}
 use Rattle.tables.proofs.Copies.{part-sets, part-at}
 use Rattle.policy.specs.declared.Policy.{Policy}
-use Rattle.policy.specs.Policies.{edges, accepting}
+use Rattle.policy.specs.Policies.{edges}
 use Rattle.graph.proofs.Cycles.{cycle-lt}
 use Rattle.forest.specs.Forest.{children, levelsLeft}
 use Rattle.forest.specs.Subtrees.{treeMasks, treeParents, treeSize, rowMasks, rowParents}
-use Rattle.forest.proofs.Children.{child, child-fewer}
+use Rattle.forest.proofs.Children.{child-fewer}
 use Rattle.forest.proofs.Levels.{levels-some, levels-child}
 use Rattle.forest.proofs.Subtrees.{length-parents, parents-moved, parents-few, row-none-masks, row-none-parents, row-more-masks, row-more-parents, length-row, tree-masks, tree-parents}
-use Rattle.candidates.specs.Candidates.{candidates, judged, childrenIn, LargerFirst}
-use Rattle.candidates.specs.Listed.{Candidates}
-use Rattle.candidates.proofs.Candidates.{candidate-cycle, judged-distinct, children-are, child-candidate}
-use Rattle.candidates.proofs.Few.{most-few, judged-few}
-use Rattle.candidates.proofs.LargerFirst.{larger-first}
+use Rattle.candidates.specs.Candidates.{childrenIn, LargerFirst, Candidates}
+use Rattle.candidates.proofs.Candidates.{children-are}
 use Rattle.siblings.specs.Positions.{childPositions}
 use Rattle.siblings.proofs.Positions.{length-positions, positions-few, child-position}
 use Rattle.trees.specs.Growing.{StandsAt, Recorded, Places, TreeRoot, TreeToWrite, TreeWritten}
@@ -68,18 +65,10 @@ module _ {l : List ℕ} {x : ℕ} {s : List ℕ} {free n : ℕ} (f : ChildrenAt 
 -- ---- the lists
 module _ {p : Policy} {a r : List ℕ} (g : Candidates p a r) where
   pub lists-few : length a + length r ≤ 4096
-  lists-few = omega (arith, ap length (g .accepting-are), ap length (g .rejecting-are), judged-few p, most-few p (g .lawful))
+  lists-few = g .few
 
   pub lists-searchable : (Distinct a × LargerFirst a) × (Distinct r × LargerFirst r)
-  lists-searchable = (
-    subst (λ (l : List ℕ). Distinct l × LargerFirst l) (sym (g .accepting-are)) (judged-distinct p (g .lawful) true, larger-first p (g .lawful) true),
-    subst (λ (l : List ℕ). Distinct l × LargerFirst l) (sym (g .rejecting-are)) (judged-distinct p (g .lawful) false, larger-first p (g .lawful) false),
-  )
-
-  -- the list of the other verdict
-  other-are : (v : Bool) → cond v r a ≡ judged p (not v)
-  other-are true = g .rejecting-are
-  other-are false = g .accepting-are
+  lists-searchable = (g .ordered true, g .ordered false)
 
   pub other-few : (v : Bool) → length (cond v r a) ≤ max (length a) (length r)
   other-few true = omega arith
@@ -90,16 +79,21 @@ module _ {p : Policy} {a r : List ℕ} (g : Candidates p a r) where
   other-at true k h = (omega (arith, length-append a r), getD-append-add a r k 0)
   other-at false k h = let e : 0 + k ≡ k = omega arith in (omega (arith, length-append a r), ap (λ (i : ℕ). getD (a ++ r) i 0) e ∙ List·getD-append a r 0 k h)
 
-  few-edges : (m : ℕ) → List·Memᴰ m (candidates p) → ones m ≤ edges p
-  few-edges m k = ones-le (edges p) m (cycle-lt p m (candidate-cycle p (g .lawful) m k))
+  few-edges : (v : Bool) (m : ℕ) → List·Memᴰ m (cond v a r) → ones m ≤ edges p
+  few-edges v m k = ones-le (edges p) m (cycle-lt p m (g .are v m k .0))
+
+  -- the other list, by the other verdict
+  other-list : (v : Bool) → cond v r a ≡ cond (not v) a r
+  other-list true = refl
+  other-list false = refl
 
   -- ---- a node and its children
   module _ {m : ℕ} {v : Bool} {s₀ : List ℕ} {free : ℕ} (t : TreeRoot p a r m v s₀ free) where
     pub root-masks : treeMasks p m ≡ m ∷ rowMasks p (children p m)
-    root-masks = tree-masks p m (few-edges m (t .candidate))
+    root-masks = tree-masks p m (few-edges v m (t .candidate))
 
     pub root-parents : (q n : ℕ) → treeParents p q n m ≡ q ∷ rowParents p n (n + 1) (children p m)
-    root-parents q n = tree-parents p q n m (few-edges m (t .candidate))
+    root-parents q n = tree-parents p q n m (few-edges v m (t .candidate))
 
     pub root-size : treeSize p m ≡ 1 + length (rowMasks p (children p m))
     unfolding treeSize
@@ -108,13 +102,13 @@ module _ {p : Policy} {a r : List ℕ} (g : Candidates p a r) where
     -- there is room for the children of one node
     pub root-room : free + max (length a) (length r) ≤ length s₀
     root-room =
-        let k : 1 ≤ levelsLeft p m = levels-some p m (candidate-cycle p (g .lawful) m (t .candidate)) in
+        let k : 1 ≤ levelsLeft p m = levels-some p m (g .are v m (t .candidate) .0) in
         omega (arith, mul-le-mul-right (max (length a) (length r)) k, t .room)
 
     -- the children, by the positions found
     module _ {s : List ℕ} {count : ℕ} (f : ChildrenAt (cond v r a) m s free count) where
       children-list : childrenIn (cond v r a) m ≡ children p m
-      children-list = ap (λ (l : List ℕ). childrenIn l m) (other-are v ∙ ap (λ (b : Bool). judged p (not b)) (t .verdict-is)) ∙ sym (children-are p (g .lawful) m (t .candidate))
+      children-list = children-are g v m (t .candidate)
 
       pub found-count : length (children p m) ≡ count
       found-count = sym (ap length children-list) ∙ sym (length-positions (cond v r a) m) ∙ f .many
@@ -145,8 +139,7 @@ module _ {p : Policy} {a r : List ℕ} (g : Candidates p a r) where
 
         found-root : (i : ℕ) → getD (a ++ r) i 0 ≡ getD (children p m) j 0 → length s ≡ length s₀ → TreeRoot p a r (getD (a ++ r) i 0) (not v) s (free + count)
         found-root i e l = record {
-          candidate = subst (λ (x : ℕ). List·Memᴰ x (candidates p)) (sym e) (child-candidate p (g .lawful) m (getD (children p m) j 0) (t .candidate) child-mem);
-          verdict-is = ap not (t .verdict-is) ∙ sym (child p m (getD (children p m) j 0) child-mem .turned) ∙ ap (accepting p) (sym e);
+          candidate = subst (λ (x : ℕ). List·Memᴰ x (cond (not v) a r)) (sym e) (subst (List·Memᴰ (getD (children p m) j 0)) (other-list v) (g .closed v m (getD (children p m) j 0) (t .candidate) child-mem));
           past-records = omega (arith, t .past-records);
           room = subst (λ (x : ℕ). free + count + levelsLeft p x * max (length a) (length r) ≤ length s) (sym e)
               (omega (arith, mul-le-mul-right (max (length a) (length r)) (levels-child p m (getD (children p m) j 0) child-mem), suc-mul (levelsLeft p (getD (children p m) j 0)) (max (length a) (length r)), t .room, found-few));
@@ -357,7 +350,7 @@ module _ {p : Policy} {a r : List ℕ} {m : ℕ} {verdict : Bool} {places n : �
       parents-long = omega (arith, w .tables .parents-long, length-set parents₀ n q);
       recorded = recorded-kept (recorded-still (w .tables .recorded) n (n + 1) (m ∷ []) (q ∷ []) refl refl (omega arith) (omega arith)) (λ j b. e j (omega (arith, w .root .past-records)));
     };
-    root = record { candidate = w .root .candidate; verdict-is = w .root .verdict-is; past-records = w .root .past-records; room = omega (arith, w .root .room) };
+    root = record { candidate = w .root .candidate; past-records = w .root .past-records; room = omega (arith, w .root .room) };
   }
 
   -- the trees of the first j children are written: the next one

@@ -4,17 +4,15 @@ use Prim.Native.Nat.{ℕ, _+_, _*_, _≤_, _<_, min, max}
 use mathlib.Core.Path.{_≡_}
 use mathlib.Core.Logic.{_≢_}
 use mathlib.Core.Bool.{Bool, cond}
-use mathlib.Core.List.{List, _++_, List·Memᴰ}
+use mathlib.Core.List.{List, [], _++_, List·Memᴰ}
 use lib.ListN.{length, getD}
 use lib.Seq.{sets}
-use Rattle.tables.specs.Tables.{zeros}
+use Rattle.tables.specs.Tables.{places}
 use Rattle.tables.specs.Copies.{part}
 use Rattle.policy.specs.declared.Policy.{Policy}
-use Rattle.policy.specs.Policies.{accepting}
-use Rattle.forest.specs.Forest.{forest, forestFits, mostLevels, levelsLeft, nodeMasks, nodeParents}
+use Rattle.forest.specs.Forest.{mostLevels, levelsLeft}
 use Rattle.forest.specs.Subtrees.{treeMasks, treeParents, treeSize}
-use Rattle.candidates.specs.Candidates.{candidates}
-use Rattle.candidates.specs.Listed.{Candidates}
+use Rattle.candidates.specs.Candidates.{Candidates}
 
 -- ---- trees that stand in the tables
 -- the tree of m stands at number k, before `end`
@@ -38,10 +36,9 @@ pub record Places (p : Policy) (list masks parents scratch : List ℕ) (places n
   pub parents-long : places ≤ length parents
   pub recorded : Recorded p list masks parents scratch n
 
--- the root of a tree to be written: a candidate, with its verdict. The scratch is free from place `free` on, with room for the positions of the children on each level
+-- the root of a tree to be written: a candidate of that verdict. The scratch is free from place `free` on, with room for the positions of the children on each level
 pub record TreeRoot (p : Policy) (accepting′ rejecting′ : List ℕ) (m : ℕ) (verdict : Bool) (scratch : List ℕ) (free : ℕ) : Type 0 where
-  pub candidate : List·Memᴰ m (candidates p)
-  pub verdict-is : verdict ≡ accepting p m
+  pub candidate : List·Memᴰ m (cond verdict accepting′ rejecting′)
   pub past-records : 2 * length (accepting′ ++ rejecting′) ≤ free
   pub room : free + levelsLeft p m * max (length accepting′) (length rejecting′) ≤ length scratch
 
@@ -63,14 +60,16 @@ pub record TreeWritten (p : Policy) (list : List ℕ) (places m q n next : ℕ) 
 abbrev pub Kept : ℕ → ℕ → List ℕ → List ℕ → Type 0
 Kept a b t₀ t = (j : ℕ) → a ≤ j → j < b → getD t j 0 ≡ getD t₀ j 0
 
--- ---- the forest
--- scratch for n candidates: no tree is recorded, and there is room for the positions of the children on each level
-pub record Scratch (p : Policy) (n : ℕ) (scratch : List ℕ) : Type 0 where
-  pub long : 2 * n + mostLevels p * n ≤ length scratch
-  pub none : (i : ℕ) → getD scratch i 0 ≡ 0
+-- ---- the tree of a root
+-- before: the lists, with the root m among the masks of its verdict, tables of one length, the first n places of which are written, and scratch with room for the records and
+-- for the positions of the children on each level
+pub record RootToWrite (p : Policy) (accepting rejecting : List ℕ) (m : ℕ) (verdict : Bool) (n : ℕ) (masks parents scratch : List ℕ) : Type 0 where
+  pub lists : Candidates p accepting rejecting
+  pub candidate : List·Memᴰ m (cond verdict accepting rejecting)
+  pub one-length : length parents ≡ length masks
+  pub at-most : n ≤ places masks
+  pub room : 2 * length (accepting ++ rejecting) + mostLevels p * max (length accepting) (length rejecting) ≤ length scratch
 
--- how many nodes there are, or one more than fit; the tables at exit, from masks₀ and parents₀: the columns of the forest where the nodes fit, and otherwise 0 in every place
-pub record ForestWritten (p : Policy) (masks₀ parents₀ masks parents : List ℕ) (count : ℕ) : Type 0 where
-  pub count-is : count ≡ min (length (forest p)) (min (length masks₀) 65535 + 1)
-  pub masks-are : masks ≡ cond (forestFits p masks₀) (sets masks₀ 0 (nodeMasks p)) (zeros masks₀)
-  pub parents-are : parents ≡ cond (forestFits p masks₀) (sets parents₀ 0 (nodeParents p)) (zeros parents₀)
+-- after, from masks₀ and parents₀: its tree is written; no record of it is needed
+abbrev pub RootWritten : Policy → ℕ → ℕ → ℕ → List ℕ → List ℕ → List ℕ → List ℕ → Type 0
+RootWritten p m n next masks₀ parents₀ masks parents = TreeWritten p [] (places masks₀) m 65535 n next masks₀ parents₀ masks parents []

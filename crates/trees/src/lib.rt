@@ -9,12 +9,9 @@ ghost use Rattle.lists.specs.Lists.{Distinct};
 ghost use Rattle.tables.specs.Tables.{Stored, Undecided};
 ghost use Rattle.tables.specs.Copies.{part, moved};
 ghost use Rattle.policy.specs.declared.Policy.{Policy};
-ghost use Rattle.policy.specs.ByColour.{byColour};
-ghost use Rattle.candidates.specs.Candidates.{rootCandidates, LargerFirst};
-ghost use Rattle.candidates.specs.Listed.{Candidates};
+ghost use Rattle.candidates.specs.Candidates.{LargerFirst};
 ghost use Rattle.siblings.specs.Positions.{childPositions};
-ghost use Rattle.trees.specs.Growing.{TreeToWrite, TreeWritten, Kept, Scratch, ForestWritten};
-use policy::Policy;
+ghost use Rattle.trees.specs.Growing.{TreeToWrite, TreeWritten, Kept, RootToWrite, RootWritten};
 
 // A tree copied from its number `from` to `at`; its root has a parent of its own.
 fn copy_tree(
@@ -182,54 +179,36 @@ fn grow(
     next
 }
 
-// The trees of all roots: how many nodes there are, or one more than fit. Where they do not fit, every place of both tables is 0. The edges of each colour and the
-// family are lent for the verdicts. This is an inner layer: its callers lend the candidates of a legal policy, and enough scratch.
-pub fn grow_roots(
-    p: Policy,
-    by: &[u64; 9],
-    family: &[bool; 256],
+// The tree of a root, whose number is `at`: the number after it, or one past the places where it does not fit. The records of earlier trees are of other lists, and are cleared.
+// This is an inner layer: its callers lend the candidates of the root, and enough scratch.
+pub fn grow_root(
     accepting: &[u64],
     rejecting: &[u64],
-    roots: &[u64],
+    m: u64,
+    verdict: bool,
+    at: usize,
     masks: &mut [u64],
     parents: &mut [u16],
     scratch: &mut [u16],
 ) -> usize
-    requires lent { ⌜ (now by ≡ byColour p) × (now family ≡ p .family) ⌝ }
-    requires lists { ⌜ Candidates p (now accepting) (now rejecting) × (now roots ≡ rootCandidates p) ⌝ }
-    requires tables { ⌜ length (now parents) ≡ length (now masks) ⌝ }
-    requires space { ⌜ Scratch p (length (now accepting ++ now rejecting)) (now scratch) ⌝ }
-    ensures forest { λ r. ⌜ ForestWritten p (now (masks .entry)) (now (parents .entry)) (now (masks .exit)) (now (parents .exit)) r ⌝ }
+    requires { ⌜ ((p : Policy) × RootToWrite p (now accepting) (now rejecting) m verdict at (now masks) (now parents) (now scratch)) ⌝ }
+    ensures tree { λ r. ⌜ ((p : Policy) → RootToWrite p (now (accepting .entry)) (now (rejecting .entry)) m verdict at (now (masks .entry)) (now (parents .entry)) (now (scratch .entry)) → RootWritten p m at r (now (masks .entry)) (now (parents .entry)) (now (masks .exit)) (now (parents .exit))) ⌝ }
     ensures space { λ _. ⌜ Undecided (now (scratch .entry)) (now (scratch .exit)) ⌝ }
 {
     let places = tables::places(masks.len());
     let free = 2 * (accepting.len() + rejecting.len());
-    let mut next: usize = 0;
-    let mut after: u64 = 0;
-    loop {
-        let m = siblings::next_root(roots, after);
-        if m == 0 {
-            return next;
-        }
-        let verdict = policy::accepts(p, by, family, m);
-        next = grow(
-            accepting,
-            rejecting,
-            m,
-            verdict,
-            65535,
-            next,
-            places,
-            masks,
-            parents,
-            scratch,
-            free,
-        );
-        if places < next {
-            tables::clear64(masks);
-            tables::clear16(parents);
-            return next;
-        }
-        after = m;
-    }
+    tables::clear16(&mut scratch[..free]);
+    grow(
+        accepting,
+        rejecting,
+        m,
+        verdict,
+        65535,
+        at,
+        places,
+        masks,
+        parents,
+        scratch,
+        free,
+    )
 }

@@ -1,23 +1,24 @@
 -- `graph::join_row` meets its contract: by whether the row has k. Assumes nothing.
-use mathlib.Core.Path.{sym, _∙_}
 use borrow.Author.Needs.{needs}
+use Rattle.lists.proofs.Bools.{≡eqb, neqb}
+use Rattle.masks.specs.Masks.{has}
 use Rattle.graph.specs.Through.{joinRow}
 use Rattle.graph.proofs.join_row.Statement.{statement}
 use Rattle.graph.proofs.join_row.Tie as tie
 
-has-requires : tie.Need-has-requires
-has-requires c κs = search needs
+cast-if1 : tie.Need-cast-if1
+cast-if1 c = search needs
 
-either-requires : tie.Need-either-requires
-either-requires c κs = search needs
+shr-if1 : tie.Need-shr-if1
+shr-if1 c = search needs
 
 returns : tie.Need-returns
-unfolding joinRow
-returns c = simp (sym (c .before .before .has .ensures) ∙ c .before .if1 .taken) (c .either .ensures)
+unfolding joinRow has
+returns c = simp (≡eqb _ _ (c .if1 .taken))
 
 returns-2 : tie.Need-returns-2
-unfolding joinRow
-returns-2 c = simp (sym (c .before .has .ensures) ∙ c .if1 .left)
+unfolding joinRow has
+returns-2 c = simp (neqb _ _ (c .if1 .left))
 
 pub join-row-spec : {M : Type 1} → statement M
-join-row-spec = tie.close (tie.spec has-requires either-requires returns returns-2)
+join-row-spec = tie.close (tie.spec cast-if1 shr-if1 returns returns-2)

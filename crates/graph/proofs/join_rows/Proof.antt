@@ -9,10 +9,10 @@ use Rattle.graph.proofs.join_rows.Statement.{statement}
 use Rattle.graph.proofs.join_rows.Tie as tie
 
 abbrev Inv-loop : tie.InvT-loop
-Inv-loop rows₀ k n pivot u₀ rows u = (u ≤ n) × (rows ≡ joinRows rows₀ k pivot u)
+Inv-loop rows₀ k pivot u₀ rows u = (u ≤ 16) × (rows ≡ joinRows rows₀ k pivot u)
 
 abbrev μ-loop : tie.MeasureT-loop
-μ-loop rows₀ k n pivot u₀ rows u = n - u
+μ-loop rows₀ k pivot u₀ rows u = 16 - u
 
 mul-pivot : tie.Need-mul-pivot Inv-loop μ-loop
 mul-pivot c = omega arith

@@ -2,11 +2,10 @@
 use Prim.Native.Nat.{_-_, _≤_}
 use native.Mathlib.Omega.{arith}
 use native.Mathlib.Nat.{le-antisymm}
-use mathlib.Core.Path.{_≡_, sym, _∙_}
-use mathlib.Core.Logic.{⊎-elim}
+use mathlib.Core.Path.{_≡_, sym}
 use borrow.Author.Needs.{needs}
 use Rattle.policy.specs.ByColour.{tableEdgesTo, tableEdges}
-use Rattle.policy.proofs.ByColour.{edges-none, edges-with, edges-without}
+use Rattle.policy.proofs.ByColour.{edges-none, edges-next}
 use Rattle.policy.proofs.edges_in.Statement.{statement}
 use Rattle.policy.proofs.edges_in.Tie as tie
 
@@ -22,17 +21,17 @@ element-copy-out-m c = search needs
 loop-holds : tie.Need-loop-holds Inv-loop μ-loop
 loop-holds c = (omega arith, sym (edges-none (c .before .args .t .now) (c .before .args .c)))
 
-set-has-requires : tie.Need-set-has-requires Inv-loop μ-loop
-set-has-requires c κs = omega arith
+cast-where-has : tie.Need-cast-where-has Inv-loop μ-loop
+cast-where-has c = omega arith
 
-cast-either : tie.Need-cast-either Inv-loop μ-loop
-cast-either c = omega arith
+mul-where-has : tie.Need-mul-where-has Inv-loop μ-loop
+mul-where-has c = omega arith
 
-mul-either : tie.Need-mul-either Inv-loop μ-loop
-mul-either c = omega arith
+element-copy-out-where-has : tie.Need-element-copy-out-where-has Inv-loop μ-loop
+element-copy-out-where-has c = omega arith
 
-element-copy-out-either : tie.Need-element-copy-out-either Inv-loop μ-loop
-element-copy-out-either c = omega arith
+where-has-requires : tie.Need-where-has-requires Inv-loop μ-loop
+where-has-requires c κs = omega arith
 
 either-requires : tie.Need-either-requires Inv-loop μ-loop
 either-requires c κs = search needs
@@ -44,13 +43,7 @@ loop-less : tie.Need-loop-less Inv-loop μ-loop
 loop-less c = omega arith
 
 loop-again : tie.Need-loop-again Inv-loop μ-loop
-loop-again c =
-    let d = c .before .before in
-    let t = d .before .before .before .args .t .now in
-    let s = d .before .before .before .args .c in
-    let k = d .before .loop .k in
-    let h = c .before .set-has .ensures in
-    (omega arith, ⊎-elim (λ w. cc (edges-with t k s (sym h ∙ w .0 .taken))) (λ w. cc (edges-without t k s (sym h ∙ w .0 .left))) (c .if1 .came))
+loop-again c = let a = c .before .before .before .before .before .before .args in (omega arith, cc (edges-next (a .t .now) (c .before .before .before .before .loop .k) (a .c)))
 
 returns : tie.Need-returns Inv-loop μ-loop
 unfolding tableEdges
@@ -64,10 +57,10 @@ edges-in-spec =
     μ-loop
     element-copy-out-m
     loop-holds
-    set-has-requires
-    cast-either
-    mul-either
-    element-copy-out-either
+    cast-where-has
+    mul-where-has
+    element-copy-out-where-has
+    where-has-requires
     either-requires
     add-k
     loop-less

@@ -1,0 +1,3 @@
+pub mod Looks
+pub mod Appending
+pub mod Turns

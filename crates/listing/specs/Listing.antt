@@ -1,0 +1,43 @@
+-- The candidates of a root as they stand in the lists that a caller lends, each with the colours of its masks beside it.
+use Prim.Native.Nat.{ℕ, _-_, _≤_}
+use mathlib.Core.Path.{_≡_}
+use mathlib.Core.Bool.{Bool, true, false, _||_}
+use mathlib.Core.List.{List, map}
+use lib.Dec.{ltb}
+use lib.ListN.{length, take}
+use Rattle.policy.specs.declared.Policy.{Policy}
+use Rattle.policy.specs.ByColour.{byColour, tableColours}
+use Rattle.graph.specs.Through.{GraphOf, EndsOf}
+use Rattle.candidates.specs.Candidates.{candidatesTo, candidates}
+use Rattle.listing.specs.declared.Counts.{Counts}
+
+-- of a list of masks, the first n count, and their colours stand in another; `hue` gives the colours of a mask
+pub record Hued (hue : ℕ → ℕ) (masks hues : List ℕ) (n : ℕ) : Type 0 where
+  pub long : n ≤ length masks
+  pub hues-long : n ≤ length hues
+  pub hues-are : take n hues ≡ map hue (take n masks)
+
+-- the parts of a legal policy that listing goes by: its graph, the edges that leave and enter each state, and those of each colour
+pub record PartsOf (p : Policy) (states letters : ℕ) (heads out into by : List ℕ) : Type 0 where
+  pub graph : GraphOf p states letters heads
+  pub ends : EndsOf p out into
+  pub by-is : by ≡ byColour p
+
+-- the lists of the root r after n sets
+pub record Listed (p : Policy) (by : List ℕ) (r n : ℕ) (accepting accepted rejecting rejected : List ℕ) (k : Counts) : Type 0 where
+  pub accepting-are : take (k .accepting) accepting ≡ candidatesTo p r n true
+  pub rejecting-are : take (k .rejecting) rejecting ≡ candidatesTo p r n false
+  pub accepting-hued : Hued (tableColours by) accepting accepted (k .accepting)
+  pub rejecting-hued : Hued (tableColours by) rejecting rejected (k .rejecting)
+
+-- of lists with so many places, one may have no room for a cycle of each state
+unfoldable pub lacksRoom : ℕ → ℕ → Counts → Bool
+lacksRoom accepting rejecting k = ltb (accepting - k .accepting) 16 || ltb (rejecting - k .rejecting) 16
+
+-- what a caller learns: where the listing is whole, the lists begin with the candidates of the root r; and with 4,096 places for either list it is whole
+pub record Outcome (p : Policy) (r : ℕ) (accepting rejecting : List ℕ) (whole : Bool) (k : Counts) : Type 0 where
+  pub accepting-long : k .accepting ≤ length accepting
+  pub rejecting-long : k .rejecting ≤ length rejecting
+  pub accepting-are : whole ≡ true → take (k .accepting) accepting ≡ candidates p r true
+  pub rejecting-are : whole ≡ true → take (k .rejecting) rejecting ≡ candidates p r false
+  pub enough : 4096 ≤ length accepting → 4096 ≤ length rejecting → whole ≡ true
