@@ -4,3 +4,4 @@ pub mod LargerFirst
 pub mod Wanted
 pub mod Listing
 pub mod Candidates
+pub mod Live

@@ -31,11 +31,11 @@ use Rattle.components.specs.Components.{lowestIs, largestIn}
 use Rattle.components.proofs.Components.{lowest-some, some-lowest, largest-in-mem, mem-largest-in, largest-in-few, largest-in-distinct}
 use Rattle.forest.specs.Forest.{roots, children}
 use Rattle.forest.proofs.Children.{child}
-use Rattle.candidates.specs.Candidates.{isWanted, withCycles, withSet, candidatesTo}
+use Rattle.candidates.specs.Candidates.{withCycles, withSet, candidatesTo}
 use Rattle.candidates.proofs.Full.{Full, full-cycle, full-state, full-largest, fill, fill-inside, inside-colours}
 use Rattle.candidates.proofs.Roots.{in-this-root, root-full}
 use Rattle.candidates.proofs.LargerFirst.{Falling}
-use Rattle.candidates.proofs.Wanted.{child-largest, not-wanted, cycles-kept, cycles-mem, cycles-few, cycles-distinct, cycles-falling, cycles-child}
+use Rattle.candidates.proofs.Wanted.{child-largest, cycles-kept, cycles-mem, cycles-few, cycles-distinct, cycles-falling, cycles-child}
 
 module _ (p : Policy) (lawful : legal p ≡ true) where
   targets : Targets p
@@ -152,23 +152,15 @@ module _ (p : Policy) (lawful : legal p ≡ true) where
 
       -- ---- a list with the wanted cycles of this set after it
       module _ (other same : List ℕ) where
-        set-each : (P : List ℕ → Type 0) → P same → P (withCycles (coloursOf p) c other same (largestIn p m)) → P (withSet p r c other same)
+        set-each : (P : List ℕ → Type 0) → P (withCycles (coloursOf p) c other same (largestIn p m)) → P (withSet p r c other same)
         unfolding withSet
-        set-each P a b = go (isWanted (coloursOf p) c m other same)
-          where
-            go : (d : Bool) → P (cond d (withCycles (coloursOf p) c other same (largestIn p m)) same)
-            go true = b
-            go false = a
+        set-each P a = a
 
         -- a child of one of the other list is in it
-        set-child : (y x : ℕ) → coloursOf p x ≡ c → List·Memᴰ y other → List·Memᴰ x (children p y) → inside x m ≡ true → List·Memᴰ x (largestIn p m)
+        set-child : (y x : ℕ) → coloursOf p x ≡ c → List·Memᴰ y other → List·Memᴰ x (children p y) → List·Memᴰ x (largestIn p m)
             → ((k : ℕ) → List·Memᴰ k same → (isCycle p k ≡ true) × (accepting p k ≡ accepting p x)) → List·Memᴰ x (withSet p r c other same)
-        unfolding withSet
-        set-child y x e k ch i f alike = go (test (isWanted (coloursOf p) c m other same))
-          where
-            go : (isWanted (coloursOf p) c m other same ≡ true) ⊎ (isWanted (coloursOf p) c m other same ≡ false) → List·Memᴰ x (cond (isWanted (coloursOf p) c m other same) (withCycles (coloursOf p) c other same (largestIn p m)) same)
-            go (inl w) = rw w (cycles-child p c other same (largestIn p m) y x e k ch alike (λ z o q. (full-cycle p lawful z (found-full z o q .0), accepting-colours p z x (q ∙ sym e))) f)
-            go (inr w) = rw w (not-wanted p m other same y x k ch i alike (ap (λ (d : ℕ). isWanted (coloursOf p) d m other same) e ∙ w))
+        set-child y x e k ch f alike =
+            set-each (List·Memᴰ x) (cycles-child p c other same (largestIn p m) y x e k ch alike (λ z o q. (full-cycle p lawful z (found-full z o q .0), accepting-colours p z x (q ∙ sym e))) f)
 
     -- ---- what holds after n sets
     pub record Listing (n : ℕ) (l : Bool → List ℕ) : Type 0 where
@@ -243,7 +235,7 @@ module _ (p : Policy) (lawful : legal p ≡ true) where
       next-kept b x k = go (turn b)
         where
           go : Turn b → List·Memᴰ x (next b)
-          go (looked e q) = subst (List·Memᴰ x) (sym q) (set-each c (l (not b)) (l b) (List·Memᴰ x) k (cycles-kept p c (l (not b)) (l b) (largestIn p (m c)) x k))
+          go (looked e q) = subst (List·Memᴰ x) (sym q) (set-each c (l (not b)) (l b) (List·Memᴰ x) (cycles-kept p c (l (not b)) (l b) (largestIn p (m c)) x k))
           go (stayed f q) = subst (List·Memᴰ x) (sym q) k
 
       next-mem : (b : Bool) (x : ℕ) → List·Memᴰ x (next b) → List·Memᴰ x (l b) ⊎ (List·Memᴰ x (largestIn p (m c)) × (coloursOf p x ≡ c) × (inFamily p c ≡ b))
@@ -257,7 +249,7 @@ module _ (p : Policy) (lawful : legal p ≡ true) where
           go (looked e q) =
               more e (set-each c (l (not b)) (l b)
               (λ (t : List ℕ). List·Memᴰ x t → List·Memᴰ x (l b) ⊎ (List·Memᴰ x (largestIn p (m c)) × (coloursOf p x ≡ c)))
-              inl (cycles-mem p c (l (not b)) (l b) (largestIn p (m c)) x) (subst (List·Memᴰ x) q k))
+              (cycles-mem p c (l (not b)) (l b) (largestIn p (m c)) x) (subst (List·Memᴰ x) q k))
           go (stayed f q) = inl (subst (List·Memᴰ x) q k)
 
       next-child : (b : Bool) (y x : ℕ) → List·Memᴰ y (l b) → List·Memᴰ x (children p y) → coloursOf p x ≡ c → List·Memᴰ x (next (not b))
@@ -283,7 +275,6 @@ module _ (p : Policy) (lawful : legal p ≡ true) where
           go (looked f q) =
               subst (List·Memᴰ x) (sym q)
               (set-child c (l (not (not b))) (l (not b)) y x e (subst (λ (d : Bool). List·Memᴰ y (l d)) (sym (not-not b)) k) ch
-              (in-both c x (inside-colours p lawful x c (full-cycle p lawful x full) (subst (λ (d : ℕ). inside d c ≡ true) (sym e) (inside-refl c))) i)
               (full-found c x full i e) (λ z o. let a = s .are (not b) z o in (full-cycle p lawful z (a .0), a .2 ∙ sym verdict)))
           go (stayed f q) =
               absurd (not-itself (not b) (sym verdict ∙ accepting-is p x ∙ ap (inFamily p) e ∙ f (subst (λ (d : ℕ). inside d (coloursOf p r) ≡ true) e (colours-up p x r i))))
@@ -294,7 +285,7 @@ module _ (p : Policy) (lawful : legal p ≡ true) where
           go : Turn b → (inFamily p c ≡ b → length (next b) ≤ length (l b) + p .states) × (inFamily p c ≡ not b → length (next b) ≤ length (l b))
           go (looked e q) = (
             λ _. subst (λ (t : List ℕ). length t ≤ length (l b) + p .states) (sym q)
-                (set-each c (l (not b)) (l b) (λ (t : List ℕ). length t ≤ length (l b) + p .states) (omega arith)
+                (set-each c (l (not b)) (l b) (λ (t : List ℕ). length t ≤ length (l b) + p .states)
                 (omega (arith, cycles-few p c (l (not b)) (l b) (largestIn p (m c)), largest-in-few p (m c)))),
             λ v. absurd (not-itself b (sym e ∙ v)),
           )
@@ -306,7 +297,7 @@ module _ (p : Policy) (lawful : legal p ≡ true) where
           go : Turn b → Distinct (next b)
           go (looked e q) =
               subst Distinct (sym q)
-              (set-each c (l (not b)) (l b) Distinct (s .distinct b)
+              (set-each c (l (not b)) (l b) Distinct
               (cycles-distinct p c (l (not b)) (l b) (largestIn p (m c)) (s .distinct b) (largest-in-distinct p lawful (m c)) (λ z o k. omega (arith, found-colours c z k, s .are b z o .3))))
           go (stayed f q) = subst Distinct (sym q) (s .distinct b)
 
@@ -316,7 +307,7 @@ module _ (p : Policy) (lawful : legal p ≡ true) where
           go : Turn b → Falling (coloursOf p) (next b)
           go (looked e q) =
               subst (Falling (coloursOf p)) (sym q)
-              (set-each c (l (not b)) (l b) (Falling (coloursOf p)) (s .falling b)
+              (set-each c (l (not b)) (l b) (Falling (coloursOf p))
               (cycles-falling p c (l (not b)) (l b) (largestIn p (m c)) (s .falling b) (λ z o. omega (arith, s .are b z o .3))))
           go (stayed f q) = subst (Falling (coloursOf p)) (sym q) (s .falling b)
 

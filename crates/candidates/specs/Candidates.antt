@@ -47,7 +47,7 @@ module _ (hue : ℕ → ℕ) where
 module _ (p : Policy) where
   -- a list of the verdict of c, and after it the wanted cycles inside the root r with exactly the colours c
   unfoldable pub withSet : ℕ → ℕ → List ℕ → List ℕ → List ℕ
-  withSet r c other same = let m = bitAnd (edgesIn p c) r in cond (isWanted (coloursOf p) c m other same) (withCycles (coloursOf p) c other same (largestIn p m)) same
+  withSet r c other same = withCycles (coloursOf p) c other same (largestIn p (bitAnd (edgesIn p c) r))
 
   -- the list of verdict b, after the first n sets below the colours of the root r, by falling mask: r itself, and the wanted cycles of each set of its colours
   unfoldable pub candidatesTo : ℕ → ℕ → Bool → List ℕ
@@ -59,6 +59,11 @@ module _ (p : Policy) where
 
   unfoldable pub candidates : ℕ → Bool → List ℕ
   candidates r b = candidatesTo r (coloursOf p r) b
+
+  -- of the root r: the edges l lie inside it, and have every cycle inside it with colours in c
+  pub record Live (r c l : ℕ) : Type 0 where
+    pub within : inside l r ≡ true
+    pub cycles : (x : ℕ) → isCycle p x ≡ true → inside x r ≡ true → inside (coloursOf p x) c ≡ true → inside x l ≡ true
 
   -- the candidates for a root: the largest cycles of all
   unfoldable pub rootCandidates : List ℕ

@@ -1,23 +1,29 @@
 -- One cycle after a list, and some in turn. Assumes nothing.
-use Prim.Native.Nat.{ℕ, _+_, _≤_, _<_}
+use Prim.Native.Nat.{ℕ, zero, suc, _+_, _≤_, _<_}
 use native.Mathlib.Omega.{arith}
+use native.Mathlib.Decide.{ℕ-discrete}
 use native.Mathlib.Numerals.{add-one}
-use mathlib.Core.Path.{_≡_, refl, sym, ap, ap₂, _∙_, fun-ext}
-use mathlib.Core.Logic.{_≢_}
-use mathlib.Core.Bool.{Bool, true, false, _&&_, cond}
-use mathlib.Core.List.{List, [], _∷_, _++_, map}
-use lib.Bits.{bitAnd}
+use mathlib.Core.Path.{_≡_, refl, sym, ap, ap₂, _∙_, subst, fun-ext}
+use mathlib.Core.Logic.{_⊎_, inl, inr, _≢_}
+use mathlib.Core.Bool.{Bool, true, false, _&&_, cond, true≢false, false≢true}
+use mathlib.Core.List.{List, [], _∷_, _++_, map, List·Memᴰ}
+use lib.Bits.{bitAnd, bitOr}
 use lib.Dec.{eqb}
-use lib.ListN.{length, getD, take, set, length-set}
+use lib.ListN.{length, getD, take, drop, set, length-set, List·getD-append, take-append-drop}
 use lib.Seq.{length-take-le, take-suc, take-set-le, getD-set-same}
-use Rattle.lists.proofs.Bools.{≡eqb, neqb}
+use Rattle.lists.proofs.Bools.{≡eqb, neqb, or-cases, or-left, or-right}
+use Rattle.lists.proofs.Lists.{getD-mem, mem-at}
+use Rattle.masks.specs.Masks.{has, inside}
+use Rattle.masks.proofs.Bits.{has-or, has-none, inside-all, all-inside, inside-refl, inside-trans}
 use Rattle.policy.specs.declared.Policy.{Policy}
-use Rattle.policy.specs.Policies.{coloursOf}
+use Rattle.policy.specs.Policies.{coloursOf, legal}
 use Rattle.policy.specs.ByColour.{edgesIn, tableEdges, tableColours}
+use Rattle.policy.proofs.Laws.{colours-up}
 use Rattle.policy.proofs.ByColour.{table-edges-are, table-colours-are}
 use Rattle.components.specs.Components.{largestIn}
-use Rattle.candidates.specs.Candidates.{wanted, isWanted, withCycle, withCycles, withSet}
-use Rattle.listing.specs.Listing.{Hued, PartsOf}
+use Rattle.candidates.specs.Candidates.{wanted, isWanted, withCycle, withCycles, withSet, Live}
+use Rattle.candidates.proofs.Live.{unwanted-none, coloured-none, largest-within, in-largest, live-largest}
+use Rattle.listing.specs.Listing.{Hued, PartsOf, unionTo, OnCycles}
 
 -- ---- a list with one more
 pub take-set : (t : List ℕ) (n x : ℕ) → n < length t → take (n + 1) (set t n x) ≡ take n t ++ (x ∷ [])
@@ -79,18 +85,77 @@ module _ {p : Policy} {states letters : ℕ} {heads out into by : List ℕ} (s :
   pub hue-is : tableColours by ≡ coloursOf p
   hue-is = ap tableColours (s .by-is) ∙ fun-ext (table-colours-are p (s .graph .lawful))
 
-  module _ (root c m : ℕ) (other hues same : List ℕ) (are : hues ≡ map (tableColours by) other) (em : m ≡ bitAnd (tableEdges by c) root) where
-    set-edges : m ≡ bitAnd (edgesIn p c) root
-    set-edges = em ∙ ap (λ (k : ℕ). bitAnd k root) (ap (λ (t : List ℕ). tableEdges t c) (s .by-is) ∙ table-edges-are p (s .graph .lawful) c)
+  -- the edges of a colour set, by the table
+  pub set-edges : (c l m : ℕ) → m ≡ bitAnd (tableEdges by c) l → m ≡ bitAnd (edgesIn p c) l
+  set-edges c l m e = e ∙ ap (λ (k : ℕ). bitAnd k l) (ap (λ (t : List ℕ). tableEdges t c) (s .by-is) ∙ table-edges-are p (s .graph .lawful) c)
 
-    set-is : (b : Bool) → wanted c m other hues same ≡ b → withSet p root c other same ≡ cond b (withCycles (coloursOf p) c other same (largestIn p m)) same
-    unfolding withSet isWanted
-    set-is b w =
-        ap (λ (k : ℕ). cond (wanted c k other (map (coloursOf p) other) same) (withCycles (coloursOf p) c other same (largestIn p k)) same) (sym set-edges)
-        ∙ ap (λ (d : Bool). cond d (withCycles (coloursOf p) c other same (largestIn p m)) same) (ap (λ (h : List ℕ). wanted c m other h same) (sym (are ∙ ap (λ (f : ℕ → ℕ). map f other) hue-is)) ∙ w)
+  pub set-listed : (root c l m : ℕ) (other same : List ℕ) → Live p root c m → m ≡ bitAnd (edgesIn p c) l → {t : List ℕ} → t ≡ withCycles (tableColours by) c other same (largestIn p m) → t ≡ withSet p root c other same
+  unfolding withSet
+  set-listed root c l m other same v em e =
+      e ∙ ap (λ (f : ℕ → ℕ). withCycles f c other same (largestIn p m)) hue-is ∙ ap (withCycles (coloursOf p) c other same) (live-largest p (s .graph .lawful) root c l m v em)
 
-    pub set-listed : {l : List ℕ} → wanted c m other hues same ≡ true → l ≡ withCycles (tableColours by) c other same (largestIn p m) → l ≡ withSet p root c other same
-    set-listed w e = e ∙ ap (λ (f : ℕ → ℕ). withCycles f c other same (largestIn p m)) hue-is ∙ sym (set-is true w)
+  -- nothing is listed where the edge set lacks a colour of c, or is not wanted
+  pub none-lacking : (c m : ℕ) (other same : List ℕ) → inside c (tableColours by m) ≡ false → same ≡ withCycles (tableColours by) c other same (largestIn p m)
+  none-lacking c m other same f = sym (coloured-none (tableColours by) c other same (largestIn p m) (λ x k e. true≢false (
+      sym (subst (λ (d : ℕ). inside d (tableColours by m) ≡ true) e (subst (λ (h : ℕ → ℕ). inside (h x) (h m) ≡ true) (sym hue-is) (colours-up p x m (largest-within p (s .graph .lawful) m x k)))) ∙ f
+      )))
 
-    pub set-skipped : wanted c m other hues same ≡ false → same ≡ withSet p root c other same
-    set-skipped w = sym (set-is false w)
+  pub none-wanted : (c m : ℕ) (other hues same : List ℕ) → hues ≡ map (tableColours by) other → wanted c m other hues same ≡ false → same ≡ withCycles (tableColours by) c other same (largestIn p m)
+  unfolding isWanted
+  none-wanted c m other hues same are w =
+      sym (unwanted-none (tableColours by) c other m same (largestIn p m) (ap (λ (h : List ℕ). wanted c m other h same) (sym are) ∙ w) (largest-within p (s .graph .lawful) m))
+
+-- ---- the edges on the cycles found
+union-none : (l : List ℕ) → unionTo l 0 ≡ 0
+unfolding unionTo
+union-none l = refl
+
+pub union-next : (l : List ℕ) (n : ℕ) → unionTo l (n + 1) ≡ bitOr (unionTo l n) (getD l n 0)
+unfolding unionTo
+union-next l n = ap (unionTo l) (add-one n)
+
+pub union-start : (l : List ℕ) → 0 ≡ unionTo l 0
+union-start l = sym (union-none l)
+
+in-union : (l : List ℕ) (n i : ℕ) → i < n → inside (getD l i 0) (unionTo l n) ≡ true
+unfolding unionTo
+in-union l zero i h = absurd (omega arith)
+in-union l (suc n) i h = go (ℕ-discrete i n) (in-union l n i)
+  where
+    right : (a b : ℕ) → inside b (bitOr a b) ≡ true
+    right a b = all-inside b (bitOr a b) (λ e t. has-or e a b ∙ or-right (has a e) (has b e) t)
+
+    left : (a b : ℕ) → inside a (bitOr a b) ≡ true
+    left a b = all-inside a (bitOr a b) (λ e t. has-or e a b ∙ or-left (has a e) (has b e) t)
+
+    go : Dec (i ≡ n) → (i < n → inside (getD l i 0) (unionTo l n) ≡ true) → inside (getD l i 0) (bitOr (unionTo l n) (getD l n 0)) ≡ true
+    go (yes e) ih = subst (λ (k : ℕ). inside (getD l k 0) (bitOr (unionTo l n) (getD l n 0)) ≡ true) (sym e) (right (unionTo l n) (getD l n 0))
+    go (no e) ih = inside-trans (getD l i 0) (unionTo l n) (bitOr (unionTo l n) (getD l n 0)) (ih (omega arith)) (left (unionTo l n) (getD l n 0))
+
+union-in : (l : List ℕ) (n m : ℕ) → ((i : ℕ) → i < n → inside (getD l i 0) m ≡ true) → inside (unionTo l n) m ≡ true
+unfolding unionTo
+union-in l zero m h = all-inside 0 m (λ e t. absurd (false≢true (sym (has-none e) ∙ t)))
+union-in l (suc n) m h =
+    let a = union-in l n m (λ i b. h i (omega arith)) in
+    all-inside (bitOr (unionTo l n) (getD l n 0)) m (λ e t. go e (or-cases (has (unionTo l n) e) (has (getD l n 0) e) (sym (has-or e (unionTo l n) (getD l n 0)) ∙ t)) a)
+  where
+    go : (e : ℕ) → (has (unionTo l n) e ≡ true) ⊎ (has (getD l n 0) e ≡ true) → inside (unionTo l n) m ≡ true → has m e ≡ true
+    go e (inl t) a = inside-all (unionTo l n) m a e t
+    go e (inr t) a = inside-all (getD l n 0) m (h n (omega arith)) e t
+
+pub union-on : (p : Policy) → legal p ≡ true → (m : ℕ) (t : List ℕ) (n e : ℕ) → n ≤ length t → take n t ≡ largestIn p m → e ≡ unionTo t n → OnCycles p m e
+union-on p lawful m t n e h q u = subst (OnCycles p m) (sym u) (record {
+  within = union-in t n m (λ i b. largest-within p lawful m (getD t i 0) (subst (List·Memᴰ (getD t i 0)) q (subst (λ (x : ℕ). List·Memᴰ x (take n t)) (front i b) (getD-mem (take n t) i 0 (omega (arith, length-take-le n t h))))));
+  cycles = λ x cy i.
+      let y = in-largest p lawful m x cy i in
+      let at = mem-at (take n t) 0 (y .0) (subst (List·Memᴰ (y .0)) (sym q) (y .1)) in
+      let b : at .0 < n = omega (arith, at .1, length-take-le n t h) in
+      inside-trans x (y .0) (unionTo t n) (y .2) (subst (λ (z : ℕ). inside z (unionTo t n) ≡ true) (sym (front (at .0) b) ∙ at .2) (in-union t n (at .0) b));
+})
+  where
+    front : (i : ℕ) → i < n → getD (take n t) i 0 ≡ getD t i 0
+    front i b = sym (List·getD-append (take n t) (drop n t) 0 i (omega (arith, length-take-le n t h))) ∙ ap (λ (l : List ℕ). getD l i 0) (take-append-drop n t)
+
+-- nothing was found to be off all cycles
+pub all-on : (p : Policy) (m : ℕ) → OnCycles p m m
+all-on p m = record { within = inside-refl m; cycles = λ x cy i. i }

@@ -1,3 +1,4 @@
 pub mod Looks
 pub mod Appending
+pub mod Above
 pub mod Turns

@@ -1,14 +1,18 @@
 -- The candidates of a root as they stand in the lists that a caller lends, each with the colours of its masks beside it.
-use Prim.Native.Nat.{ℕ, _-_, _≤_}
+use Prim.Native.Nat.{ℕ, zero, suc, _+_, _-_, _≤_}
 use mathlib.Core.Path.{_≡_}
-use mathlib.Core.Bool.{Bool, true, false, _||_}
+use mathlib.Core.Bool.{Bool, true, false, _||_, cond}
 use mathlib.Core.List.{List, map}
-use lib.Dec.{ltb}
-use lib.ListN.{length, take}
+use lib.Bits.{bitAnd, bitOr}
+use lib.Dec.{eqb, ltb}
+use lib.ListN.{length, getD, take}
+use Rattle.masks.specs.Masks.{inside}
 use Rattle.policy.specs.declared.Policy.{Policy}
+use Rattle.policy.specs.Policies.{coloursOf}
 use Rattle.policy.specs.ByColour.{byColour, tableColours}
+use Rattle.graph.specs.Cycles.{isCycle}
 use Rattle.graph.specs.Through.{GraphOf, EndsOf}
-use Rattle.candidates.specs.Candidates.{candidatesTo, candidates}
+use Rattle.candidates.specs.Candidates.{candidatesTo, candidates, Live}
 use Rattle.listing.specs.declared.Counts.{Counts}
 
 -- of a list of masks, the first n count, and their colours stand in another; `hue` gives the colours of a mask
@@ -23,12 +27,32 @@ pub record PartsOf (p : Policy) (states letters : ℕ) (heads out into by : List
   pub ends : EndsOf p out into
   pub by-is : by ≡ byColour p
 
--- the lists of the root r after n sets
-pub record Listed (p : Policy) (by : List ℕ) (r n : ℕ) (accepting accepted rejecting rejected : List ℕ) (k : Counts) : Type 0 where
+-- the first n sets of a list, as one
+unfoldable pub unionTo : List ℕ → ℕ → ℕ
+unionTo l zero = 0
+unionTo l (suc n) = bitOr (unionTo l n) (getD l n 0)
+
+-- all cycles inside m lie inside e, and e inside m
+pub record OnCycles (p : Policy) (m e : ℕ) : Type 0 where
+  pub within : inside e m ≡ true
+  pub cycles : (x : ℕ) → isCycle p x ≡ true → inside x m ≡ true → inside x e ≡ true
+
+-- ---- live edges, by colour sets
+-- of the colours u: c, with the lowest of them that it lacks
+unfoldable pub setAbove : ℕ → ℕ → ℕ
+setAbove u c = bitOr c (bitAnd (c + (255 - u) + 1) u)
+
+-- the live edges of that set; the root's where there is none
+unfoldable pub liveAbove : List ℕ → ℕ → ℕ → ℕ → ℕ
+liveAbove live r u c = let d = setAbove u c in cond (eqb d c) r (getD live d 0)
+
+-- the lists of the root r after n sets, and the live edges of these sets
+pub record Listed (p : Policy) (by : List ℕ) (r n : ℕ) (accepting accepted rejecting rejected live : List ℕ) (k : Counts) : Type 0 where
   pub accepting-are : take (k .accepting) accepting ≡ candidatesTo p r n true
   pub rejecting-are : take (k .rejecting) rejecting ≡ candidatesTo p r n false
   pub accepting-hued : Hued (tableColours by) accepting accepted (k .accepting)
   pub rejecting-hued : Hued (tableColours by) rejecting rejected (k .rejecting)
+  pub live-are : (d : ℕ) → inside d (coloursOf p r) ≡ true → coloursOf p r - n ≤ d → Live p r d (getD live d 0)
 
 -- of lists with so many places, one may have no room for a cycle of each state
 unfoldable pub lacksRoom : ℕ → ℕ → Counts → Bool

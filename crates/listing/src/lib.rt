@@ -12,7 +12,8 @@ ghost use Rattle.policy.specs.ByColour.{byColour, tableColours};
 ghost use Rattle.components.specs.Components.{largestIn};
 ghost use Rattle.forest.specs.Forest.{roots};
 ghost use Rattle.candidates.specs.Candidates.{covers, mayHold, wanted, withCycle, withCycles};
-ghost use Rattle.listing.specs.Listing.{Hued, PartsOf, Listed, lacksRoom, Outcome};
+ghost use Rattle.masks.specs.Masks.{inside};
+ghost use Rattle.listing.specs.Listing.{Hued, PartsOf, unionTo, OnCycles, setAbove, liveAbove, Listed, lacksRoom, Outcome};
 
 // How many masks each list holds.
 pub struct Counts {
@@ -24,6 +25,12 @@ pub struct Counts {
 pub struct Listing {
     pub counts: Counts,
     pub whole: bool,
+}
+
+// How many masks a list holds, and the edges on the cycles that were looked at.
+struct Cycles {
+    count: usize,
+    edges: u64,
 }
 
 // Whether e lies inside a mask of the list that itself lies inside y.
@@ -119,6 +126,18 @@ fn append_cycles(
     next
 }
 
+// The edges of the first n cycles.
+fn edges_of(cycles: &[u64; 16], n: usize) -> u64
+    requires { ⌜ n ≤ 16 ⌝ }
+    ensures { λ r. ⌜ r ≡ unionTo (now (cycles .entry)) n ⌝ }
+{
+    let mut m: u64 = 0;
+    for i in 0..n {
+        m = masks::either(m, cycles[i]);
+    }
+    m
+}
+
 // The wanted ones of the largest cycles inside m whose colours are exactly c, after the first `count` masks of a list. Beside the lists stand the parts of the policy, which
 // itself would be copied.
 fn list_cycles(
@@ -135,21 +154,89 @@ fn list_cycles(
     same: &mut [u64],
     own: &mut [u8],
     count: usize,
-) -> usize
+) -> Cycles
     requires policy { ⌜ ((p : Policy) × PartsOf p states letters (now heads) (now out) (now into) (now by)) ⌝ }
     requires other { ⌜ now hues ≡ map (tableColours (now by)) (now other) ⌝ }
     requires room { ⌜ Hued (tableColours (now by)) (now same) (now own) count × (count + 16 ≤ length (now same)) × (count + 16 ≤ length (now own)) ⌝ }
-    ensures masks { λ r. ⌜ ((p : Policy) → PartsOf p states letters (now (heads .entry)) (now (out .entry)) (now (into .entry)) (now (by .entry)) → take r (now (same .exit)) ≡ withCycles (tableColours (now (by .entry))) c (now (other .entry)) (take count (now (same .entry))) (largestIn p m)) ⌝ }
-    ensures hues { λ r. ⌜ Hued (tableColours (now (by .entry))) (now (same .exit)) (now (own .exit)) r ⌝ }
+    ensures masks { λ r. ⌜ ((p : Policy) → PartsOf p states letters (now (heads .entry)) (now (out .entry)) (now (into .entry)) (now (by .entry)) → take (r .count) (now (same .exit)) ≡ withCycles (tableColours (now (by .entry))) c (now (other .entry)) (take count (now (same .entry))) (largestIn p m)) ⌝ }
+    ensures hues { λ r. ⌜ Hued (tableColours (now (by .entry))) (now (same .exit)) (now (own .exit)) (r .count) ⌝ }
+    ensures edges { λ r. ⌜ ((p : Policy) → PartsOf p states letters (now (heads .entry)) (now (out .entry)) (now (into .entry)) (now (by .entry)) → OnCycles p m (r .edges)) ⌝ }
 {
     let mut rows = [0u16; 16];
     let mut cycles = [0u64; 16];
     let n = components::fill_cycles(states, letters, heads, out, into, m, &mut rows, &mut cycles);
-    append_cycles(by, c, &cycles, n, other, hues, same, own, count)
+    let edges = edges_of(&cycles, n);
+    let next = append_cycles(by, c, &cycles, n, other, hues, same, own, count);
+    Cycles { count: next, edges }
 }
 
-// The next set c of the colours `used` of the root: where the root has all of its colours, its wanted cycles, in the list of its verdict. The search stands apart, so that the
-// look at a set is short.
+// The same, where m has all the colours c and is wanted; elsewhere there are none.
+fn list_wanted(
+    states: usize,
+    letters: usize,
+    heads: &[u8; 64],
+    out: &[u64; 16],
+    into: &[u64; 16],
+    by: &[u64; 9],
+    c: u8,
+    m: u64,
+    other: &[u64],
+    hues: &[u8],
+    same: &mut [u64],
+    own: &mut [u8],
+    count: usize,
+) -> Cycles
+    requires policy { ⌜ ((p : Policy) × PartsOf p states letters (now heads) (now out) (now into) (now by)) ⌝ }
+    requires other { ⌜ now hues ≡ map (tableColours (now by)) (now other) ⌝ }
+    requires room { ⌜ Hued (tableColours (now by)) (now same) (now own) count × (count + 16 ≤ length (now same)) × (count + 16 ≤ length (now own)) ⌝ }
+    ensures masks { λ r. ⌜ ((p : Policy) → PartsOf p states letters (now (heads .entry)) (now (out .entry)) (now (into .entry)) (now (by .entry)) → take (r .count) (now (same .exit)) ≡ withCycles (tableColours (now (by .entry))) c (now (other .entry)) (take count (now (same .entry))) (largestIn p m)) ⌝ }
+    ensures hues { λ r. ⌜ Hued (tableColours (now (by .entry))) (now (same .exit)) (now (own .exit)) (r .count) ⌝ }
+    ensures edges { λ r. ⌜ ((p : Policy) → PartsOf p states letters (now (heads .entry)) (now (out .entry)) (now (into .entry)) (now (by .entry)) → OnCycles p m (r .edges)) ⌝ }
+{
+    if masks::set_inside(c, policy::colours_in(by, m)) {
+        if is_wanted(c, m, other, hues, &same[..count]) {
+            return list_cycles(
+                states,
+                letters,
+                heads,
+                out,
+                into,
+                by,
+                c,
+                m,
+                other,
+                hues,
+                same,
+                own,
+                count,
+            );
+        }
+    }
+    Cycles { count, edges: m }
+}
+
+// Of the colours `used`: c, with the lowest of them that it lacks.
+fn set_above(used: u8, c: u8) -> u8
+    requires { ⌜ c < used ⌝ }
+    ensures { λ r. ⌜ r ≡ setAbove used c ⌝ }
+{
+    c | ((c + (255 - used) + 1) & used)
+}
+
+// The live edges of that set.
+fn live_above(live: &[u64], root: u64, used: u8, c: u8) -> u64
+    requires { ⌜ (c < used) × (inside c used ≡ true) × (used < length (now live)) ⌝ }
+    ensures { λ r. ⌜ r ≡ liveAbove (now (live .entry)) root used c ⌝ }
+{
+    let d = set_above(used, c);
+    if d == c {
+        return root;
+    }
+    live[d as usize]
+}
+
+// The next set c below the colours `used` of the root: if it is one of these colours, its wanted cycles, in the list of its verdict. They are looked for among the live edges of
+// a set with one colour more.
 fn list_next(
     states: usize,
     letters: usize,
@@ -165,43 +252,21 @@ fn list_next(
     accepted: &mut [u8],
     rejecting: &mut [u64],
     rejected: &mut [u8],
+    live: &mut [u64],
     listed: Counts,
 ) -> Counts
     requires policy { ⌜ ((p : Policy) × PartsOf p states letters (now heads) (now out) (now into) (now by)) ⌝ }
     requires accepting { ⌜ Hued (tableColours (now by)) (now accepting) (now accepted) (listed .accepting) × (listed .accepting + 16 ≤ length (now accepting)) × (listed .accepting + 16 ≤ length (now accepted)) ⌝ }
     requires rejecting { ⌜ Hued (tableColours (now by)) (now rejecting) (now rejected) (listed .rejecting) × (listed .rejecting + 16 ≤ length (now rejecting)) × (listed .rejecting + 16 ≤ length (now rejected)) ⌝ }
-    ensures { λ r. ⌜ ((p : Policy) → PartsOf p states letters (now (heads .entry)) (now (out .entry)) (now (into .entry)) (now (by .entry)) → now (family .entry) ≡ p .family → (n : ℕ) → used ≡ coloursOf p root → c ≡ used - 1 - n → Listed p (now (by .entry)) root n (now (accepting .entry)) (now (accepted .entry)) (now (rejecting .entry)) (now (rejected .entry)) listed → Listed p (now (by .entry)) root (n + 1) (now (accepting .exit)) (now (accepted .exit)) (now (rejecting .exit)) (now (rejected .exit)) r) ⌝ }
+    requires live { ⌜ (c < used) × (used < length (now live)) ⌝ }
+    ensures { λ r. ⌜ ((p : Policy) → PartsOf p states letters (now (heads .entry)) (now (out .entry)) (now (into .entry)) (now (by .entry)) → now (family .entry) ≡ p .family → (n : ℕ) → used ≡ coloursOf p root → c ≡ used - 1 - n → Listed p (now (by .entry)) root n (now (accepting .entry)) (now (accepted .entry)) (now (rejecting .entry)) (now (rejected .entry)) (now (live .entry)) listed → Listed p (now (by .entry)) root (n + 1) (now (accepting .exit)) (now (accepted .exit)) (now (rejecting .exit)) (now (rejected .exit)) (now (live .exit)) r) ⌝ }
 {
     let a = listed.accepting;
     let b = listed.rejecting;
     if masks::set_inside(c, used) {
-        let m = masks::both(policy::edges_in(by, c), root);
+        let m = masks::both(policy::edges_in(by, c), live_above(live, root, used, c));
         if family[c as usize] {
-            if is_wanted(c, m, &rejecting[..b], &rejected[..b], &accepting[..a]) {
-                let n = list_cycles(
-                    states,
-                    letters,
-                    heads,
-                    out,
-                    into,
-                    by,
-                    c,
-                    m,
-                    &rejecting[..b],
-                    &rejected[..b],
-                    accepting,
-                    accepted,
-                    a,
-                );
-                return Counts {
-                    accepting: n,
-                    rejecting: b,
-                };
-            }
-            return listed;
-        }
-        if is_wanted(c, m, &accepting[..a], &accepted[..a], &rejecting[..b]) {
-            let n = list_cycles(
+            let n = list_wanted(
                 states,
                 letters,
                 heads,
@@ -210,18 +275,38 @@ fn list_next(
                 by,
                 c,
                 m,
-                &accepting[..a],
-                &accepted[..a],
-                rejecting,
-                rejected,
-                b,
+                &rejecting[..b],
+                &rejected[..b],
+                accepting,
+                accepted,
+                a,
             );
+            live[c as usize] = n.edges;
             return Counts {
-                accepting: a,
-                rejecting: n,
+                accepting: n.count,
+                rejecting: b,
             };
         }
-        return listed;
+        let n = list_wanted(
+            states,
+            letters,
+            heads,
+            out,
+            into,
+            by,
+            c,
+            m,
+            &accepting[..a],
+            &accepted[..a],
+            rejecting,
+            rejected,
+            b,
+        );
+        live[c as usize] = n.edges;
+        return Counts {
+            accepting: a,
+            rejecting: n.count,
+        };
     }
     listed
 }
@@ -235,11 +320,13 @@ fn begin(
     accepted: &mut [u8],
     rejecting: &mut [u64],
     rejected: &mut [u8],
+    live: &mut [u64],
 ) -> Counts
-    requires { ⌜ (0 < length (now accepting)) × (0 < length (now accepted)) × (0 < length (now rejecting)) × (0 < length (now rejected)) ⌝ }
-    ensures { λ r. ⌜ ((p : Policy) → legal p ≡ true → now (by .entry) ≡ byColour p → now (family .entry) ≡ p .family → Listed p (now (by .entry)) root 0 (now (accepting .exit)) (now (accepted .exit)) (now (rejecting .exit)) (now (rejected .exit)) r) ⌝ }
+    requires { ⌜ (0 < length (now accepting)) × (0 < length (now accepted)) × (0 < length (now rejecting)) × (0 < length (now rejected)) × (tableColours (now by) root < length (now live)) ⌝ }
+    ensures { λ r. ⌜ ((p : Policy) → legal p ≡ true → now (by .entry) ≡ byColour p → now (family .entry) ≡ p .family → Listed p (now (by .entry)) root 0 (now (accepting .exit)) (now (accepted .exit)) (now (rejecting .exit)) (now (rejected .exit)) (now (live .exit)) r) ⌝ }
 {
     let used = policy::colours_in(by, root);
+    live[used as usize] = root;
     if family[used as usize] {
         accepting[0] = root;
         accepted[0] = used;
@@ -265,8 +352,8 @@ fn lacks_room(accepting: usize, rejecting: usize, listed: Counts) -> bool
 }
 
 // The candidates of a root, each list by falling masks of their colours and then by their lowest states. Where a list may have no room for the next set, the listing ends before
-// it and is not whole. Places past the masks are undecided. This is an inner layer: its callers lend the parts of a legal policy, and one of its roots.
-pub fn fill_candidates(
+// it and is not whole. Places past the masks are undecided.
+fn fill_lists(
     states: usize,
     letters: usize,
     heads: &[u8; 64],
@@ -279,9 +366,11 @@ pub fn fill_candidates(
     accepted: &mut [u8],
     rejecting: &mut [u64],
     rejected: &mut [u8],
+    live: &mut [u64],
 ) -> Listing
     requires policy { ⌜ ((p : Policy) × PartsOf p states letters (now heads) (now out) (now into) (now by) × (now family ≡ p .family) × List·Memᴰ root (roots p)) ⌝ }
     requires places { ⌜ (0 < length (now accepting)) × (length (now accepted) ≡ length (now accepting)) × (0 < length (now rejecting)) × (length (now rejected) ≡ length (now rejecting)) ⌝ }
+    requires live { ⌜ tableColours (now by) root < length (now live) ⌝ }
     ensures { λ r. ⌜ ((p : Policy) → PartsOf p states letters (now (heads .entry)) (now (out .entry)) (now (into .entry)) (now (by .entry)) → now (family .entry) ≡ p .family → List·Memᴰ root (roots p) → Outcome p root (now (accepting .exit)) (now (rejecting .exit)) (r .whole) (r .counts)) ⌝ }
 {
     let table = *by;
@@ -294,6 +383,7 @@ pub fn fill_candidates(
         accepted,
         rejecting,
         rejected,
+        live,
     );
     for c in 0..used {
         if lacks_room(accepting.len(), rejecting.len(), listed) {
@@ -317,6 +407,7 @@ pub fn fill_candidates(
             accepted,
             rejecting,
             rejected,
+            live,
             listed,
         );
     }
@@ -324,4 +415,59 @@ pub fn fill_candidates(
         counts: listed,
         whole: true,
     }
+}
+
+// The same, with space for the live edges of each set of the root's colours. This is an inner layer: its callers lend the parts of a legal policy, and one of its roots.
+pub fn fill_candidates(
+    states: usize,
+    letters: usize,
+    heads: &[u8; 64],
+    out: &[u64; 16],
+    into: &[u64; 16],
+    by: &[u64; 9],
+    family: &[bool; 256],
+    root: u64,
+    accepting: &mut [u64],
+    accepted: &mut [u8],
+    rejecting: &mut [u64],
+    rejected: &mut [u8],
+) -> Listing
+    requires policy { ⌜ ((p : Policy) × PartsOf p states letters (now heads) (now out) (now into) (now by) × (now family ≡ p .family) × List·Memᴰ root (roots p)) ⌝ }
+    requires places { ⌜ (0 < length (now accepting)) × (length (now accepted) ≡ length (now accepting)) × (0 < length (now rejecting)) × (length (now rejected) ≡ length (now rejecting)) ⌝ }
+    ensures { λ r. ⌜ ((p : Policy) → PartsOf p states letters (now (heads .entry)) (now (out .entry)) (now (into .entry)) (now (by .entry)) → now (family .entry) ≡ p .family → List·Memᴰ root (roots p) → Outcome p root (now (accepting .exit)) (now (rejecting .exit)) (r .whole) (r .counts)) ⌝ }
+{
+    if policy::colours_in(by, root) < 16 {
+        let mut live = [0u64; 16];
+        return fill_lists(
+            states,
+            letters,
+            heads,
+            out,
+            into,
+            by,
+            family,
+            root,
+            accepting,
+            accepted,
+            rejecting,
+            rejected,
+            &mut live,
+        );
+    }
+    let mut live = [0u64; 256];
+    fill_lists(
+        states,
+        letters,
+        heads,
+        out,
+        into,
+        by,
+        family,
+        root,
+        accepting,
+        accepted,
+        rejecting,
+        rejected,
+        &mut live,
+    )
 }

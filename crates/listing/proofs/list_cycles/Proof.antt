@@ -2,25 +2,34 @@
 use Prim.Native.Nat.{_≤_}
 use native.Mathlib.Omega.{arith}
 use mathlib.Core.Path.{ap, _∙_}
-use lib.ListN.{take}
+use lib.ListN.{take, replicate}
 use borrow.Author.Needs.{needs}
 use Rattle.policy.specs.ByColour.{tableColours}
 use Rattle.policy.proofs.Laws.{legal-counts}
+use Rattle.components.specs.Finding.{Found}
 use Rattle.components.proofs.Finding.{found-first}
 use Rattle.candidates.specs.Candidates.{withCycles}
+use Rattle.listing.proofs.Appending.{union-on}
 use Rattle.listing.proofs.list_cycles.Statement.{statement}
 use Rattle.listing.proofs.list_cycles.Tie as tie
 
 fill-cycles-requires : tie.Need-fill-cycles-requires
 fill-cycles-requires c κs = search needs
 
+-- the cycles found, in the policy that the contract asks for
+found : (c : tie.After-fill-cycles) → Found (c .before .before .before .before .before .before .before .pre .0 .0) (c .before .before .before .before .before .before .before .args .m) (replicate 16 0) (c .fill-cycles .last .1 .1 .1 .1 .1 .1 .1 .0) (c .fill-cycles .result)
+found c = let s = c .before .before .before .before .before .before .before in c .fill-cycles .ensures .0 (s .pre .0 .0) (s .pre .0 .1 .graph) (s .pre .0 .1 .ends)
+
+few : (c : tie.After-fill-cycles) → c .fill-cycles .result ≤ 16
+few c = let q = c .before .before .before .before .before .before .before .pre .0 in omega (arith, found c .few, legal-counts (q .0) (q .1 .graph .lawful) .states-few)
+
+edges-of-requires : tie.Need-edges-of-requires
+edges-of-requires c κs = few (c .before)
+
 append-cycles-requires : tie.Need-append-cycles-requires
 append-cycles-requires c κs =
-    let s = c .before .before .before .before .before .before .before .before .before .before in
-    let g = s .pre .0 .1 .graph in
-    let found = c .before .before .before .fill-cycles .ensures .0 (s .pre .0 .0) g (s .pre .0 .1 .ends) in
-    let few : c .before .before .before .fill-cycles .result ≤ 16 = omega (arith, found .few, legal-counts (s .pre .0 .0) (g .lawful) .states-few) in
-    ((few, found .long), (s .pre .1 .0, (s .pre .1 .1 .0, omega (arith, s .pre .1 .1 .1), omega (arith, s .pre .1 .1 .2))))
+    let s = c .before .before .before .before .before .before .before .before .before .before .before .before in
+    ((few (c .before .before .before .before .before), found (c .before .before .before .before .before) .long), (s .pre .1 .0, (s .pre .1 .1 .0, omega (arith, few (c .before .before .before .before .before), s .pre .1 .1 .1), omega (arith, few (c .before .before .before .before .before), s .pre .1 .1 .2))))
 
 same-length : tie.Need-same-length
 same-length c = search needs
@@ -30,14 +39,21 @@ same-length-2 c = search needs
 
 returns : tie.Need-returns
 returns c =
-    let s = c .before .before .before .before .before .before .before .before .before .before .before .before .before .before .before in
+    let s = c .before .before .before .before .before .before .before .before .before .before .before .before .before .before .before .before .before in
     let a = s .args in
+    let f = c .before .before .before .before .before .before .before .before .before .before .fill-cycles in
     let o = c .before .before .before .before .append-cycles .ensures in (
-      λ p t. o .0 ∙ ap (withCycles (tableColours (a .by .now)) (a .c) (a .other .now) (take (a .count) (a .same .now))) (found-first p (t .graph .lawful) (c .before .before .before .before .before .before .before .before .fill-cycles .ensures .0 p (t .graph) (t .ends))),
-      o .1 .0,
+      λ p t. o .0 ∙ ap (withCycles (tableColours (a .by .now)) (a .c) (a .other .now) (take (a .count) (a .same .now))) (found-first p (t .graph .lawful) (f .ensures .0 p (t .graph) (t .ends))),
+      (o .1 .0, λ p t. let q = f .ensures .0 p (t .graph) (t .ends) in union-on p (t .graph .lawful) (a .m) (f .last .1 .1 .1 .1 .1 .1 .1 .0) (f .result) (c .before .before .before .before .before .before .before .before .edges-of .result) (omega (arith, q .few, q .long, legal-counts p (t .graph .lawful) .states-few)) (found-first p (t .graph .lawful) q) (c .before .before .before .before .before .before .before .before .edges-of .ensures)),
     )
 
 pub list-cycles-spec : {M : Type 1} → statement M
 list-cycles-spec =
     tie.close
-    (tie.spec fill-cycles-requires append-cycles-requires same-length same-length-2 returns)
+    (tie.spec
+    fill-cycles-requires
+    edges-of-requires
+    append-cycles-requires
+    same-length
+    same-length-2
+    returns)
