@@ -1,7 +1,8 @@
--- What need not be searched. An edge set that is not wanted has no wanted cycle inside it, and one that lacks a colour of c has no cycle with exactly the colours c; edge sets
--- with the same cycles have the same largest ones, so the cycles of a colour set are looked for among edges that are live: all edges on cycles with these colours are among them.
+-- What need not be searched. An edge set that is not wanted has no wanted cycle inside it, and one that lacks a colour of c has no cycle with exactly the colours c; where no listed
+-- cycle of the other verdict has all the colours c, nothing is wanted. And the cycles with exactly the colours c are looked for among edges that are live: those on such cycles.
 -- Assumes nothing.
 use Prim.Native.Nat.{ℕ, _<_}
+use native.Mathlib.Omega.{arith}
 use native.Mathlib.Decide.{ℕ-discrete}
 use mathlib.Core.Path.{_≡_, refl, sym, ap, _∙_, subst}
 use mathlib.Core.Logic.{_⊎_, inl, inr, _≢_}
@@ -9,10 +10,10 @@ use mathlib.Core.Bool.{Bool, true, false, not, _&&_, _||_, cond, true≢false, f
 use mathlib.Core.List.{List, [], _∷_, _++_, map, List·Memᴰ, List·Memᴰ·head, List·Memᴰ·tail}
 use lib.Bits.{bitAnd}
 use lib.Dec.{eqb, ltb}
-use lib.ListN.{length, getD}
+use lib.ListN.{length, getD, length-map}
 use Rattle.lists.specs.Lists.{any, flat, below}
-use Rattle.lists.proofs.Bools.{test, eqb≡, ≡eqb, neqb, and-l, and-r, both, or-left, or-right, or-cases, not-true}
-use Rattle.lists.proofs.Lists.{any-some, some-any, below-lt, map-same}
+use Rattle.lists.proofs.Bools.{test, ≡eqb, neqb, and-l, and-r, both, or-left, or-right, or-cases, not-true}
+use Rattle.lists.proofs.Lists.{any-some, some-any, below-lt, getD-mem}
 use Rattle.masks.specs.Masks.{has, inside}
 use Rattle.masks.proofs.Bits.{has-and, has-none, inside-all, all-inside, inside-refl, inside-trans, inside-antisym}
 use Rattle.policy.specs.declared.Policy.{Policy}
@@ -27,7 +28,7 @@ use Rattle.graph.proofs.Through.{through-inside, through-cycle, through-largest
 use Rattle.graph.proofs.Inside.{contains-lt, cycle-state}
 use Rattle.components.specs.Components.{lowestIs, largestAt, largestIn}
 use Rattle.components.proofs.Components.{some-lowest, largest-in-mem, mem-largest-in}
-use Rattle.candidates.specs.Candidates.{covers, mayHold, wanted, isWanted, withCycle, withCycles, Live}
+use Rattle.candidates.specs.Candidates.{covers, mayHold, wanted, isOpen, isWanted, withCycle, withCycles, Live}
 use Rattle.candidates.proofs.Full.{inside-colours}
 
 -- ---- what is wanted inside an edge set makes it wanted
@@ -74,7 +75,32 @@ wanted-more c m x other hues same i t = go (or-cases long (any (λ (j : ℕ). ma
         or-right long (any (λ (j : ℕ). mayHold c m same (getD hues j 0) (getD other j 0)) (below (length other)))
         (some-any (λ (j : ℕ). mayHold c m same (getD hues j 0) (getD other j 0)) (below (length other)) (r .0) (r .1) (held-more c m x same (getD hues (r .0) 0) (getD other (r .0) 0) i (r .2)))
 
+-- what is wanted is open
+wanted-open : (c x : ℕ) (other hues same : List ℕ) → length hues ≡ length other → wanted c x other hues same ≡ true → isOpen c hues (length same) ≡ true
+unfolding wanted isOpen mayHold
+wanted-open c x other hues same e t = go (or-cases (ltb 16 (length other) || ltb 16 (length same)) (any held (below (length other))) t)
+  where
+    held : ℕ → Bool
+    held j = mayHold c x same (getD hues j 0) (getD other j 0)
+
+    long : (ltb 16 (length other) ≡ true) ⊎ (ltb 16 (length same) ≡ true) → ltb 16 (length hues) || ltb 16 (length same) ≡ true
+    long (inl l) = or-left (ltb 16 (length hues)) (ltb 16 (length same)) (ap (ltb 16) e ∙ l)
+    long (inr l) = or-right (ltb 16 (length hues)) (ltb 16 (length same)) l
+
+    go : (ltb 16 (length other) || ltb 16 (length same) ≡ true) ⊎ (any held (below (length other)) ≡ true) → ltb 16 (length hues) || ltb 16 (length same) || any (inside c) hues ≡ true
+    go (inl l) = or-left (ltb 16 (length hues) || ltb 16 (length same)) (any (inside c) hues) (long (or-cases (ltb 16 (length other)) (ltb 16 (length same)) l))
+    go (inr q) =
+        let r = any-some held (below (length other)) q in
+        let i = r .0 in
+        let first = and-l (inside c (getD hues i 0) && not (eqb (bitAnd x (getD other i 0)) 0)) (not (any (covers (bitAnd x (getD other i 0)) (getD other i 0)) same)) (r .2) in
+        or-right (ltb 16 (length hues) || ltb 16 (length same)) (any (inside c) hues)
+        (some-any (inside c) hues (getD hues i 0) (getD-mem hues i 0 (omega (arith, e, below-lt (length other) i (r .1)))) (and-l (inside c (getD hues i 0)) (not (eqb (bitAnd x (getD other i 0)) 0)) first))
+
 -- ---- nothing is listed
+and-none : (b : Bool) → b && false ≡ false
+and-none true = refl
+and-none false = refl
+
 module _ (hue : ℕ → ℕ) (c : ℕ) (other : List ℕ) where
   none-listed : (same xs : List ℕ) → ((x : ℕ) → List·Memᴰ x xs → eqb (hue x) c && isWanted hue c x other same ≡ false) → withCycles hue c other same xs ≡ same
   unfolding withCycles withCycle
@@ -87,41 +113,40 @@ module _ (hue : ℕ → ℕ) (c : ℕ) (other : List ℕ) where
   unfolding isWanted
   unwanted-none m same xs w within = none-listed same xs (λ x k. go x k (test (wanted c x other (map hue other) same)))
     where
-      off : (b : Bool) → b && false ≡ false
-      off true = refl
-      off false = refl
-
       go : (x : ℕ) → List·Memᴰ x xs → (wanted c x other (map hue other) same ≡ true) ⊎ (wanted c x other (map hue other) same ≡ false) → eqb (hue x) c && wanted c x other (map hue other) same ≡ false
       go x k (inl t) = absurd (true≢false (sym (wanted-more c m x other (map hue other) same (within x k) t) ∙ w))
-      go x k (inr f) = ap (λ (b : Bool). eqb (hue x) c && b) f ∙ off (eqb (hue x) c)
+      go x k (inr f) = ap (λ (b : Bool). eqb (hue x) c && b) f ∙ and-none (eqb (hue x) c)
+
+  -- where nothing is open
+  pub closed-none : (same xs : List ℕ) → isOpen c (map hue other) (length same) ≡ false → withCycles hue c other same xs ≡ same
+  unfolding isWanted
+  closed-none same xs w = none-listed same xs (λ x k. go x (test (wanted c x other (map hue other) same)))
+    where
+      go : (x : ℕ) → (wanted c x other (map hue other) same ≡ true) ⊎ (wanted c x other (map hue other) same ≡ false) → eqb (hue x) c && wanted c x other (map hue other) same ≡ false
+      go x (inl t) = absurd (true≢false (sym (wanted-open c x other (map hue other) same (length-map other hue) t) ∙ w))
+      go x (inr f) = ap (λ (b : Bool). eqb (hue x) c && b) f ∙ and-none (eqb (hue x) c)
 
   -- of cycles with other colours
   pub coloured-none : (same xs : List ℕ) → ((x : ℕ) → List·Memᴰ x xs → hue x ≢ c) → withCycles hue c other same xs ≡ same
   coloured-none same xs h = none-listed same xs (λ x k. ap (λ (b : Bool). b && isWanted hue c x other same) (neqb (hue x) c (h x k)))
 
+-- ---- lists of lists
+module _ (hue : ℕ → ℕ) (c : ℕ) (other : List ℕ) where
+  cycles-append : (same xs ys : List ℕ) → withCycles hue c other same (xs ++ ys) ≡ withCycles hue c other (withCycles hue c other same xs) ys
+  unfolding withCycles
+  cycles-append same [] ys = refl
+  cycles-append same (x ∷ xs) ys = cycles-append (withCycle hue c other same x) xs ys
+
+  each-same : (f g : ℕ → List ℕ) (vs : List ℕ) → ((v : ℕ) → List·Memᴰ v vs → (same : List ℕ) → withCycles hue c other same (f v) ≡ withCycles hue c other same (g v))
+      → (same : List ℕ) → withCycles hue c other same (flat (map f vs)) ≡ withCycles hue c other same (flat (map g vs))
+  each-same f g [] h same = refl
+  each-same f g (v ∷ vs) h same =
+      cycles-append same (f v) (flat (map f vs)) ∙ ap (λ (l : List ℕ). withCycles hue c other l (flat (map f vs))) (h v (List·Memᴰ·head refl) same)
+      ∙ each-same f g vs (λ w k. h w (List·Memᴰ·tail k)) (withCycles hue c other same (g v)) ∙ sym (cycles-append same (g v) (flat (map g vs)))
+
 module _ (p : Policy) (lawful : legal p ≡ true) where
   targets : Targets p
   targets e l = legal-target p lawful e l
-
-  -- ---- edge sets with the same cycles
-  abbrev CyclesIn : ℕ → ℕ → Type 0
-  CyclesIn a b = (x : ℕ) → isCycle p x ≡ true → inside x a ≡ true → inside x b ≡ true
-
-  through-up : (a b v : ℕ) → v < p .states → CyclesIn a b → inside (cycleThrough p a v) (cycleThrough p b v) ≡ true
-  through-up a b v l up = go (ℕ-discrete (cycleThrough p a v) 0)
-    where
-      go : Dec (cycleThrough p a v ≡ 0) → inside (cycleThrough p a v) (cycleThrough p b v) ≡ true
-      go (yes z) = all-inside (cycleThrough p a v) (cycleThrough p b v) (λ e t. absurd (false≢true (sym (has-none e) ∙ ap (λ (x : ℕ). has x e) (sym z) ∙ t)))
-      go (no nz) =
-          let c = through-cycle p targets a v l nz in
-          through-largest p targets b v l (cycleThrough p a v) (c .0) (up (cycleThrough p a v) (c .0) (through-inside p a v)) (c .1)
-
-  largest-same : (a b : ℕ) → CyclesIn a b → CyclesIn b a → largestIn p a ≡ largestIn p b
-  unfolding largestIn largestAt
-  largest-same a b up down = ap flat (map-same (largestAt p a) (largestAt p b) (below (p .states)) (λ v k. ap (λ (x : ℕ). cond (lowestIs p v x) (x ∷ []) []) (same v (below-lt (p .states) v k))))
-    where
-      same : (v : ℕ) → v < p .states → cycleThrough p a v ≡ cycleThrough p b v
-      same v l = inside-antisym (cycleThrough p a v) (cycleThrough p b v) (through-up a b v l up) (through-up b a v l down)
 
   -- one of the largest lies inside the edge set, and each cycle inside it in one of them
   pub largest-within : (m x : ℕ) → List·Memᴰ x (largestIn p m) → inside x m ≡ true
@@ -136,8 +161,8 @@ module _ (p : Policy) (lawful : legal p ≡ true) where
       (y, mem-largest-in p m (r .0) y (contains-lt p lawful (r .0) y (r .1)) (sym (through-same p targets m (s .0) (r .0) (s .1) (r .1))) (r .2), up)
 
   -- ---- live edges
-  pub live-root : (r c : ℕ) → Live p r c r
-  live-root r c = record { within = inside-refl r; cycles = λ x cy i k. i }
+  pub live-root : (r n c : ℕ) → Live p r n c r
+  live-root r n c = record { within = inside-refl r; cycles = λ x cy i k t. i }
 
   in-left : (a b : ℕ) → inside (bitAnd a b) a ≡ true
   in-left a b = all-inside (bitAnd a b) a (λ e t. and-l (has a e) (has b e) (sym (has-and e a b) ∙ t))
@@ -148,25 +173,74 @@ module _ (p : Policy) (lawful : legal p ≡ true) where
   in-both : (x a b : ℕ) → inside x a ≡ true → inside x b ≡ true → inside x (bitAnd a b) ≡ true
   in-both x a b i k = all-inside x (bitAnd a b) (λ e t. has-and e a b ∙ both (has a e) (has b e) (inside-all x a i e t) (inside-all x b k e t))
 
-  -- of a smaller colour set
-  pub live-less : (r d l c m : ℕ) → Live p r d l → inside c d ≡ true → m ≡ bitAnd (edgesIn p c) l → Live p r c m
-  live-less r d l c m v i e = subst (Live p r c) (sym e) (record {
+  -- of a smaller colour set that needs more
+  pub live-less : (r o d l n c m : ℕ) → Live p r o d l → inside o n ≡ true → inside c d ≡ true → m ≡ bitAnd (edgesIn p c) l → Live p r n c m
+  live-less r o d l n c m v j i e = subst (Live p r n c) (sym e) (record {
     within = inside-trans (bitAnd (edgesIn p c) l) l r (in-right (edgesIn p c) l) (v .within);
-    cycles = λ x cy k q. in-both x (edgesIn p c) l (inside-colours p lawful x c cy q) (v .cycles x cy k (inside-trans (coloursOf p x) c d q i));
+    cycles = λ x cy k q t. in-both x (edgesIn p c) l (inside-colours p lawful x c cy q) (v .cycles x cy k (inside-trans (coloursOf p x) c d q i) (inside-trans o n (coloursOf p x) j t));
   })
 
   -- and those of them that are on cycles
-  pub live-found : (r c m e : ℕ) → Live p r c m → inside e m ≡ true → ((x : ℕ) → isCycle p x ≡ true → inside x m ≡ true → inside x e ≡ true) → Live p r c e
-  live-found r c m e v i h = record { within = inside-trans e m r i (v .within); cycles = λ x cy k q. h x cy (v .cycles x cy k q) }
+  pub live-found : (r n c m e : ℕ) → Live p r n c m → inside e m ≡ true → ((x : ℕ) → isCycle p x ≡ true → inside x m ≡ true → inside n (coloursOf p x) ≡ true → inside x e ≡ true) → Live p r n c e
+  live-found r n c m e v i h = record { within = inside-trans e m r i (v .within); cycles = λ x cy k q t. h x cy (v .cycles x cy k q t) t }
 
-  module _ (r c l m : ℕ) (v : Live p r c m) (em : m ≡ bitAnd (edgesIn p c) l) where
-    coloured : inside m (edgesIn p c) ≡ true
-    coloured = subst (λ (z : ℕ). inside z (edgesIn p c) ≡ true) (sym em) (in-left (edgesIn p c) l)
+  -- the largest cycles among them with exactly the colours c are those inside the root
+  module _ (r n c l m : ℕ) (v : Live p r n c m) (needs : inside n c ≡ true) (em : m ≡ bitAnd (edgesIn p c) l) (other : List ℕ) where
+    abbrev all-edges : ℕ
+    all-edges = bitAnd (edgesIn p c) r
 
-    fewer : (x : ℕ) → inside x (edgesIn p c) ≡ true → inside (coloursOf p x) c ≡ true
-    fewer x i = inside-trans (coloursOf p x) (coloursOf p (edgesIn p c)) c (colours-up p x (edgesIn p c) i) (edges-in-colours p c)
+    smaller : inside m all-edges ≡ true
+    smaller = in-both m (edgesIn p c) r (subst (λ (z : ℕ). inside z (edgesIn p c) ≡ true) (sym em) (in-left (edgesIn p c) l)) (v .within)
 
-    pub live-largest : largestIn p m ≡ largestIn p (bitAnd (edgesIn p c) r)
-    live-largest = largest-same m (bitAnd (edgesIn p c) r)
-        (λ x cy i. in-both x (edgesIn p c) r (inside-trans x m (edgesIn p c) i coloured) (inside-trans x m r i (v .within)))
-        (λ x cy i. v .cycles x cy (inside-trans x (bitAnd (edgesIn p c) r) r i (in-right (edgesIn p c) r)) (fewer x (inside-trans x (bitAnd (edgesIn p c) r) (edgesIn p c) i (in-left (edgesIn p c) r))))
+    exact : (x : ℕ) → isCycle p x ≡ true → inside x all-edges ≡ true → coloursOf p x ≡ c → inside x m ≡ true
+    exact x cy i e = v .cycles x cy (inside-trans x all-edges r i (in-right (edgesIn p c) r)) (subst (λ (d : ℕ). inside d c ≡ true) (sym e) (inside-refl c)) (subst (λ (d : ℕ). inside n d ≡ true) (sym e) needs)
+
+    fewer : (x : ℕ) → inside x all-edges ≡ true → inside (coloursOf p x) c ≡ true
+    fewer x i =
+        inside-trans (coloursOf p x) (coloursOf p (edgesIn p c)) c (colours-up p x (edgesIn p c) (inside-trans x all-edges (edgesIn p c) i (in-left (edgesIn p c) r))) (edges-in-colours p c)
+
+    module _ (w : ℕ) (b : w < p .states) where
+      abbrev x : ℕ
+      x = cycleThrough p m w
+
+      abbrev y : ℕ
+      y = cycleThrough p all-edges w
+
+      at-most : inside x y ≡ true
+      at-most = go (ℕ-discrete x 0)
+        where
+          go : Dec (x ≡ 0) → inside x y ≡ true
+          go (yes z) = all-inside x y (λ e t. absurd (false≢true (sym (has-none e) ∙ ap (λ (q : ℕ). has q e) (sym z) ∙ t)))
+          go (no nz) =
+              let q = through-cycle p targets m w b nz in
+              through-largest p targets all-edges w b x (q .0) (inside-trans x m all-edges (through-inside p m w) smaller) (q .1)
+
+      -- either the cycles through the state are the same, or neither has these colours
+      one-state : (same : List ℕ) → withCycles (coloursOf p) c other same (largestAt p m w) ≡ withCycles (coloursOf p) c other same (largestAt p all-edges w)
+      unfolding largestAt
+      one-state same = go (ℕ-discrete y 0) (ℕ-discrete (coloursOf p y) c)
+        where
+          listed : ℕ → List ℕ
+          listed z = cond (lowestIs p w z) (z ∷ []) []
+
+          none : (z : ℕ) → coloursOf p z ≢ c → withCycles (coloursOf p) c other same (listed z) ≡ same
+          none z ne = coloured-none (coloursOf p) c other same (listed z) (λ u k e. ne (ap (coloursOf p) (sym (only (lowestIs p w z) k)) ∙ e))
+            where
+              only : (d : Bool) {u : ℕ} → List·Memᴰ u (cond d (z ∷ []) []) → u ≡ z
+              only true (List·Memᴰ·head e) = e
+
+          equal : x ≡ y → withCycles (coloursOf p) c other same (listed x) ≡ withCycles (coloursOf p) c other same (listed y)
+          equal e = ap (λ (z : ℕ). withCycles (coloursOf p) c other same (listed z)) e
+
+          go : Dec (y ≡ 0) → Dec (coloursOf p y ≡ c) → withCycles (coloursOf p) c other same (listed x) ≡ withCycles (coloursOf p) c other same (listed y)
+          go (yes z) d = equal (inside-antisym x y at-most (all-inside y x (λ e t. absurd (false≢true (sym (has-none e) ∙ ap (λ (q : ℕ). has q e) (sym z) ∙ t)))))
+          go (no nz) (yes e) =
+              let q = through-cycle p targets all-edges w b nz in
+              equal (inside-antisym x y at-most (through-largest p targets m w b y (q .0) (exact y (q .0) (through-inside p all-edges w) e) (q .1)))
+          go (no nz) (no ne) =
+              none x (λ e. ne (inside-antisym (coloursOf p y) c (fewer y (through-inside p all-edges w)) (subst (λ (d : ℕ). inside d (coloursOf p y) ≡ true) e (colours-up p x y at-most))))
+              ∙ sym (none y ne)
+
+    pub live-exact : (same : List ℕ) → withCycles (coloursOf p) c other same (largestIn p m) ≡ withCycles (coloursOf p) c other same (largestIn p all-edges)
+    unfolding largestIn
+    live-exact same = each-same (coloursOf p) c other (largestAt p m) (largestAt p all-edges) (below (p .states)) (λ w k. one-state w (below-lt (p .states) w k)) same

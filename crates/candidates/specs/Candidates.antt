@@ -30,6 +30,10 @@ mayHold c m same h y = inside c h && not (eqb (bitAnd m y) 0) && not (any (cover
 unfoldable pub wanted : ℕ → ℕ → List ℕ → List ℕ → List ℕ → Bool
 wanted c m other hues same = ltb 16 (length other) || ltb 16 (length same) || any (λ i. mayHold c m same (getD hues i 0) (getD other i 0)) (below (length other))
 
+-- some listed cycle of the other verdict has all the colours c: `hues` are their colours, and there are `same` of the verdict of c. Nothing is wanted where the answer is no
+unfoldable pub isOpen : ℕ → List ℕ → ℕ → Bool
+isOpen c hues same = ltb 16 (length hues) || ltb 16 same || any (inside c) hues
+
 -- ---- wanted cycles after a list; `hue` gives the colours of an edge set
 module _ (hue : ℕ → ℕ) where
   unfoldable pub isWanted : ℕ → ℕ → List ℕ → List ℕ → Bool
@@ -60,10 +64,10 @@ module _ (p : Policy) where
   unfoldable pub candidates : ℕ → Bool → List ℕ
   candidates r b = candidatesTo r (coloursOf p r) b
 
-  -- of the root r: the edges l lie inside it, and have every cycle inside it with colours in c
-  pub record Live (r c l : ℕ) : Type 0 where
+  -- of the root r: the edges l lie inside it, and have every cycle inside it whose colours are in c, and among them all of n
+  pub record Live (r n c l : ℕ) : Type 0 where
     pub within : inside l r ≡ true
-    pub cycles : (x : ℕ) → isCycle p x ≡ true → inside x r ≡ true → inside (coloursOf p x) c ≡ true → inside x l ≡ true
+    pub cycles : (x : ℕ) → isCycle p x ≡ true → inside x r ≡ true → inside (coloursOf p x) c ≡ true → inside n (coloursOf p x) ≡ true → inside x l ≡ true
 
   -- the candidates for a root: the largest cycles of all
   unfoldable pub rootCandidates : List ℕ

@@ -14,7 +14,7 @@ use Rattle.lists.proofs.AnyAll.{any-more}
 use Rattle.lists.proofs.Bools.{or-left, or-right}
 use Rattle.lists.proofs.Lists.{some-any, mem-below}
 use Rattle.masks.specs.Masks.{inside}
-use Rattle.candidates.specs.Candidates.{covers, mayHold, wanted}
+use Rattle.candidates.specs.Candidates.{covers, mayHold, wanted, isOpen}
 
 module _ (test : ℕ → Bool) (l : List ℕ) (i : ℕ) where
   pub none-more : i < length l → any test (take i l) ≡ false → test (getD l i 0) ≡ false → any test (take (i + 1) l) ≡ false
@@ -51,3 +51,17 @@ module _ (c m : ℕ) (other hues same : List ℕ) where
   pub none-wanted : (i : ℕ) → i ≡ length other → ltb 16 (length other) || ltb 16 (length same) ≡ false → any holds (below i) ≡ false → false ≡ wanted c m other hues same
   unfolding wanted
   none-wanted i e f a = sym (rw f (ap (λ (k : ℕ). any holds (below k)) (sym e) ∙ a))
+
+-- ---- what is open
+module _ (c : ℕ) (hues : List ℕ) (k : ℕ) where
+  pub long-open : ltb 16 (length hues) || ltb 16 k ≡ true → true ≡ isOpen c hues k
+  unfolding isOpen
+  long-open t = sym (or-left (ltb 16 (length hues) || ltb 16 k) (any (inside c) hues) t)
+
+  pub some-open : any (inside c) hues ≡ true → true ≡ isOpen c hues k
+  unfolding isOpen
+  some-open t = sym (or-right (ltb 16 (length hues) || ltb 16 k) (any (inside c) hues) t)
+
+  pub none-open : ltb 16 (length hues) || ltb 16 k ≡ false → any (inside c) hues ≡ false → false ≡ isOpen c hues k
+  unfolding isOpen
+  none-open f a = sym (rw f a)

@@ -2,18 +2,18 @@
 // stand their colour sets, accepted and rejected.
 ghost use mathlib.Core.Path.{_≡_};
 ghost use mathlib.Core.Bool.{true};
-ghost use mathlib.Core.List.{map, List·Memᴰ};
+ghost use mathlib.Core.List.{List, map, List·Memᴰ};
 ghost use Prim.Native.Nat.{ℕ, _+_, _-_, _<_, _≤_};
-ghost use lib.ListN.{length, take};
+ghost use lib.ListN.{length, getD, take};
 ghost use Rattle.lists.specs.Lists.{any};
 ghost use Rattle.policy.specs.declared.Policy.{Policy};
 ghost use Rattle.policy.specs.Policies.{coloursOf, legal};
 ghost use Rattle.policy.specs.ByColour.{byColour, tableColours};
 ghost use Rattle.components.specs.Components.{largestIn};
 ghost use Rattle.forest.specs.Forest.{roots};
-ghost use Rattle.candidates.specs.Candidates.{covers, mayHold, wanted, withCycle, withCycles};
+ghost use Rattle.candidates.specs.Candidates.{covers, mayHold, wanted, isOpen, withCycle, withCycles};
 ghost use Rattle.masks.specs.Masks.{inside};
-ghost use Rattle.listing.specs.Listing.{Hued, PartsOf, unionTo, OnCycles, setAbove, liveAbove, Listed, lacksRoom, Outcome};
+ghost use Rattle.listing.specs.Listing.{Hued, PartsOf, whereInside, unionTo, OnCycles, stepFrom, setAbove, upper, liveAbove, Listed, lacksRoom, Outcome};
 
 // How many masks each list holds.
 pub struct Counts {
@@ -27,7 +27,7 @@ pub struct Listing {
     pub whole: bool,
 }
 
-// How many masks a list holds, and the edges on the cycles that were looked at.
+// How many masks a list holds, and edges that have the cycles of a set.
 struct Cycles {
     count: usize,
     edges: u64,
@@ -73,6 +73,22 @@ fn is_wanted(c: u8, m: u64, other: &[u64], hues: &[u8], same: &[u64]) -> bool
     false
 }
 
+// Whether a listed mask of the other verdict has all the colours c. `hues` are their colours, and `same` masks of the verdict of c are listed. Where the answer is no, nothing with
+// these colours is wanted.
+fn is_open(c: u8, hues: &[u8], same: usize) -> bool
+    ensures { λ r. ⌜ r ≡ isOpen c (now (hues .entry)) same ⌝ }
+{
+    if (16 < hues.len()) | (16 < same) {
+        return true;
+    }
+    for i in 0..hues.len() {
+        if masks::set_inside(c, hues[i]) {
+            return true;
+        }
+    }
+    false
+}
+
 // The cycle x after the first `count` masks of a list, if its colours by the table are exactly c and it is wanted. It has many parameters, as those below: both lists with their
 // colours.
 fn append_cycle(
@@ -101,9 +117,20 @@ fn append_cycle(
     count
 }
 
-// The first n cycles in turn.
+// The cycle x, where it has the colours u.
+fn edges_with(by: &[u64; 9], u: u8, x: u64) -> u64
+    ensures { λ r. ⌜ r ≡ whereInside u (tableColours (now (by .entry)) x) x ⌝ }
+{
+    if masks::set_inside(u, policy::colours_in(by, x)) {
+        return x;
+    }
+    0
+}
+
+// The first n cycles in turn, and the edges of those that have the colours u.
 fn append_cycles(
     by: &[u64; 9],
+    u: u8,
     c: u8,
     cycles: &[u64; 16],
     n: usize,
@@ -112,30 +139,21 @@ fn append_cycles(
     same: &mut [u64],
     own: &mut [u8],
     count: usize,
-) -> usize
+) -> Cycles
     requires cycles { ⌜ (n ≤ 16) × (length (now cycles) ≡ 16) ⌝ }
     requires other { ⌜ now hues ≡ map (tableColours (now by)) (now other) ⌝ }
     requires room { ⌜ Hued (tableColours (now by)) (now same) (now own) count × (count + n ≤ length (now same)) × (count + n ≤ length (now own)) ⌝ }
-    ensures masks { λ r. ⌜ take r (now (same .exit)) ≡ withCycles (tableColours (now (by .entry))) c (now (other .entry)) (take count (now (same .entry))) (take n (now (cycles .entry))) ⌝ }
-    ensures hues { λ r. ⌜ Hued (tableColours (now (by .entry))) (now (same .exit)) (now (own .exit)) r × (r ≤ count + n) ⌝ }
+    ensures masks { λ r. ⌜ take (r .count) (now (same .exit)) ≡ withCycles (tableColours (now (by .entry))) c (now (other .entry)) (take count (now (same .entry))) (take n (now (cycles .entry))) ⌝ }
+    ensures hues { λ r. ⌜ Hued (tableColours (now (by .entry))) (now (same .exit)) (now (own .exit)) (r .count) ⌝ }
+    ensures edges { λ r. ⌜ r .edges ≡ unionTo (tableColours (now (by .entry))) u (now (cycles .entry)) n ⌝ }
 {
     let mut next = count;
+    let mut edges: u64 = 0;
     for i in 0..n {
+        edges = masks::either(edges, edges_with(by, u, cycles[i]));
         next = append_cycle(by, c, cycles[i], other, hues, same, own, next);
     }
-    next
-}
-
-// The edges of the first n cycles.
-fn edges_of(cycles: &[u64; 16], n: usize) -> u64
-    requires { ⌜ n ≤ 16 ⌝ }
-    ensures { λ r. ⌜ r ≡ unionTo (now (cycles .entry)) n ⌝ }
-{
-    let mut m: u64 = 0;
-    for i in 0..n {
-        m = masks::either(m, cycles[i]);
-    }
-    m
+    Cycles { count: next, edges }
 }
 
 // The wanted ones of the largest cycles inside m whose colours are exactly c, after the first `count` masks of a list. Beside the lists stand the parts of the policy, which
@@ -147,6 +165,7 @@ fn list_cycles(
     out: &[u64; 16],
     into: &[u64; 16],
     by: &[u64; 9],
+    u: u8,
     c: u8,
     m: u64,
     other: &[u64],
@@ -160,14 +179,12 @@ fn list_cycles(
     requires room { ⌜ Hued (tableColours (now by)) (now same) (now own) count × (count + 16 ≤ length (now same)) × (count + 16 ≤ length (now own)) ⌝ }
     ensures masks { λ r. ⌜ ((p : Policy) → PartsOf p states letters (now (heads .entry)) (now (out .entry)) (now (into .entry)) (now (by .entry)) → take (r .count) (now (same .exit)) ≡ withCycles (tableColours (now (by .entry))) c (now (other .entry)) (take count (now (same .entry))) (largestIn p m)) ⌝ }
     ensures hues { λ r. ⌜ Hued (tableColours (now (by .entry))) (now (same .exit)) (now (own .exit)) (r .count) ⌝ }
-    ensures edges { λ r. ⌜ ((p : Policy) → PartsOf p states letters (now (heads .entry)) (now (out .entry)) (now (into .entry)) (now (by .entry)) → OnCycles p m (r .edges)) ⌝ }
+    ensures edges { λ r. ⌜ ((p : Policy) → PartsOf p states letters (now (heads .entry)) (now (out .entry)) (now (into .entry)) (now (by .entry)) → OnCycles p u m (r .edges)) ⌝ }
 {
     let mut rows = [0u16; 16];
     let mut cycles = [0u64; 16];
     let n = components::fill_cycles(states, letters, heads, out, into, m, &mut rows, &mut cycles);
-    let edges = edges_of(&cycles, n);
-    let next = append_cycles(by, c, &cycles, n, other, hues, same, own, count);
-    Cycles { count: next, edges }
+    append_cycles(by, u, c, &cycles, n, other, hues, same, own, count)
 }
 
 // The same, where m has all the colours c and is wanted; elsewhere there are none.
@@ -178,6 +195,7 @@ fn list_wanted(
     out: &[u64; 16],
     into: &[u64; 16],
     by: &[u64; 9],
+    u: u8,
     c: u8,
     m: u64,
     other: &[u64],
@@ -191,7 +209,7 @@ fn list_wanted(
     requires room { ⌜ Hued (tableColours (now by)) (now same) (now own) count × (count + 16 ≤ length (now same)) × (count + 16 ≤ length (now own)) ⌝ }
     ensures masks { λ r. ⌜ ((p : Policy) → PartsOf p states letters (now (heads .entry)) (now (out .entry)) (now (into .entry)) (now (by .entry)) → take (r .count) (now (same .exit)) ≡ withCycles (tableColours (now (by .entry))) c (now (other .entry)) (take count (now (same .entry))) (largestIn p m)) ⌝ }
     ensures hues { λ r. ⌜ Hued (tableColours (now (by .entry))) (now (same .exit)) (now (own .exit)) (r .count) ⌝ }
-    ensures edges { λ r. ⌜ ((p : Policy) → PartsOf p states letters (now (heads .entry)) (now (out .entry)) (now (into .entry)) (now (by .entry)) → OnCycles p m (r .edges)) ⌝ }
+    ensures edges { λ r. ⌜ ((p : Policy) → PartsOf p states letters (now (heads .entry)) (now (out .entry)) (now (into .entry)) (now (by .entry)) → OnCycles p u m (r .edges)) ⌝ }
 {
     if masks::set_inside(c, policy::colours_in(by, m)) {
         if is_wanted(c, m, other, hues, &same[..count]) {
@@ -202,6 +220,7 @@ fn list_wanted(
                 out,
                 into,
                 by,
+                u,
                 c,
                 m,
                 other,
@@ -215,28 +234,47 @@ fn list_wanted(
     Cycles { count, edges: m }
 }
 
+// One more than c with all colours outside `used`.
+fn step_from(used: u8, c: u8) -> u8
+    requires { ⌜ c < used ⌝ }
+    ensures { λ r. ⌜ r ≡ stepFrom used c ⌝ }
+{
+    c + (255 - used) + 1
+}
+
 // Of the colours `used`: c, with the lowest of them that it lacks.
 fn set_above(used: u8, c: u8) -> u8
     requires { ⌜ c < used ⌝ }
     ensures { λ r. ⌜ r ≡ setAbove used c ⌝ }
 {
-    c | ((c + (255 - used) + 1) & used)
+    c | (step_from(used, c) & used)
 }
 
-// The live edges of that set.
+// And without those below that one.
+fn upper(used: u8, c: u8) -> u8
+    requires { ⌜ c < used ⌝ }
+    ensures { λ r. ⌜ r ≡ upper used c ⌝ }
+{
+    c & step_from(used, c)
+}
+
+// The live edges of the set above c, where they do for c: that is asked, and is always so. The root's do for every set.
 fn live_above(live: &[u64], root: u64, used: u8, c: u8) -> u64
     requires { ⌜ (c < used) × (inside c used ≡ true) × (used < length (now live)) ⌝ }
     ensures { λ r. ⌜ r ≡ liveAbove (now (live .entry)) root used c ⌝ }
 {
     let d = set_above(used, c);
-    if d == c {
+    if d == used {
         return root;
     }
-    live[d as usize]
+    if masks::set_inside(upper(used, d), upper(used, c)) {
+        return live[d as usize];
+    }
+    root
 }
 
 // The next set c below the colours `used` of the root: if it is one of these colours, its wanted cycles, in the list of its verdict. They are looked for among the live edges of
-// a set with one colour more.
+// the set above.
 fn list_next(
     states: usize,
     letters: usize,
@@ -264,8 +302,35 @@ fn list_next(
     let a = listed.accepting;
     let b = listed.rejecting;
     if masks::set_inside(c, used) {
-        let m = masks::both(policy::edges_in(by, c), live_above(live, root, used, c));
         if family[c as usize] {
+            if is_open(c, &rejected[..b], a) {
+                let m = masks::both(policy::edges_in(by, c), live_above(live, root, used, c));
+                let n = list_wanted(
+                    states,
+                    letters,
+                    heads,
+                    out,
+                    into,
+                    by,
+                    upper(used, c),
+                    c,
+                    m,
+                    &rejecting[..b],
+                    &rejected[..b],
+                    accepting,
+                    accepted,
+                    a,
+                );
+                live[c as usize] = n.edges;
+                return Counts {
+                    accepting: n.count,
+                    rejecting: b,
+                };
+            }
+            return listed;
+        }
+        if is_open(c, &accepted[..a], b) {
+            let m = masks::both(policy::edges_in(by, c), live_above(live, root, used, c));
             let n = list_wanted(
                 states,
                 letters,
@@ -273,40 +338,22 @@ fn list_next(
                 out,
                 into,
                 by,
+                upper(used, c),
                 c,
                 m,
-                &rejecting[..b],
-                &rejected[..b],
-                accepting,
-                accepted,
-                a,
+                &accepting[..a],
+                &accepted[..a],
+                rejecting,
+                rejected,
+                b,
             );
             live[c as usize] = n.edges;
             return Counts {
-                accepting: n.count,
-                rejecting: b,
+                accepting: a,
+                rejecting: n.count,
             };
         }
-        let n = list_wanted(
-            states,
-            letters,
-            heads,
-            out,
-            into,
-            by,
-            c,
-            m,
-            &accepting[..a],
-            &accepted[..a],
-            rejecting,
-            rejected,
-            b,
-        );
-        live[c as usize] = n.edges;
-        return Counts {
-            accepting: a,
-            rejecting: n.count,
-        };
+        return listed;
     }
     listed
 }
@@ -320,13 +367,11 @@ fn begin(
     accepted: &mut [u8],
     rejecting: &mut [u64],
     rejected: &mut [u8],
-    live: &mut [u64],
 ) -> Counts
-    requires { ⌜ (0 < length (now accepting)) × (0 < length (now accepted)) × (0 < length (now rejecting)) × (0 < length (now rejected)) × (tableColours (now by) root < length (now live)) ⌝ }
-    ensures { λ r. ⌜ ((p : Policy) → legal p ≡ true → now (by .entry) ≡ byColour p → now (family .entry) ≡ p .family → Listed p (now (by .entry)) root 0 (now (accepting .exit)) (now (accepted .exit)) (now (rejecting .exit)) (now (rejected .exit)) (now (live .exit)) r) ⌝ }
+    requires { ⌜ (0 < length (now accepting)) × (0 < length (now accepted)) × (0 < length (now rejecting)) × (0 < length (now rejected)) ⌝ }
+    ensures { λ r. ⌜ ((p : Policy) → legal p ≡ true → now (by .entry) ≡ byColour p → now (family .entry) ≡ p .family → (live : List ℕ) → ((d : ℕ) → d < length live → getD live d 0 ≡ root) → Listed p (now (by .entry)) root 0 (now (accepting .exit)) (now (accepted .exit)) (now (rejecting .exit)) (now (rejected .exit)) live r) ⌝ }
 {
     let used = policy::colours_in(by, root);
-    live[used as usize] = root;
     if family[used as usize] {
         accepting[0] = root;
         accepted[0] = used;
@@ -370,7 +415,7 @@ fn fill_lists(
 ) -> Listing
     requires policy { ⌜ ((p : Policy) × PartsOf p states letters (now heads) (now out) (now into) (now by) × (now family ≡ p .family) × List·Memᴰ root (roots p)) ⌝ }
     requires places { ⌜ (0 < length (now accepting)) × (length (now accepted) ≡ length (now accepting)) × (0 < length (now rejecting)) × (length (now rejected) ≡ length (now rejecting)) ⌝ }
-    requires live { ⌜ tableColours (now by) root < length (now live) ⌝ }
+    requires live { ⌜ (tableColours (now by) root < length (now live)) × ((d : ℕ) → d < length (now live) → getD (now live) d 0 ≡ root) ⌝ }
     ensures { λ r. ⌜ ((p : Policy) → PartsOf p states letters (now (heads .entry)) (now (out .entry)) (now (into .entry)) (now (by .entry)) → now (family .entry) ≡ p .family → List·Memᴰ root (roots p) → Outcome p root (now (accepting .exit)) (now (rejecting .exit)) (r .whole) (r .counts)) ⌝ }
 {
     let table = *by;
@@ -383,7 +428,6 @@ fn fill_lists(
         accepted,
         rejecting,
         rejected,
-        live,
     );
     for c in 0..used {
         if lacks_room(accepting.len(), rejecting.len(), listed) {
@@ -437,7 +481,7 @@ pub fn fill_candidates(
     ensures { λ r. ⌜ ((p : Policy) → PartsOf p states letters (now (heads .entry)) (now (out .entry)) (now (into .entry)) (now (by .entry)) → now (family .entry) ≡ p .family → List·Memᴰ root (roots p) → Outcome p root (now (accepting .exit)) (now (rejecting .exit)) (r .whole) (r .counts)) ⌝ }
 {
     if policy::colours_in(by, root) < 16 {
-        let mut live = [0u64; 16];
+        let mut live = [root; 16];
         return fill_lists(
             states,
             letters,
@@ -454,7 +498,7 @@ pub fn fill_candidates(
             &mut live,
         );
     }
-    let mut live = [0u64; 256];
+    let mut live = [root; 256];
     fill_lists(
         states,
         letters,

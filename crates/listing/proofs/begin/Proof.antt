@@ -1,5 +1,4 @@
 -- `begin` meets its contract. Assumes nothing.
-use native.Mathlib.Omega.{arith}
 use mathlib.Core.Path.{sym, ap, _∙_}
 use mathlib.Core.Bool.{Bool, false}
 use mathlib.Core.List.{List}
@@ -12,15 +11,6 @@ use Rattle.listing.proofs.begin.Tie as tie
 
 colours-in-requires : tie.Need-colours-in-requires
 colours-in-requires c κs = search needs
-
-cast-live : tie.Need-cast-live
-cast-live c = search needs
-
-mul-live : tie.Need-mul-live
-mul-live c = search needs
-
-slice-write-live : tie.Need-slice-write-live
-slice-write-live c = search needs
 
 cast-if1 : tie.Need-cast-if1
 cast-if1 c = search needs
@@ -40,17 +30,14 @@ same-length c = search needs
 same-length-2 : tie.Need-same-length-2
 same-length-2 c = search needs
 
-same-length-3 : tie.Need-same-length-3
-same-length-3 c = search needs
-
 returns : tie.Need-returns
 unfolding inFamily
 returns c =
-    let s = c .before .before .before .before .before .before .before .before in
+    let s = c .before .before .before .before .before .before .before in
     let a = s .args in
-    λ p lawful e f.
-    begun-accepting p lawful (a .by .now) e (a .root) (c .before .before .colours-in .result) (c .before .before .colours-in .ensures) (a .accepting .now) (a .accepted .now) (a .rejecting .now) (a .rejected .now) (a .live .now) (s .pre .0) (s .pre .1)
-    (omega (arith, c .before .before .colours-in .ensures, s .pre .4)) (ap (λ (g : List Bool). getD g (c .before .before .colours-in .result) false) (sym f) ∙ c .if1 .taken)
+    λ p lawful e f live are.
+    begun-accepting p lawful (a .by .now) e (a .root) (c .before .before .colours-in .result) (c .before .before .colours-in .ensures) live are (a .accepting .now) (a .accepted .now) (a .rejecting .now) (a .rejected .now) (s .pre .0) (s .pre .1)
+    (ap (λ (g : List Bool). getD g (c .before .before .colours-in .result) false) (sym f) ∙ c .if1 .taken)
 
 slice-write-rejecting : tie.Need-slice-write-rejecting
 slice-write-rejecting c = search needs
@@ -58,43 +45,35 @@ slice-write-rejecting c = search needs
 slice-write-rejected : tie.Need-slice-write-rejected
 slice-write-rejected c = search needs
 
+same-length-3 : tie.Need-same-length-3
+same-length-3 c = search needs
+
 same-length-4 : tie.Need-same-length-4
 same-length-4 c = search needs
-
-same-length-5 : tie.Need-same-length-5
-same-length-5 c = search needs
-
-same-length-6 : tie.Need-same-length-6
-same-length-6 c = search needs
 
 returns-2 : tie.Need-returns-2
 unfolding inFamily
 returns-2 c =
-    let s = c .before .before .before .before .before .before .before .before in
+    let s = c .before .before .before .before .before .before .before in
     let a = s .args in
-    λ p lawful e f.
-    begun-rejecting p lawful (a .by .now) e (a .root) (c .before .before .colours-in .result) (c .before .before .colours-in .ensures) (a .accepting .now) (a .accepted .now) (a .rejecting .now) (a .rejected .now) (a .live .now) (s .pre .2) (s .pre .3)
-    (omega (arith, c .before .before .colours-in .ensures, s .pre .4)) (ap (λ (g : List Bool). getD g (c .before .before .colours-in .result) false) (sym f) ∙ c .if1 .left)
+    λ p lawful e f live are.
+    begun-rejecting p lawful (a .by .now) e (a .root) (c .before .before .colours-in .result) (c .before .before .colours-in .ensures) live are (a .accepting .now) (a .accepted .now) (a .rejecting .now) (a .rejected .now) (s .pre .2) (s .pre .3)
+    (ap (λ (g : List Bool). getD g (c .before .before .colours-in .result) false) (sym f) ∙ c .if1 .left)
 
 pub begin-spec : {M : Type 1} → statement M
 begin-spec =
     tie.close
     (tie.spec
     colours-in-requires
-    cast-live
-    mul-live
-    slice-write-live
     cast-if1
     element-copy-out-if1
     slice-write-accepting
     slice-write-accepted
     same-length
     same-length-2
-    same-length-3
     returns
     slice-write-rejecting
     slice-write-rejected
+    same-length-3
     same-length-4
-    same-length-5
-    same-length-6
     returns-2)

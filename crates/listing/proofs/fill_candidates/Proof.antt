@@ -1,5 +1,6 @@
 -- `fill_candidates` meets its contract. Assumes nothing.
 use native.Mathlib.Omega.{arith}
+use Rattle.listing.proofs.Turns.{replicate-in}
 use borrow.Author.Needs.{needs}
 use Rattle.listing.proofs.fill_candidates.Statement.{statement}
 use Rattle.listing.proofs.fill_candidates.Tie as tie
@@ -11,7 +12,7 @@ slice-aggregate-fill-lists : tie.Need-slice-aggregate-fill-lists
 slice-aggregate-fill-lists c = search needs
 
 fill-lists-requires : tie.Need-fill-lists-requires
-fill-lists-requires c κs = let s = c .before .before .before .before .before .before .before .before .before .before .before in (s .pre .0, (s .pre .1, omega (arith, c .before .before .before .before .before .before .colours-in .ensures, c .before .before .before .before .before .if1 .taken)))
+fill-lists-requires c κs = let s = c .before .before .before .before .before .before .before .before .before .before .before in (s .pre .0, (s .pre .1, (omega (arith, c .before .before .before .before .before .before .colours-in .ensures, c .before .before .before .before .before .if1 .taken), λ d b. replicate-in 16 d (s .args .root) 0 b)))
 
 same-length : tie.Need-same-length
 same-length c = search needs
@@ -32,7 +33,7 @@ slice-aggregate-fill-lists-2 : tie.Need-slice-aggregate-fill-lists-2
 slice-aggregate-fill-lists-2 c = search needs
 
 fill-lists-requires-2 : tie.Need-fill-lists-requires-2
-fill-lists-requires-2 c κs = let s = c .before .before .before .before .before .before .before .before .before .before .before in (s .pre .0, (s .pre .1, omega (arith, c .before .before .before .before .before .before .colours-in .ensures)))
+fill-lists-requires-2 c κs = let s = c .before .before .before .before .before .before .before .before .before .before .before in (s .pre .0, (s .pre .1, (omega (arith, c .before .before .before .before .before .before .colours-in .ensures), λ d b. replicate-in 256 d (s .args .root) 0 b)))
 
 same-length-5 : tie.Need-same-length-5
 same-length-5 c = search needs

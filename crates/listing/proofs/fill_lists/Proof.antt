@@ -23,39 +23,39 @@ abbrev μ-loop : tie.MeasureT-loop
     used - c
 
 -- the colours of the root, in any such policy
-used-is : (c : tie.At-loop Inv-loop μ-loop) (p : Policy) → let a = c .before .before .before .before .before .before .before .before .before .before .before .before .before .before .before .before .before .before .before .before .before .before .before .before .before .before .args in PartsOf p (a .states) (a .letters) (a .heads .now) (a .out .now) (a .into .now) (a .by .now) → c .before .before .before .before .before .before .before .before .before .before .before .before .before .before .before .before .before .before .colours-in .result ≡ coloursOf p (a .root)
-used-is c p t = c .before .before .before .before .before .before .before .before .before .before .before .before .before .before .before .before .before .before .colours-in .ensures ∙ ap (λ (f : ℕ → ℕ). f (c .before .before .before .before .before .before .before .before .before .before .before .before .before .before .before .before .before .before .before .before .before .before .before .before .before .before .args .root)) (hue-is t)
+used-is : (c : tie.At-loop Inv-loop μ-loop) (p : Policy) → let a = c .before .before .before .before .before .before .before .before .before .before .before .before .before .before .before .before .before .before .before .before .before .before .before .args in PartsOf p (a .states) (a .letters) (a .heads .now) (a .out .now) (a .into .now) (a .by .now) → c .before .before .before .before .before .before .before .before .before .before .before .before .before .before .before .colours-in .result ≡ coloursOf p (a .root)
+used-is c p t = c .before .before .before .before .before .before .before .before .before .before .before .before .before .before .before .colours-in .ensures ∙ ap (λ (f : ℕ → ℕ). f (c .before .before .before .before .before .before .before .before .before .before .before .before .before .before .before .before .before .before .before .before .before .before .before .args .root)) (hue-is t)
 
 -- the lists, in the policy that the contract asks for
-here : (c : tie.At-loop Inv-loop μ-loop) → let a = c .before .before .before .before .before .before .before .before .before .before .before .before .before .before .before .before .before .before .before .before .before .before .before .before .before .before .args in Listed (c .before .before .before .before .before .before .before .before .before .before .before .before .before .before .before .before .before .before .before .before .before .before .before .before .before .before .pre .0 .0) (a .by .now) (a .root) (c .loop .c) (c .loop .accepting) (c .loop .accepted) (c .loop .rejecting) (c .loop .rejected) (c .loop .live) (c .loop .listed)
-here c = let q = c .before .before .before .before .before .before .before .before .before .before .before .before .before .before .before .before .before .before .before .before .before .before .before .before .before .before .pre .0 in c .loop .inv .1 (q .0) (q .1) (q .2)
+here : (c : tie.At-loop Inv-loop μ-loop) → let a = c .before .before .before .before .before .before .before .before .before .before .before .before .before .before .before .before .before .before .before .before .before .before .before .args in Listed (c .before .before .before .before .before .before .before .before .before .before .before .before .before .before .before .before .before .before .before .before .before .before .before .pre .0 .0) (a .by .now) (a .root) (c .loop .c) (c .loop .accepting) (c .loop .accepted) (c .loop .rejecting) (c .loop .rejected) (c .loop .live) (c .loop .listed)
+here c = let q = c .before .before .before .before .before .before .before .before .before .before .before .before .before .before .before .before .before .before .before .before .before .before .before .pre .0 in c .loop .inv .1 (q .0) (q .1) (q .2)
 
 colours-in-requires : tie.Need-colours-in-requires Inv-loop μ-loop
 colours-in-requires c κs = search needs
 
 begin-requires : tie.Need-begin-requires Inv-loop μ-loop
-begin-requires c κs = let s = c .before .before .before .before .before .before .before .before .before .before .before .before .before .before in (s .pre .1 .0 .0, omega (arith, s .pre .1 .0 .0, s .pre .1 .0 .1), s .pre .1 .0 .2, omega (arith, s .pre .1 .0 .2, s .pre .1 .0 .3), s .pre .1 .1)
+begin-requires c κs = let s = c .before .before .before .before .before .before .before .before .before .before .before .before .before in (s .pre .1 .0 .0, omega (arith, s .pre .1 .0 .0, s .pre .1 .0 .1), s .pre .1 .0 .2, omega (arith, s .pre .1 .0 .2, s .pre .1 .0 .3))
 
 loop-holds : tie.Need-loop-holds Inv-loop μ-loop
-loop-holds c = (omega arith, λ p t f. c .before .before .before .before .before .before .before .before .before .before .begin .ensures p (t .graph .lawful) (t .by-is) f, refl, refl, refl, refl, refl)
+loop-holds c = (omega arith, λ p t f. c .before .before .before .before .before .before .before .before .begin .ensures p (t .graph .lawful) (t .by-is) f (c .before .before .before .before .before .before .before .before .before .before .before .before .before .before .before .before .before .before .before .before .before .before .args .live .now) (c .before .before .before .before .before .before .before .before .before .before .before .before .before .before .before .before .before .before .before .before .before .before .pre .1 .1 .1), refl, refl, refl, refl, refl)
 
 lacks-room-requires : tie.Need-lacks-room-requires Inv-loop μ-loop
 lacks-room-requires c κs = let l = here (c .before) in (l .accepting-hued .long, l .rejecting-hued .long)
 
 same-length : tie.Need-same-length Inv-loop μ-loop
-same-length c = c .before .before .before .loop .inv .2 ∙ c .before .before .before .before .before .before .before .before .before .before .before .before .before .before .begin .kept .1 .1 .1 .0
+same-length c = c .before .before .before .loop .inv .2 ∙ c .before .before .before .before .before .before .before .before .before .before .before .before .begin .kept .1 .1 .1 .0
 
 same-length-2 : tie.Need-same-length-2 Inv-loop μ-loop
-same-length-2 c = c .before .before .before .loop .inv .3 ∙ c .before .before .before .before .before .before .before .before .before .before .before .before .before .before .begin .kept .1 .1 .1 .1 .0
+same-length-2 c = c .before .before .before .loop .inv .3 ∙ c .before .before .before .before .before .before .before .before .before .before .before .before .begin .kept .1 .1 .1 .1 .0
 
 same-length-3 : tie.Need-same-length-3 Inv-loop μ-loop
-same-length-3 c = c .before .before .before .loop .inv .4 ∙ c .before .before .before .before .before .before .before .before .before .before .before .before .before .before .begin .kept .1 .1 .1 .1 .1 .0
+same-length-3 c = c .before .before .before .loop .inv .4 ∙ c .before .before .before .before .before .before .before .before .before .before .before .before .begin .kept .1 .1 .1 .1 .1 .0
 
 same-length-4 : tie.Need-same-length-4 Inv-loop μ-loop
-same-length-4 c = c .before .before .before .loop .inv .5 ∙ c .before .before .before .before .before .before .before .before .before .before .before .before .before .before .begin .kept .1 .1 .1 .1 .1 .1 .0
+same-length-4 c = c .before .before .before .loop .inv .5 ∙ c .before .before .before .before .before .before .before .before .before .before .before .before .begin .kept .1 .1 .1 .1 .1 .1 .0
 
 same-length-5 : tie.Need-same-length-5 Inv-loop μ-loop
-same-length-5 c = c .before .before .before .loop .inv .6 ∙ c .before .before .before .before .before .before .before .before .before .before .before .before .before .before .begin .kept .1 .1 .1 .1 .1 .1 .1 .0
+same-length-5 c = c .before .before .before .loop .inv .6
 
 returns : tie.Need-returns Inv-loop μ-loop
 returns c =
@@ -71,14 +71,14 @@ sub-list-next-2 c = omega (arith, c .before .before .before .loop-test .taken)
 list-next-requires : tie.Need-list-next-requires Inv-loop μ-loop
 list-next-requires c κs =
     let at = c .before .before .before .before .before .before .before .before .before .loop in
-    let s = c .before .before .before .before .before .before .before .before .before .before .before .before .before .before .before .before .before .before .before .before .before .before .before .before .before .before .before .before .before .before .before .before .before .before .before in
+    let s = c .before .before .before .before .before .before .before .before .before .before .before .before .before .before .before .before .before .before .before .before .before .before .before .before .before .before .before .before .before .before .before .before in
     let l = here (c .before .before .before .before .before .before .before .before .before) in
     let room = room-some (length (at .accepting)) (length (at .rejecting)) (at .listed) (l .accepting-hued .long) (l .rejecting-hued .long) (sym (c .before .before .before .before .before .before .before .lacks-room .ensures) ∙ c .before .before .before .before .before .before .if1 .left) in
-    let o = c .before .before .before .before .before .before .before .before .before .before .before .before .before .before .before .before .before .before .before .before .begin .kept in
-    ((s .pre .0 .0, s .pre .0 .1), ((l .accepting-hued, room .0, omega (arith, room .0, at .inv .2, at .inv .3, o .1 .1 .1 .0, o .1 .1 .1 .1 .0, s .pre .1 .0 .1)), ((l .rejecting-hued, room .1, omega (arith, room .1, at .inv .4, at .inv .5, o .1 .1 .1 .1 .1 .0, o .1 .1 .1 .1 .1 .1 .0, s .pre .1 .0 .3)), (omega (arith, c .before .before .before .before .before .before .before .before .loop-test .taken), omega (arith, at .inv .6, o .1 .1 .1 .1 .1 .1 .1 .0, s .pre .1 .1, c .before .before .before .before .before .before .before .before .before .before .before .before .before .before .before .before .before .before .before .before .before .before .before .before .before .before .before .colours-in .ensures)))))
+    let o = c .before .before .before .before .before .before .before .before .before .before .before .before .before .before .before .before .before .before .begin .kept in
+    ((s .pre .0 .0, s .pre .0 .1), ((l .accepting-hued, room .0, omega (arith, room .0, at .inv .2, at .inv .3, o .1 .1 .1 .0, o .1 .1 .1 .1 .0, s .pre .1 .0 .1)), ((l .rejecting-hued, room .1, omega (arith, room .1, at .inv .4, at .inv .5, o .1 .1 .1 .1 .1 .0, o .1 .1 .1 .1 .1 .1 .0, s .pre .1 .0 .3)), (omega (arith, c .before .before .before .before .before .before .before .before .loop-test .taken), omega (arith, at .inv .6, s .pre .1 .1 .0, c .before .before .before .before .before .before .before .before .before .before .before .before .before .before .before .before .before .before .before .before .before .before .before .before .colours-in .ensures)))))
 
 add-c : tie.Need-add-c Inv-loop μ-loop
-add-c c = let q = c .before .before .before .before .before .before .before .before .before .before .before .before .before .before .before .before .before .before .before .before .before .before .before .before .before .before .before .before .before .before .before .before .before .before .before .before .before .before .before .before .before .before .before .before .before .before .pre .0 in omega (arith, c .before .before .before .before .before .before .before .before .before .before .before .before .before .before .before .before .before .before .before .loop-test .taken, used-is (c .before .before .before .before .before .before .before .before .before .before .before .before .before .before .before .before .before .before .before .before) (q .0) (q .1), colours-few (q .0) (q .1 .graph .lawful) (c .before .before .before .before .before .before .before .before .before .before .before .before .before .before .before .before .before .before .before .before .before .before .before .before .before .before .before .before .before .before .before .before .before .before .before .before .before .before .before .before .before .before .before .before .before .before .args .root))
+add-c c = let q = c .before .before .before .before .before .before .before .before .before .before .before .before .before .before .before .before .before .before .before .before .before .before .before .before .before .before .before .before .before .before .before .before .before .before .before .before .before .before .before .before .before .before .before .pre .0 in omega (arith, c .before .before .before .before .before .before .before .before .before .before .before .before .before .before .before .before .before .before .before .loop-test .taken, used-is (c .before .before .before .before .before .before .before .before .before .before .before .before .before .before .before .before .before .before .before .before) (q .0) (q .1), colours-few (q .0) (q .1 .graph .lawful) (c .before .before .before .before .before .before .before .before .before .before .before .before .before .before .before .before .before .before .before .before .before .before .before .before .before .before .before .before .before .before .before .before .before .before .before .before .before .before .before .before .before .before .before .args .root))
 
 loop-less : tie.Need-loop-less Inv-loop μ-loop
 loop-less c = omega arith
@@ -98,19 +98,19 @@ loop-again c =
     )
 
 same-length-6 : tie.Need-same-length-6 Inv-loop μ-loop
-same-length-6 c = c .before .loop .inv .2 ∙ c .before .before .before .before .before .before .before .before .before .before .before .before .begin .kept .1 .1 .1 .0
+same-length-6 c = c .before .loop .inv .2 ∙ c .before .before .before .before .before .before .before .before .before .before .begin .kept .1 .1 .1 .0
 
 same-length-7 : tie.Need-same-length-7 Inv-loop μ-loop
-same-length-7 c = c .before .loop .inv .3 ∙ c .before .before .before .before .before .before .before .before .before .before .before .before .begin .kept .1 .1 .1 .1 .0
+same-length-7 c = c .before .loop .inv .3 ∙ c .before .before .before .before .before .before .before .before .before .before .begin .kept .1 .1 .1 .1 .0
 
 same-length-8 : tie.Need-same-length-8 Inv-loop μ-loop
-same-length-8 c = c .before .loop .inv .4 ∙ c .before .before .before .before .before .before .before .before .before .before .before .before .begin .kept .1 .1 .1 .1 .1 .0
+same-length-8 c = c .before .loop .inv .4 ∙ c .before .before .before .before .before .before .before .before .before .before .begin .kept .1 .1 .1 .1 .1 .0
 
 same-length-9 : tie.Need-same-length-9 Inv-loop μ-loop
-same-length-9 c = c .before .loop .inv .5 ∙ c .before .before .before .before .before .before .before .before .before .before .before .before .begin .kept .1 .1 .1 .1 .1 .1 .0
+same-length-9 c = c .before .loop .inv .5 ∙ c .before .before .before .before .before .before .before .before .before .before .begin .kept .1 .1 .1 .1 .1 .1 .0
 
 same-length-10 : tie.Need-same-length-10 Inv-loop μ-loop
-same-length-10 c = c .before .loop .inv .6 ∙ c .before .before .before .before .before .before .before .before .before .before .before .before .begin .kept .1 .1 .1 .1 .1 .1 .1 .0
+same-length-10 c = c .before .loop .inv .6
 
 returns-2 : tie.Need-returns-2 Inv-loop μ-loop
 returns-2 c = λ p t f root. outcome-whole (c .before .loop .inv .1 p t f) (omega (arith, used-is (c .before) p t, c .before .loop .inv .0, c .loop-test .left))

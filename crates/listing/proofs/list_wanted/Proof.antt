@@ -44,13 +44,13 @@ returns-2 : tie.Need-returns-2
 returns-2 c =
     let s = c .before .before .before .before .before .before .before .before .before .before in
     let a = s .args in
-    (λ p t. none-wanted t (a .c) (a .m) (a .other .now) (a .hues .now) (take (a .count) (a .same .now)) (s .pre .1 .0) (sym (c .before .is-wanted .ensures) ∙ c .if2 .left), (s .pre .1 .1 .0, λ p t. all-on p (a .m)))
+    (λ p t. none-wanted t (a .c) (a .m) (a .other .now) (a .hues .now) (take (a .count) (a .same .now)) (s .pre .1 .0) (sym (c .before .is-wanted .ensures) ∙ c .if2 .left), (s .pre .1 .1 .0, λ p t. all-on p (a .u) (a .m)))
 
 returns-3 : tie.Need-returns-3
 returns-3 c =
     let s = c .before .before .before .before .before .before .before in
     let a = s .args in
-    (λ p t. none-lacking t (a .c) (a .m) (a .other .now) (take (a .count) (a .same .now)) (ap (inside (a .c)) (sym (c .before .before .colours-in .ensures)) ∙ sym (c .before .set-inside .ensures) ∙ c .if1 .left), (s .pre .1 .1 .0, λ p t. all-on p (a .m)))
+    (λ p t. none-lacking t (a .c) (a .m) (a .other .now) (take (a .count) (a .same .now)) (ap (inside (a .c)) (sym (c .before .before .colours-in .ensures)) ∙ sym (c .before .set-inside .ensures) ∙ c .if1 .left), (s .pre .1 .1 .0, λ p t. all-on p (a .u) (a .m)))
 
 pub list-wanted-spec : {M : Type 1} → statement M
 list-wanted-spec =
