@@ -364,6 +364,13 @@ fn main() {
     translating("30 medium: 8 to 12 states, 4 to 6 colours", &medium);
     translating("30 of 16 states, 4 letters, 8 colours", &wide);
     translating("30 of 8 states, 8 letters, 8 colours", &square);
+    let few_nodes = |found: &str, text: &str| {
+        let p = file(text);
+        let (states, letters) = (p.states, p.letters);
+        let plural = if letters == 1 { "" } else { "s" };
+        let name = format!("{found}: {states} states, {letters} letter{plural}, 8 colours");
+        translating(&name, &[p]);
+    };
     for text in [
         include_str!("../../policies/few_nodes_2.hex"),
         include_str!("../../policies/few_nodes_4.hex"),
@@ -371,10 +378,15 @@ fn main() {
         include_str!("../../policies/few_nodes_62.hex"),
         include_str!("../../policies/few_nodes_64.hex"),
     ] {
-        let p = file(text);
-        let (states, letters) = (p.states, p.letters);
-        let name = format!("few nodes: {states} states, {letters} letters, 8 colours");
-        translating(&name, &[p]);
+        few_nodes("few nodes", text);
+    }
+    // those above were found when every colour set was searched, these since
+    for text in [
+        include_str!("../../policies/few_nodes_1.hex"),
+        include_str!("../../policies/few_nodes_5.hex"),
+        include_str!("../../policies/few_nodes_27.hex"),
+    ] {
+        few_nodes("few nodes, found since", text);
     }
 
     println!("\n| games | states | rows | ours | independent | ratio | ours, solving alone | independent | ns a row |");
