@@ -52,8 +52,8 @@ extern "C" {
 #define WULFRENDA_NO_LETTER 255
 
 /*
- * Stack enough for any call. Measured on x86-64: the two translating calls 176,000 bytes for the largest policies, 26,000 for a site; the two
- * solving calls some 600 more; the others less than 5,000.
+ * Stack enough for any call. Measured on x86-64: the two translating calls at most 209,000 bytes, 20,000 for a site; the two solving calls some
+ * 700 more; the others less than 5,000.
  */
 #define WULFRENDA_STACK_BYTES 262144
 

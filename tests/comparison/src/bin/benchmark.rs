@@ -366,9 +366,9 @@ fn main() {
     translating("30 of 8 states, 8 letters, 8 colours", &square);
     let few_nodes = |found: &str, text: &str| {
         let p = file(text);
-        let (states, letters) = (p.states, p.letters);
+        let (states, letters, colours) = (p.states, p.letters, p.colours);
         let plural = if letters == 1 { "" } else { "s" };
-        let name = format!("{found}: {states} states, {letters} letter{plural}, 8 colours");
+        let name = format!("{found}: {states} states, {letters} letter{plural}, {colours} colours");
         translating(&name, &[p]);
     };
     for text in [
@@ -383,6 +383,7 @@ fn main() {
     // those above were found when every colour set was searched, these since
     for text in [
         include_str!("../../policies/few_nodes_1.hex"),
+        include_str!("../../policies/few_nodes_4_quiet.hex"),
         include_str!("../../policies/few_nodes_5.hex"),
         include_str!("../../policies/few_nodes_27.hex"),
     ] {
