@@ -1,6 +1,6 @@
 -- The children of a candidate are the largest candidates of the other verdict properly inside it; the candidates of a root are what a search for nodes goes by, and there are
 -- few. Assumes nothing.
-use Prim.Native.Nat.{ℕ, _+_, _-_, _*_, _^_, _≤_, _<_}
+use Prim.Native.Nat.{ℕ, _+_, _-_, _≤_, _<_}
 use native.Mathlib.Omega.{arith}
 use native.Mathlib.Nat.{mul-le-mul-left, mul-le-mul-right}
 use mathlib.Core.Path.{_≡_, sym, ap, _∙_, subst}

@@ -33,11 +33,6 @@ module _ (f : ℕ → ℕ) where
       go y (inl m) = a .0 y m
       go y (inr m) = h x y (List·Memᴰ·head refl) m
 
-  -- where all are one
-  pub falling-same : (c : ℕ) (l : List ℕ) → ((x : ℕ) → List·Memᴰ x l → f x ≡ c) → Falling l
-  falling-same c [] h = tt
-  falling-same c (x ∷ l) h = (λ y m. omega (arith, h x (List·Memᴰ·head refl), h y (List·Memᴰ·tail m)), falling-same c l (λ y m. h y (List·Memᴰ·tail m)))
-
   falling-at : (l : List ℕ) → Falling l → (i j : ℕ) → i < j → j < length l → f (getD l j 0) ≤ f (getD l i 0)
   falling-at [] d i j l h = absurd (omega arith)
   falling-at (x ∷ xs) d i zero l h = absurd (omega arith)

@@ -1,8 +1,8 @@
 -- The candidates of a root, colour set by colour set: full cycles inside the root, by their verdicts, each once and larger ones first, with the children of each. A child of a
 -- listed cycle is full, so it is one of the largest cycles with its colours inside the root; and where these are not looked for, it is listed. Assumes nothing.
-use Prim.Native.Nat.{ℕ, zero, suc, _+_, _-_, _*_, _^_, _≤_, _<_}
+use Prim.Native.Nat.{ℕ, zero, suc, _+_, _-_, _*_, _≤_, _<_}
 use native.Mathlib.Omega.{arith}
-use native.Mathlib.Nat.{suc-mul, mul-le-mul-right, mul-le-mul-left}
+use native.Mathlib.Nat.{suc-mul}
 use native.Mathlib.Decide.{ℕ-discrete}
 use mathlib.Core.Path.{_≡_, refl, sym, ap, _∙_, subst}
 use mathlib.Core.Logic.{_⊎_, inl, inr, _≢_}
@@ -10,21 +10,19 @@ use mathlib.Core.Bool.{Bool, true, false, not, _&&_, cond, true≢false}
 use mathlib.Core.List.{List, [], _∷_, List·Memᴰ, List·Memᴰ·head, List·Memᴰ·not-nil, List·Memᴰ·eq-of-singleton}
 use lib.Bits.{bitAnd}
 use lib.ListN.{length}
-use lib.Pow.{pow-mono}
 use Rattle.lists.specs.Lists.{Distinct}
 use Rattle.lists.specs.Bools.{differs}
 use Rattle.lists.proofs.Bools.{test, and-l, and-r, both, same-or-not, not-itself, differs-same, differs-other}
 use Rattle.masks.specs.Masks.{has, inside}
 use Rattle.masks.proofs.Bits.{has-and, inside-all, all-inside, inside-refl, inside-trans, inside-antisym, inside-le, properly-inside}
-use Rattle.masks.proofs.Members.{some-nonzero}
 use Rattle.policy.specs.declared.Policy.{Policy}
 use Rattle.policy.specs.Policies.{coloursOf, inFamily, accepting, legal}
 use Rattle.policy.specs.ByColour.{edgesIn}
-use Rattle.policy.proofs.Laws.{legal-counts, legal-target, colours-up, colours-lt, accepting-is, accepting-colours}
+use Rattle.policy.proofs.Laws.{legal-target, colours-up, accepting-is, accepting-colours}
 use Rattle.policy.proofs.ByColour.{edges-in-colours}
 use Rattle.graph.specs.Cycles.{isCycle, contains}
 use Rattle.graph.specs.Through.{cycleThrough}
-use Rattle.graph.proofs.Cycles.{Targets, contains-inside, cycle-some}
+use Rattle.graph.proofs.Cycles.{Targets, contains-inside}
 use Rattle.graph.proofs.Through.{through-inside, through-cycle, through-largest, contains-nonzero}
 use Rattle.graph.proofs.Inside.{contains-lt}
 use Rattle.components.specs.Components.{lowestIs, largestIn}

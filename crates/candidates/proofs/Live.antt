@@ -21,7 +21,7 @@ use Rattle.policy.specs.Policies.{coloursOf, legal}
 use Rattle.policy.specs.ByColour.{edgesIn}
 use Rattle.policy.proofs.Laws.{legal-target, colours-up}
 use Rattle.policy.proofs.ByColour.{edges-in-colours}
-use Rattle.graph.specs.Cycles.{isCycle, contains}
+use Rattle.graph.specs.Cycles.{isCycle}
 use Rattle.graph.specs.Through.{cycleThrough}
 use Rattle.graph.proofs.Cycles.{Targets, contains-inside}
 use Rattle.graph.proofs.Through.{through-inside, through-cycle, through-largest, through-same}

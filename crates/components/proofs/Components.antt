@@ -16,10 +16,10 @@ use Rattle.lists.proofs.Distinct.{one-mem, mem-one, one-distinct, one-few, dist
 use Rattle.policy.specs.declared.Policy.{Policy}
 use Rattle.policy.specs.Policies.{legal}
 use Rattle.policy.proofs.Laws.{legal-target}
-use Rattle.graph.specs.Cycles.{isCycle, contains}
+use Rattle.graph.specs.Cycles.{contains}
 use Rattle.graph.specs.Through.{cycleThrough}
 use Rattle.graph.proofs.Cycles.{Targets}
-use Rattle.graph.proofs.Through.{through-cycle, through-inside, contains-nonzero}
+use Rattle.graph.proofs.Through.{through-cycle, contains-nonzero}
 use Rattle.components.specs.Components.{lowestIs, largestAt, largestIn}
 
 module _ (p : Policy) where

@@ -1,11 +1,11 @@
 -- What finding the largest cycles state by state rests on: what is stored, and what is found so far. Assumes nothing.
-use Prim.Native.Nat.{ℕ, _+_, _≤_, _<_}
+use Prim.Native.Nat.{ℕ, _+_, _<_}
 use native.Mathlib.Omega.{arith}
 use mathlib.Core.Path.{_≡_, refl, sym, ap, ap₂, _∙_, subst}
 use mathlib.Core.Logic.{_≢_}
 use mathlib.Core.Bool.{Bool, true, false, not, _&&_, _||_, cond, and-true, false≢true}
 use mathlib.Core.List.{List, [], _∷_, _++_, map, append-nil}
-use lib.Bits.{bitOr, or-zero-r}
+use lib.Bits.{or-zero-r}
 use lib.ListN.{length, take, set}
 use Rattle.lists.specs.Lists.{flat, below}
 use Rattle.lists.proofs.Bools.{and-l, and-r, not-true}

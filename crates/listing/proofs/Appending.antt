@@ -8,7 +8,6 @@ use mathlib.Core.Logic.{_⊎_, inl, inr, _≢_}
 use mathlib.Core.Bool.{Bool, true, false, _&&_, cond, true≢false, false≢true}
 use mathlib.Core.List.{List, [], _∷_, _++_, map, List·Memᴰ}
 use lib.Bits.{bitAnd, bitOr}
-use lib.Dec.{eqb}
 use lib.ListN.{length, getD, take, drop, set, length-set, List·getD-append, take-append-drop}
 use lib.Seq.{length-take-le, take-suc, take-set-le, getD-set-same}
 use Rattle.lists.proofs.Bools.{≡eqb, neqb, or-cases, or-left, or-right}
@@ -36,10 +35,6 @@ map-snoc f [] x = refl
 map-snoc f (y ∷ l) x = ap (λ (r : List ℕ). f y ∷ r) (map-snoc f l x)
 
 module _ {hue : ℕ → ℕ} {same own : List ℕ} {n : ℕ} (s : Hued hue same own n) where
-  -- each mask has its colours
-  pub hued-length : length (take n same) ≤ length (take n own)
-  hued-length = omega (arith, length-take-le n same (s .long), length-take-le n own (s .hues-long))
-
   pub hued-more : (c x : ℕ) → n < length same → n < length own → hue x ≡ c → Hued hue (set same n x) (set own n c) (n + 1)
   hued-more c x h g e = record {
     long = omega (arith, length-set same n x);

@@ -6,9 +6,9 @@ use native.Mathlib.Decide.{decLt}
 use native.Mathlib.Nat.{mul-le-mul-left, mul-le-mul-right}
 use mathlib.Core.Path.{_≡_, refl, sym, ap, ap₂, _∙_, subst}
 use mathlib.Core.Logic.{_≢_}
-use mathlib.Core.Bool.{Bool, true, false, cond, true≢false, false≢true}
-use mathlib.Core.List.{List, [], _++_, List·Memᴰ}
-use lib.ListN.{length, getD, take, replicate, length-append, length-replicate, List·getD-eq-default}
+use mathlib.Core.Bool.{Bool, true, false, cond, true≢false}
+use mathlib.Core.List.{List, [], List·Memᴰ}
+use lib.ListN.{length, getD, take, length-append, List·getD-eq-default}
 use lib.Seq.{sets, take-all, length-take-le, length-sets}
 use borrow.Author.Tests.{le-leb, lt-leb}
 use Rattle.lists.specs.Lists.{Distinct}
@@ -16,11 +16,11 @@ use Rattle.lists.proofs.Lists.{getD-mem}
 use Rattle.tables.specs.Tables.{zeros, places}
 use Rattle.tables.proofs.Tables.{zeros-same}
 use Rattle.policy.specs.declared.Policy.{Policy}
-use Rattle.policy.specs.Policies.{coloursOf, inFamily, accepting, legal}
+use Rattle.policy.specs.Policies.{inFamily, accepting, legal}
 use Rattle.policy.specs.ByColour.{tableColours}
 use Rattle.policy.proofs.Laws.{accepting-is}
 use Rattle.graph.proofs.Cycles.{cycle-some}
-use Rattle.forest.specs.Forest.{forest, inOrder, mostLevels, roots, forestFits}
+use Rattle.forest.specs.Forest.{forest, inOrder, roots, forestFits}
 use Rattle.forest.specs.Subtrees.{treeSize, rowMasks, rowParents}
 use Rattle.forest.proofs.Levels.{most-levels-few}
 use Rattle.forest.proofs.Children.{root-cycle, root-few, ordered-roots}

@@ -1,7 +1,7 @@
 -- `fill_large` and `fill_within` meet their contracts. The measure falls as the lent space grows: twice what it lacks to 4,096 places, and 1 for `fill_large`. Assumes nothing.
 use Prim.Native.Nat.{ℕ, _*_, _-_, _<_}
 use native.Mathlib.Omega.{arith}
-use mathlib.Core.Path.{refl, sym, _∙_}
+use mathlib.Core.Path.{refl}
 use lib.ListN.{length}
 use borrow.Author.Needs.{needs}
 use borrow.Fn.Kinds.{In}

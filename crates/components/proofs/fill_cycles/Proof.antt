@@ -1,7 +1,7 @@
 -- `components::fill_cycles` meets its contract. The invariant, for every policy with this graph: the cycles found at the states below v are listed, and `left` has
 -- the states on cycles that are on none of them. Assumes nothing.
 use Prim.Native.Nat.{ℕ, _-_, _≤_, _<_}
-use mathlib.Core.Path.{_≡_, refl, sym, ap, ap₂, _∙_}
+use mathlib.Core.Path.{refl, sym, ap, ap₂, _∙_}
 use mathlib.Core.Logic.{⊎-elim}
 use native.Mathlib.Omega.{arith}
 use borrow.Author.Needs.{needs}

@@ -1,9 +1,9 @@
 -- `append_cycles` meets its contract. Assumes nothing.
 use Prim.Native.Nat.{ℕ, _+_, _-_, _≤_, _<_}
 use native.Mathlib.Omega.{arith}
-use mathlib.Core.Path.{_≡_, refl, sym, ap, ap₂, _∙_}
+use mathlib.Core.Path.{_≡_, refl, ap, ap₂, _∙_}
 use lib.Bits.{bitOr}
-use lib.ListN.{length, getD, take}
+use lib.ListN.{length, take}
 use borrow.Author.Needs.{needs}
 use Rattle.policy.specs.ByColour.{tableColours}
 use Rattle.candidates.specs.Candidates.{withCycles}
