@@ -15,7 +15,7 @@ use Rattle.lists.specs.Lists.{any, flat, below}
 use Rattle.lists.proofs.Bools.{test, ≡eqb, neqb, and-l, and-r, both, or-left, or-right, or-cases, not-true}
 use Rattle.lists.proofs.Lists.{any-some, some-any, below-lt, getD-mem}
 use Rattle.masks.specs.Masks.{has, inside}
-use Rattle.masks.proofs.Bits.{has-and, has-none, inside-all, all-inside, inside-refl, inside-trans, inside-antisym}
+use Rattle.masks.proofs.Bits.{has-and, has-none, inside-all, all-inside, inside-refl, inside-trans, inside-antisym, and-within, and-inside, inside-and}
 use Rattle.policy.specs.declared.Policy.{Policy}
 use Rattle.policy.specs.Policies.{coloursOf, legal}
 use Rattle.policy.specs.ByColour.{edgesIn}
@@ -27,8 +27,8 @@ use Rattle.graph.proofs.Cycles.{Targets, contains-inside}
 use Rattle.graph.proofs.Through.{through-inside, through-cycle, through-largest, through-same}
 use Rattle.graph.proofs.Inside.{contains-lt, cycle-state}
 use Rattle.components.specs.Components.{lowestIs, largestAt, largestIn}
-use Rattle.components.proofs.Components.{some-lowest, largest-in-mem, mem-largest-in}
-use Rattle.candidates.specs.Candidates.{covers, mayHold, wanted, isOpen, isWanted, withCycle, withCycles, Live}
+use Rattle.components.proofs.Components.{lowest-some, some-lowest, largest-in-mem, mem-largest-in}
+use Rattle.candidates.specs.Candidates.{covers, mayHold, areLong, wanted, isOpen, isWanted, withCycle, withCycles, withSet, Live}
 use Rattle.candidates.proofs.Full.{inside-colours}
 
 -- ---- what is wanted inside an edge set makes it wanted
@@ -66,7 +66,7 @@ unfolding wanted
 wanted-more c m x other hues same i t = go (or-cases long (any (λ (j : ℕ). mayHold c x same (getD hues j 0) (getD other j 0)) (below (length other))) t)
   where
     long : Bool
-    long = ltb 16 (length other) || ltb 16 (length same)
+    long = areLong (length other) (length same)
 
     go : (long ≡ true) ⊎ (any (λ (j : ℕ). mayHold c x same (getD hues j 0) (getD other j 0)) (below (length other)) ≡ true) → long || any (λ (j : ℕ). mayHold c m same (getD hues j 0) (getD other j 0)) (below (length other)) ≡ true
     go (inl l) = or-left long (any (λ (j : ℕ). mayHold c m same (getD hues j 0) (getD other j 0)) (below (length other))) l
@@ -78,23 +78,35 @@ wanted-more c m x other hues same i t = go (or-cases long (any (λ (j : ℕ). ma
 -- what is wanted is open
 wanted-open : (c x : ℕ) (other hues same : List ℕ) → length hues ≡ length other → wanted c x other hues same ≡ true → isOpen c hues (length same) ≡ true
 unfolding wanted isOpen mayHold
-wanted-open c x other hues same e t = go (or-cases (ltb 16 (length other) || ltb 16 (length same)) (any held (below (length other))) t)
+wanted-open c x other hues same e t = go (or-cases (areLong (length other) (length same)) (any held (below (length other))) t)
   where
     held : ℕ → Bool
     held j = mayHold c x same (getD hues j 0) (getD other j 0)
 
-    long : (ltb 16 (length other) ≡ true) ⊎ (ltb 16 (length same) ≡ true) → ltb 16 (length hues) || ltb 16 (length same) ≡ true
-    long (inl l) = or-left (ltb 16 (length hues)) (ltb 16 (length same)) (ap (ltb 16) e ∙ l)
-    long (inr l) = or-right (ltb 16 (length hues)) (ltb 16 (length same)) l
-
-    go : (ltb 16 (length other) || ltb 16 (length same) ≡ true) ⊎ (any held (below (length other)) ≡ true) → ltb 16 (length hues) || ltb 16 (length same) || any (inside c) hues ≡ true
-    go (inl l) = or-left (ltb 16 (length hues) || ltb 16 (length same)) (any (inside c) hues) (long (or-cases (ltb 16 (length other)) (ltb 16 (length same)) l))
+    go : (areLong (length other) (length same) ≡ true) ⊎ (any held (below (length other)) ≡ true) → areLong (length hues) (length same) || any (inside c) hues ≡ true
+    go (inl l) = or-left (areLong (length hues) (length same)) (any (inside c) hues) (ap (λ (k : ℕ). areLong k (length same)) e ∙ l)
     go (inr q) =
         let r = any-some held (below (length other)) q in
         let i = r .0 in
         let first = and-l (inside c (getD hues i 0) && not (eqb (bitAnd x (getD other i 0)) 0)) (not (any (covers (bitAnd x (getD other i 0)) (getD other i 0)) same)) (r .2) in
-        or-right (ltb 16 (length hues) || ltb 16 (length same)) (any (inside c) hues)
+        or-right (areLong (length hues) (length same)) (any (inside c) hues)
         (some-any (inside c) hues (getD hues i 0) (getD-mem hues i 0 (omega (arith, e, below-lt (length other) i (r .1)))) (and-l (inside c (getD hues i 0)) (not (eqb (bitAnd x (getD other i 0)) 0)) first))
+
+-- where nothing is open for a set, nothing is for one that has all its colours
+pub closed-more : (u c : ℕ) (hues : List ℕ) (k : ℕ) → inside u c ≡ true → isOpen u hues k ≡ false → isOpen c hues k ≡ false
+unfolding isOpen
+closed-more u c hues k i f = go (test (areLong (length hues) k || any (inside c) hues))
+  where
+    some : any (inside c) hues ≡ true → any (inside u) hues ≡ true
+    some t = let r = any-some (inside c) hues t in some-any (inside u) hues (r .0) (r .1) (inside-trans u c (r .0) i (r .2))
+
+    more : (areLong (length hues) k ≡ true) ⊎ (any (inside c) hues ≡ true) → areLong (length hues) k || any (inside u) hues ≡ true
+    more (inl t) = or-left (areLong (length hues) k) (any (inside u) hues) t
+    more (inr t) = or-right (areLong (length hues) k) (any (inside u) hues) (some t)
+
+    go : (areLong (length hues) k || any (inside c) hues ≡ true) ⊎ (areLong (length hues) k || any (inside c) hues ≡ false) → areLong (length hues) k || any (inside c) hues ≡ false
+    go (inl t) = absurd (true≢false (sym (more (or-cases (areLong (length hues) k) (any (inside c) hues) t)) ∙ f))
+    go (inr q) = q
 
 -- ---- nothing is listed
 and-none : (b : Bool) → b && false ≡ false
@@ -152,6 +164,11 @@ module _ (p : Policy) (lawful : legal p ≡ true) where
   pub largest-within : (m x : ℕ) → List·Memᴰ x (largestIn p m) → inside x m ≡ true
   largest-within m x k = let s = largest-in-mem p m x k in subst (λ (z : ℕ). inside z m ≡ true) (sym (s .2)) (through-inside p m (s .0))
 
+  pub largest-cycle : (m x : ℕ) → List·Memᴰ x (largestIn p m) → isCycle p x ≡ true
+  largest-cycle m x k =
+      let s = largest-in-mem p m x k in
+      ap (isCycle p) (s .2) ∙ through-cycle p targets m (s .0) (s .1) (λ z. lowest-some p (s .0) x (s .3) .0 (s .2 ∙ z)) .0
+
   pub in-largest : (m x : ℕ) → isCycle p x ≡ true → inside x m ≡ true → (y : ℕ) × List·Memᴰ y (largestIn p m) × (inside x y ≡ true)
   in-largest m x cy i =
       let s = cycle-state p lawful x cy in
@@ -161,43 +178,55 @@ module _ (p : Policy) (lawful : legal p ≡ true) where
       (y, mem-largest-in p m (r .0) y (contains-lt p lawful (r .0) y (r .1)) (sym (through-same p targets m (s .0) (r .0) (s .1) (r .1))) (r .2), up)
 
   -- ---- live edges
-  pub live-root : (r n c : ℕ) → Live p r n c r
-  live-root r n c = record { within = inside-refl r; cycles = λ x cy i k t. i }
+  pub live-root : (r c : ℕ) → Live p r c r
+  live-root r c = record { within = inside-refl r; cycles = λ x cy i k. i }
 
-  in-left : (a b : ℕ) → inside (bitAnd a b) a ≡ true
-  in-left a b = all-inside (bitAnd a b) a (λ e t. and-l (has a e) (has b e) (sym (has-and e a b) ∙ t))
+  -- those of a larger colour set do, and those of two sets have them in common
+  pub live-less : (r d c l : ℕ) → inside c d ≡ true → Live p r d l → Live p r c l
+  live-less r d c l i v = record { within = v .within; cycles = λ x cy k q. v .cycles x cy k (inside-trans (coloursOf p x) c d q i) }
 
-  in-right : (a b : ℕ) → inside (bitAnd a b) b ≡ true
-  in-right a b = all-inside (bitAnd a b) b (λ e t. and-r (has a e) (has b e) (sym (has-and e a b) ∙ t))
+  pub live-both : (r c l m : ℕ) → Live p r c l → Live p r c m → Live p r c (bitAnd l m)
+  live-both r c l m v w = record {
+    within = inside-trans (bitAnd l m) l r (and-within l m) (v .within);
+    cycles = λ x cy k q. inside-and x l m (v .cycles x cy k q) (w .cycles x cy k q);
+  }
 
-  in-both : (x a b : ℕ) → inside x a ≡ true → inside x b ≡ true → inside x (bitAnd a b) ≡ true
-  in-both x a b i k = all-inside x (bitAnd a b) (λ e t. has-and e a b ∙ both (has a e) (has b e) (inside-all x a i e t) (inside-all x b k e t))
-
-  -- of a smaller colour set that needs more
-  pub live-less : (r o d l n c m : ℕ) → Live p r o d l → inside o n ≡ true → inside c d ≡ true → m ≡ bitAnd (edgesIn p c) l → Live p r n c m
-  live-less r o d l n c m v j i e = subst (Live p r n c) (sym e) (record {
-    within = inside-trans (bitAnd (edgesIn p c) l) l r (in-right (edgesIn p c) l) (v .within);
-    cycles = λ x cy k q t. in-both x (edgesIn p c) l (inside-colours p lawful x c cy q) (v .cycles x cy k (inside-trans (coloursOf p x) c d q i) (inside-trans o n (coloursOf p x) j t));
-  })
+  -- and so have the edges with these colours
+  pub live-coloured : (r c l : ℕ) → Live p r c l → Live p r c (bitAnd (edgesIn p c) l)
+  live-coloured r c l v = record {
+    within = inside-trans (bitAnd (edgesIn p c) l) l r (and-inside (edgesIn p c) l) (v .within);
+    cycles = λ x cy k q. inside-and x (edgesIn p c) l (inside-colours p lawful x c cy q) (v .cycles x cy k q);
+  }
 
   -- and those of them that are on cycles
-  pub live-found : (r n c m e : ℕ) → Live p r n c m → inside e m ≡ true → ((x : ℕ) → isCycle p x ≡ true → inside x m ≡ true → inside n (coloursOf p x) ≡ true → inside x e ≡ true) → Live p r n c e
-  live-found r n c m e v i h = record { within = inside-trans e m r i (v .within); cycles = λ x cy k q t. h x cy (v .cycles x cy k q t) t }
+  pub live-found : (r c m e : ℕ) → Live p r c m → inside e m ≡ true → ((x : ℕ) → isCycle p x ≡ true → inside x m ≡ true → inside x e ≡ true) → Live p r c e
+  live-found r c m e v i h = record { within = inside-trans e m r i (v .within); cycles = λ x cy k q. h x cy (v .cycles x cy k q) }
+
+  -- no cycle has exactly these colours
+  pub absent-in : (r c l x : ℕ) → Live p r c l → inside x c ≡ true → inside x (coloursOf p l) ≡ false → (y : ℕ) → isCycle p y ≡ true → inside y r ≡ true → coloursOf p y ≢ x
+  absent-in r c l x v i f y cy k e =
+      true≢false (sym (subst (λ (d : ℕ). inside d (coloursOf p l) ≡ true) e (colours-up p y l (v .cycles y cy k (subst (λ (d : ℕ). inside d c ≡ true) (sym e) i)))) ∙ f)
+
+  pub absent-none : (r c : ℕ) (other same : List ℕ) → ((y : ℕ) → isCycle p y ≡ true → inside y r ≡ true → coloursOf p y ≢ c) → withSet p r c other same ≡ same
+  unfolding withSet
+  absent-none r c other same h =
+      let m = bitAnd (edgesIn p c) r in
+      coloured-none (coloursOf p) c other same (largestIn p m) (λ y k. h y (largest-cycle m y k) (inside-trans y m r (largest-within m y k) (and-inside (edgesIn p c) r)))
 
   -- the largest cycles among them with exactly the colours c are those inside the root
-  module _ (r n c l m : ℕ) (v : Live p r n c m) (needs : inside n c ≡ true) (em : m ≡ bitAnd (edgesIn p c) l) (other : List ℕ) where
+  module _ (r c m : ℕ) (v : Live p r c m) (em : inside m (edgesIn p c) ≡ true) (other : List ℕ) where
     abbrev all-edges : ℕ
     all-edges = bitAnd (edgesIn p c) r
 
     smaller : inside m all-edges ≡ true
-    smaller = in-both m (edgesIn p c) r (subst (λ (z : ℕ). inside z (edgesIn p c) ≡ true) (sym em) (in-left (edgesIn p c) l)) (v .within)
+    smaller = inside-and m (edgesIn p c) r em (v .within)
 
     exact : (x : ℕ) → isCycle p x ≡ true → inside x all-edges ≡ true → coloursOf p x ≡ c → inside x m ≡ true
-    exact x cy i e = v .cycles x cy (inside-trans x all-edges r i (in-right (edgesIn p c) r)) (subst (λ (d : ℕ). inside d c ≡ true) (sym e) (inside-refl c)) (subst (λ (d : ℕ). inside n d ≡ true) (sym e) needs)
+    exact x cy i e = v .cycles x cy (inside-trans x all-edges r i (and-inside (edgesIn p c) r)) (subst (λ (d : ℕ). inside d c ≡ true) (sym e) (inside-refl c))
 
     fewer : (x : ℕ) → inside x all-edges ≡ true → inside (coloursOf p x) c ≡ true
     fewer x i =
-        inside-trans (coloursOf p x) (coloursOf p (edgesIn p c)) c (colours-up p x (edgesIn p c) (inside-trans x all-edges (edgesIn p c) i (in-left (edgesIn p c) r))) (edges-in-colours p c)
+        inside-trans (coloursOf p x) (coloursOf p (edgesIn p c)) c (colours-up p x (edgesIn p c) (inside-trans x all-edges (edgesIn p c) i (and-within (edgesIn p c) r))) (edges-in-colours p c)
 
     module _ (w : ℕ) (b : w < p .states) where
       abbrev x : ℕ

@@ -24,7 +24,7 @@ use Rattle.forest.specs.Forest.{opposed, children}
 use Rattle.forest.proofs.Largest.{inside-same, largest-order-mem}
 use Rattle.forest.proofs.Children.{child, mem-opposed}
 use Rattle.candidates.proofs.LargerFirst.{Falling, falling-append}
-use Rattle.candidates.specs.Candidates.{covers, mayHold, wanted, isWanted, withCycle, withCycles}
+use Rattle.candidates.specs.Candidates.{covers, mayHold, areLong, wanted, isWanted, withCycle, withCycles}
 
 getD-map : (f : ℕ → ℕ) (l : List ℕ) (i : ℕ) → i < length l → getD (map f l) i 0 ≡ f (getD l i 0)
 getD-map f [] i h = absurd (omega arith)
@@ -41,10 +41,10 @@ module _ (p : Policy) where
   none-held : (c m : ℕ) (other same : List ℕ) → isWanted (coloursOf p) c m other same ≡ false → (y : ℕ) → List·Memᴰ y other → mayHold c m same (coloursOf p y) y ≡ false
   unfolding isWanted wanted
   none-held c m other same w y k =
-      let long = ltb 16 (length other) in
+      let long = areLong (length other) (length same) in
       let here = any (λ (i : ℕ). mayHold c m same (getD (map (coloursOf p) other) i 0) (getD other i 0)) (below (length other)) in
       let at = mem-at other 0 y k in
-      let none = none-any (λ (i : ℕ). mayHold c m same (getD (map (coloursOf p) other) i 0) (getD other i 0)) (below (length other)) (or-rest (long || ltb 16 (length same)) here w) (at .0) (mem-below (length other) (at .0) (at .1)) in
+      let none = none-any (λ (i : ℕ). mayHold c m same (getD (map (coloursOf p) other) i 0) (getD other i 0)) (below (length other)) (or-rest long here w) (at .0) (mem-below (length other) (at .0) (at .1)) in
       subst (λ (z : ℕ). mayHold c m same (coloursOf p z) z ≡ false) (at .2) (ap (λ (h : ℕ). mayHold c m same h (getD other (at .0) 0)) (sym (getD-map (coloursOf p) other (at .0) (at .1))) ∙ none)
 
   -- the listed cycles with the verdict of x

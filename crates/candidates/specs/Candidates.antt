@@ -26,13 +26,17 @@ covers e y k = inside e k && inside k y
 unfoldable pub mayHold : ℕ → ℕ → List ℕ → ℕ → ℕ → Bool
 mayHold c m same h y = inside c h && not (eqb (bitAnd m y) 0) && not (any (covers (bitAnd m y) y) same)
 
--- the same of some listed cycle of the other verdict. Where a list is long, a look at it costs more than it saves, and the answer is yes
+-- lists of so many cycles are long: a look at them costs more than it saves
+unfoldable pub areLong : ℕ → ℕ → Bool
+areLong a b = (ltb 16 a && ltb 16 b) || ltb 64 a || ltb 64 b
+
+-- the same of some listed cycle of the other verdict. Where the lists are long the answer is yes
 unfoldable pub wanted : ℕ → ℕ → List ℕ → List ℕ → List ℕ → Bool
-wanted c m other hues same = ltb 16 (length other) || ltb 16 (length same) || any (λ i. mayHold c m same (getD hues i 0) (getD other i 0)) (below (length other))
+wanted c m other hues same = areLong (length other) (length same) || any (λ i. mayHold c m same (getD hues i 0) (getD other i 0)) (below (length other))
 
 -- some listed cycle of the other verdict has all the colours c: `hues` are their colours, and there are `same` of the verdict of c. Nothing is wanted where the answer is no
 unfoldable pub isOpen : ℕ → List ℕ → ℕ → Bool
-isOpen c hues same = ltb 16 (length hues) || ltb 16 same || any (inside c) hues
+isOpen c hues same = areLong (length hues) same || any (inside c) hues
 
 -- ---- wanted cycles after a list; `hue` gives the colours of an edge set
 module _ (hue : ℕ → ℕ) where
@@ -64,10 +68,10 @@ module _ (p : Policy) where
   unfoldable pub candidates : ℕ → Bool → List ℕ
   candidates r b = candidatesTo r (coloursOf p r) b
 
-  -- of the root r: the edges l lie inside it, and have every cycle inside it whose colours are in c, and among them all of n
-  pub record Live (r n c l : ℕ) : Type 0 where
+  -- of the root r: the edges l lie inside it, and have every cycle inside it whose colours are in c
+  pub record Live (r c l : ℕ) : Type 0 where
     pub within : inside l r ≡ true
-    pub cycles : (x : ℕ) → isCycle p x ≡ true → inside x r ≡ true → inside (coloursOf p x) c ≡ true → inside n (coloursOf p x) ≡ true → inside x l ≡ true
+    pub cycles : (x : ℕ) → isCycle p x ≡ true → inside x r ≡ true → inside (coloursOf p x) c ≡ true → inside x l ≡ true
 
   -- the candidates for a root: the largest cycles of all
   unfoldable pub rootCandidates : List ℕ

@@ -2,4 +2,3 @@ pub mod Meaning
 pub mod Pairs
 pub mod Searches
 pub mod Answers
-pub mod Subsets

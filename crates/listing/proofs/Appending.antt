@@ -21,8 +21,8 @@ use Rattle.policy.proofs.Laws.{colours-up}
 use Rattle.policy.proofs.ByColour.{table-edges-are, table-colours-are}
 use Rattle.components.specs.Components.{largestIn}
 use Rattle.candidates.specs.Candidates.{wanted, isOpen, isWanted, withCycle, withCycles, withSet, Live}
-use Rattle.candidates.proofs.Live.{unwanted-none, closed-none, coloured-none, largest-within, in-largest, live-exact}
-use Rattle.listing.specs.Listing.{Hued, PartsOf, whereInside, unionTo, OnCycles}
+use Rattle.candidates.proofs.Live.{unwanted-none, closed-none, largest-within, in-largest, live-exact}
+use Rattle.listing.specs.Listing.{Hued, PartsOf, unionTo, OnCycles}
 
 -- ---- a list with one more
 pub take-set : (t : List ℕ) (n x : ℕ) → n < length t → take (n + 1) (set t n x) ≡ take n t ++ (x ∷ [])
@@ -81,12 +81,12 @@ module _ {p : Policy} {states letters : ℕ} {heads out into by : List ℕ} (s :
   hue-is = ap tableColours (s .by-is) ∙ fun-ext (table-colours-are p (s .graph .lawful))
 
   -- the edges of a colour set, by the table
-  pub set-edges : (c l m : ℕ) → m ≡ bitAnd (tableEdges by c) l → m ≡ bitAnd (edgesIn p c) l
-  set-edges c l m e = e ∙ ap (λ (k : ℕ). bitAnd k l) (ap (λ (t : List ℕ). tableEdges t c) (s .by-is) ∙ table-edges-are p (s .graph .lawful) c)
+  pub set-edges : (c : ℕ) → tableEdges by c ≡ edgesIn p c
+  set-edges c = ap (λ (t : List ℕ). tableEdges t c) (s .by-is) ∙ table-edges-are p (s .graph .lawful) c
 
-  pub set-listed : (root n c l m : ℕ) (other same : List ℕ) → Live p root n c m → inside n c ≡ true → m ≡ bitAnd (edgesIn p c) l → {t : List ℕ} → t ≡ withCycles (tableColours by) c other same (largestIn p m) → t ≡ withSet p root c other same
+  pub set-listed : (root c m : ℕ) (other same : List ℕ) → Live p root c m → inside m (edgesIn p c) ≡ true → {t : List ℕ} → t ≡ withCycles (tableColours by) c other same (largestIn p m) → t ≡ withSet p root c other same
   unfolding withSet
-  set-listed root n c l m other same v needs em e = e ∙ ap (λ (f : ℕ → ℕ). withCycles f c other same (largestIn p m)) hue-is ∙ live-exact p (s .graph .lawful) root n c l m v needs em other same
+  set-listed root c m other same v em e = e ∙ ap (λ (f : ℕ → ℕ). withCycles f c other same (largestIn p m)) hue-is ∙ live-exact p (s .graph .lawful) root c m v em other same
 
   -- nothing is listed where no cycle of the other verdict has the colours c
   pub set-closed : (root c k : ℕ) (other hues same : List ℕ) → hues ≡ map (tableColours by) other → length same ≡ k → isOpen c hues k ≡ false → same ≡ withSet p root c other same
@@ -94,74 +94,62 @@ module _ {p : Policy} {states letters : ℕ} {heads out into by : List ℕ} (s :
   set-closed root c k other hues same are n f =
       sym (closed-none (coloursOf p) c other same (largestIn p (bitAnd (edgesIn p c) root)) (ap₂ (isOpen c) (sym (are ∙ ap (λ (h : ℕ → ℕ). map h other) hue-is)) n ∙ f))
 
-  -- nothing is listed where the edge set lacks a colour of c, or is not wanted
-  pub none-lacking : (c m : ℕ) (other same : List ℕ) → inside c (tableColours by m) ≡ false → same ≡ withCycles (tableColours by) c other same (largestIn p m)
-  none-lacking c m other same f = sym (coloured-none (tableColours by) c other same (largestIn p m) (λ x k e. true≢false (
-      sym (subst (λ (d : ℕ). inside d (tableColours by m) ≡ true) e (subst (λ (h : ℕ → ℕ). inside (h x) (h m) ≡ true) (sym hue-is) (colours-up p x m (largest-within p (s .graph .lawful) m x k)))) ∙ f
-      )))
-
+  -- nor where the edge set is not wanted
   pub none-wanted : (c m : ℕ) (other hues same : List ℕ) → hues ≡ map (tableColours by) other → wanted c m other hues same ≡ false → same ≡ withCycles (tableColours by) c other same (largestIn p m)
   unfolding isWanted
   none-wanted c m other hues same are w =
       sym (unwanted-none (tableColours by) c other m same (largestIn p m) (ap (λ (h : List ℕ). wanted c m other h same) (sym are) ∙ w) (largest-within p (s .graph .lawful) m))
 
 -- ---- the edges on the cycles found
-module _ (hue : ℕ → ℕ) (u : ℕ) (l : List ℕ) where
-  pub union-start : 0 ≡ unionTo hue u l 0
+module _ (l : List ℕ) where
+  pub union-start : 0 ≡ unionTo l 0
   unfolding unionTo
   union-start = refl
 
-  pub union-next : (n : ℕ) → bitOr (unionTo hue u l n) (whereInside u (hue (getD l n 0)) (getD l n 0)) ≡ unionTo hue u l (n + 1)
+  pub union-next : (n : ℕ) → bitOr (unionTo l n) (getD l n 0) ≡ unionTo l (n + 1)
   unfolding unionTo
-  union-next n = sym (ap (unionTo hue u l) (add-one n))
+  union-next n = sym (ap (unionTo l) (add-one n))
 
-  in-union : (n i : ℕ) → i < n → inside u (hue (getD l i 0)) ≡ true → inside (getD l i 0) (unionTo hue u l n) ≡ true
-  unfolding unionTo whereInside
-  in-union zero i h t = absurd (omega arith)
-  in-union (suc n) i h t = go (ℕ-discrete i n) (λ b. in-union n i b t)
+  in-union : (n i : ℕ) → i < n → inside (getD l i 0) (unionTo l n) ≡ true
+  unfolding unionTo
+  in-union zero i h = absurd (omega arith)
+  in-union (suc n) i h = go (ℕ-discrete i n) (λ b. in-union n i b)
     where
       left : (a b : ℕ) → inside a (bitOr a b) ≡ true
       left a b = all-inside a (bitOr a b) (λ e q. has-or e a b ∙ or-left (has a e) (has b e) q)
 
-      right : (a b x : ℕ) → b ≡ x → inside x (bitOr a b) ≡ true
-      right a b x q = subst (λ (z : ℕ). inside z (bitOr a b) ≡ true) q (all-inside b (bitOr a b) (λ e w. has-or e a b ∙ or-right (has a e) (has b e) w))
+      right : (a b : ℕ) → inside b (bitOr a b) ≡ true
+      right a b = all-inside b (bitOr a b) (λ e w. has-or e a b ∙ or-right (has a e) (has b e) w)
 
-      go : Dec (i ≡ n) → (i < n → inside (getD l i 0) (unionTo hue u l n) ≡ true) → inside (getD l i 0) (bitOr (unionTo hue u l n) (cond (inside u (hue (getD l n 0))) (getD l n 0) 0)) ≡ true
-      go (yes e) ih =
-          right (unionTo hue u l n) (cond (inside u (hue (getD l n 0))) (getD l n 0) 0) (getD l i 0)
-          (ap (λ (b : Bool). cond b (getD l n 0) 0) (subst (λ (k : ℕ). inside u (hue (getD l k 0)) ≡ true) e t) ∙ ap (λ (k : ℕ). getD l k 0) (sym e))
-      go (no e) ih =
-          inside-trans (getD l i 0) (unionTo hue u l n) (bitOr (unionTo hue u l n) (cond (inside u (hue (getD l n 0))) (getD l n 0) 0)) (ih (omega arith)) (left (unionTo hue u l n) (cond (inside u (hue (getD l n 0))) (getD l n 0) 0))
+      go : Dec (i ≡ n) → (i < n → inside (getD l i 0) (unionTo l n) ≡ true) → inside (getD l i 0) (bitOr (unionTo l n) (getD l n 0)) ≡ true
+      go (yes e) ih = subst (λ (k : ℕ). inside (getD l k 0) (bitOr (unionTo l n) (getD l n 0)) ≡ true) (sym e) (right (unionTo l n) (getD l n 0))
+      go (no e) ih = inside-trans (getD l i 0) (unionTo l n) (bitOr (unionTo l n) (getD l n 0)) (ih (omega arith)) (left (unionTo l n) (getD l n 0))
 
-  union-in : (n m : ℕ) → ((i : ℕ) → i < n → inside (getD l i 0) m ≡ true) → inside (unionTo hue u l n) m ≡ true
-  unfolding unionTo whereInside
+  union-in : (n m : ℕ) → ((i : ℕ) → i < n → inside (getD l i 0) m ≡ true) → inside (unionTo l n) m ≡ true
+  unfolding unionTo
   union-in zero m h = all-inside 0 m (λ e t. absurd (false≢true (sym (has-none e) ∙ t)))
   union-in (suc n) m h =
       let a = union-in n m (λ i b. h i (omega arith)) in
-      all-inside (bitOr (unionTo hue u l n) (cond (inside u (hue (getD l n 0))) (getD l n 0) 0)) m
-      (λ e t. go e (inside u (hue (getD l n 0))) (or-cases (has (unionTo hue u l n) e) (has (cond (inside u (hue (getD l n 0))) (getD l n 0) 0) e) (sym (has-or e (unionTo hue u l n) (cond (inside u (hue (getD l n 0))) (getD l n 0) 0)) ∙ t)) a)
+      all-inside (bitOr (unionTo l n) (getD l n 0)) m (λ e t. go e (or-cases (has (unionTo l n) e) (has (getD l n 0) e) (sym (has-or e (unionTo l n) (getD l n 0)) ∙ t)) a)
     where
-      go : (e : ℕ) (d : Bool) → (has (unionTo hue u l n) e ≡ true) ⊎ (has (cond d (getD l n 0) 0) e ≡ true) → inside (unionTo hue u l n) m ≡ true → has m e ≡ true
-      go e d (inl t) a = inside-all (unionTo hue u l n) m a e t
-      go e true (inr t) a = inside-all (getD l n 0) m (h n (omega arith)) e t
-      go e false (inr t) a = absurd (false≢true (sym (has-none e) ∙ t))
+      go : (e : ℕ) → (has (unionTo l n) e ≡ true) ⊎ (has (getD l n 0) e ≡ true) → inside (unionTo l n) m ≡ true → has m e ≡ true
+      go e (inl t) a = inside-all (unionTo l n) m a e t
+      go e (inr t) a = inside-all (getD l n 0) m (h n (omega arith)) e t
 
-pub union-on : (p : Policy) → legal p ≡ true → (u m : ℕ) (t : List ℕ) (n e : ℕ) → n ≤ length t → take n t ≡ largestIn p m → e ≡ unionTo (coloursOf p) u t n → OnCycles p u m e
-union-on p lawful u m t n e h q w = subst (OnCycles p u m) (sym w) (record {
-  within = union-in (coloursOf p) u t n m (λ i b. largest-within p lawful m (getD t i 0) (subst (List·Memᴰ (getD t i 0)) q (subst (λ (x : ℕ). List·Memᴰ x (take n t)) (front i b) (getD-mem (take n t) i 0 (omega (arith, length-take-le n t h))))));
-  cycles = λ x cy i k.
+pub union-on : (p : Policy) → legal p ≡ true → (m : ℕ) (t : List ℕ) (n e : ℕ) → n ≤ length t → take n t ≡ largestIn p m → e ≡ unionTo t n → OnCycles p m e
+union-on p lawful m t n e h q w = subst (OnCycles p m) (sym w) (record {
+  within = union-in t n m (λ i b. largest-within p lawful m (getD t i 0) (subst (List·Memᴰ (getD t i 0)) q (subst (λ (x : ℕ). List·Memᴰ x (take n t)) (front i b) (getD-mem (take n t) i 0 (omega (arith, length-take-le n t h))))));
+  cycles = λ x cy i.
       let y = in-largest p lawful m x cy i in
       let at = mem-at (take n t) 0 (y .0) (subst (List·Memᴰ (y .0)) (sym q) (y .1)) in
       let b : at .0 < n = omega (arith, at .1, length-take-le n t h) in
       let same : getD t (at .0) 0 ≡ y .0 = sym (front (at .0) b) ∙ at .2 in
-      let has-all : inside u (coloursOf p (y .0)) ≡ true = inside-trans u (coloursOf p x) (coloursOf p (y .0)) k (colours-up p x (y .0) (y .2)) in
-      inside-trans x (y .0) (unionTo (coloursOf p) u t n) (y .2)
-      (subst (λ (z : ℕ). inside z (unionTo (coloursOf p) u t n) ≡ true) same (in-union (coloursOf p) u t n (at .0) b (subst (λ (z : ℕ). inside u (coloursOf p z) ≡ true) (sym same) has-all)));
+      inside-trans x (y .0) (unionTo t n) (y .2) (subst (λ (z : ℕ). inside z (unionTo t n) ≡ true) same (in-union t n (at .0) b));
 })
   where
     front : (i : ℕ) → i < n → getD (take n t) i 0 ≡ getD t i 0
     front i b = sym (List·getD-append (take n t) (drop n t) 0 i (omega (arith, length-take-le n t h))) ∙ ap (λ (l : List ℕ). getD l i 0) (take-append-drop n t)
 
 -- nothing was found to be off all cycles
-pub all-on : (p : Policy) (u m : ℕ) → OnCycles p u m m
-all-on p u m = record { within = inside-refl m; cycles = λ x cy i k. i }
+pub all-on : (p : Policy) (m : ℕ) → OnCycles p m m
+all-on p m = record { within = inside-refl m; cycles = λ x cy i. i }

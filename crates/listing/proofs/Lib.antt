@@ -1,4 +1,5 @@
 pub mod Looks
 pub mod Appending
-pub mod Above
+pub mod Spans
 pub mod Turns
+pub mod Steps

@@ -5,7 +5,7 @@ use mathlib.Core.Path.{_≡_, sym, ap, _∙_}
 use mathlib.Core.Bool.{Bool, true, false, not, _&&_, _||_}
 use mathlib.Core.List.{List}
 use lib.Bits.{bitAnd}
-use lib.Dec.{eqb, ltb}
+use lib.Dec.{eqb}
 use lib.ListN.{length, getD, take}
 use lib.Seq.{take-suc, take-all}
 use Rattle.lists.specs.Lists.{any, below}
@@ -13,7 +13,7 @@ use Rattle.lists.proofs.AnyAll.{any-more}
 use Rattle.lists.proofs.Bools.{or-left, or-right}
 use Rattle.lists.proofs.Lists.{some-any, mem-below}
 use Rattle.masks.specs.Masks.{inside}
-use Rattle.candidates.specs.Candidates.{covers, mayHold, wanted, isOpen}
+use Rattle.candidates.specs.Candidates.{covers, mayHold, areLong, wanted, isOpen}
 
 module _ (test : ℕ → Bool) (l : List ℕ) (i : ℕ) where
   pub none-more : i < length l → any test (take i l) ≡ false → test (getD l i 0) ≡ false → any test (take (i + 1) l) ≡ false
@@ -36,31 +36,31 @@ module _ (c m : ℕ) (other hues same : List ℕ) where
   abbrev pub holds : ℕ → Bool
   holds i = mayHold c m same (getD hues i 0) (getD other i 0)
 
-  pub long-wanted : ltb 16 (length other) || ltb 16 (length same) ≡ true → true ≡ wanted c m other hues same
+  pub long-wanted : areLong (length other) (length same) ≡ true → true ≡ wanted c m other hues same
   unfolding wanted
-  long-wanted t = sym (or-left (ltb 16 (length other) || ltb 16 (length same)) (any holds (below (length other))) t)
+  long-wanted t = sym (or-left (areLong (length other) (length same)) (any holds (below (length other))) t)
 
   pub none-yet : (i : ℕ) → any holds (below i) ≡ false → holds i ≡ false → any holds (below (i + 1)) ≡ false
   none-yet i a b = ap (λ (k : ℕ). any holds (below k)) (add-one i) ∙ any-more holds (below i) i a b
 
   pub one-wanted : (i : ℕ) → i < length other → holds i ≡ true → true ≡ wanted c m other hues same
   unfolding wanted
-  one-wanted i h t = sym (or-right (ltb 16 (length other) || ltb 16 (length same)) (any holds (below (length other))) (some-any holds (below (length other)) i (mem-below (length other) i h) t))
+  one-wanted i h t = sym (or-right (areLong (length other) (length same)) (any holds (below (length other))) (some-any holds (below (length other)) i (mem-below (length other) i h) t))
 
-  pub none-wanted : (i : ℕ) → i ≡ length other → ltb 16 (length other) || ltb 16 (length same) ≡ false → any holds (below i) ≡ false → false ≡ wanted c m other hues same
+  pub none-wanted : (i : ℕ) → i ≡ length other → areLong (length other) (length same) ≡ false → any holds (below i) ≡ false → false ≡ wanted c m other hues same
   unfolding wanted
   none-wanted i e f a = sym (rw f (ap (λ (k : ℕ). any holds (below k)) (sym e) ∙ a))
 
 -- ---- what is open
 module _ (c : ℕ) (hues : List ℕ) (k : ℕ) where
-  pub long-open : ltb 16 (length hues) || ltb 16 k ≡ true → true ≡ isOpen c hues k
+  pub long-open : areLong (length hues) k ≡ true → true ≡ isOpen c hues k
   unfolding isOpen
-  long-open t = sym (or-left (ltb 16 (length hues) || ltb 16 k) (any (inside c) hues) t)
+  long-open t = sym (or-left (areLong (length hues) k) (any (inside c) hues) t)
 
   pub some-open : any (inside c) hues ≡ true → true ≡ isOpen c hues k
   unfolding isOpen
-  some-open t = sym (or-right (ltb 16 (length hues) || ltb 16 k) (any (inside c) hues) t)
+  some-open t = sym (or-right (areLong (length hues) k) (any (inside c) hues) t)
 
-  pub none-open : ltb 16 (length hues) || ltb 16 k ≡ false → any (inside c) hues ≡ false → false ≡ isOpen c hues k
+  pub none-open : areLong (length hues) k ≡ false → any (inside c) hues ≡ false → false ≡ isOpen c hues k
   unfolding isOpen
   none-open f a = sym (rw f a)

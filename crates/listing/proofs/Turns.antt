@@ -4,8 +4,8 @@ use native.Mathlib.Omega.{arith}
 use native.Mathlib.Decide.{ℕ-discrete}
 use native.Mathlib.Numerals.{add-one}
 use mathlib.Core.Path.{_≡_, refl, sym, ap, ap₂, _∙_, subst}
-use mathlib.Core.Logic.{_⊎_, inl, inr}
-use mathlib.Core.Bool.{Bool, true, false, not, _&&_, cond, false≢true}
+use mathlib.Core.Logic.{_⊎_, inl, inr, _≢_}
+use mathlib.Core.Bool.{Bool, true, false, not, _&&_, cond, true≢false, false≢true}
 use mathlib.Core.List.{List, [], _∷_, List·Memᴰ}
 use lib.Bits.{bitAnd}
 use lib.Dec.{eqb, ltb}
@@ -18,17 +18,17 @@ use Rattle.masks.proofs.Bits.{inside-refl, inside-le}
 use Rattle.policy.specs.declared.Policy.{Policy}
 use Rattle.policy.specs.Policies.{coloursOf, inFamily, accepting, legal}
 use Rattle.policy.specs.ByColour.{byColour, edgesIn, tableEdges, tableColours}
-use Rattle.policy.proofs.Laws.{accepting-is}
+use Rattle.policy.proofs.Laws.{accepting-is, colours-up}
 use Rattle.policy.proofs.ByColour.{table-colours-are}
+use Rattle.graph.specs.Cycles.{isCycle}
 use Rattle.forest.specs.Forest.{roots}
 use Rattle.components.specs.Components.{largestIn}
 use Rattle.candidates.specs.Candidates.{isOpen, withCycles, withSet, candidatesTo, candidates, Live}
 use Rattle.candidates.proofs.Candidates.{listing-few}
-use Rattle.candidates.proofs.Live.{live-root, live-less, live-found}
+use Rattle.candidates.proofs.Live.{live-root, absent-none}
 use Rattle.listing.specs.declared.Counts.{Counts}
-use Rattle.listing.specs.Listing.{Hued, PartsOf, OnCycles, setAbove, upper, liveAbove, Listed, lacksRoom, Outcome}
-use Rattle.listing.proofs.Appending.{take-set, hued-more, set-edges, set-listed, set-closed}
-use Rattle.listing.proofs.Above.{above-in, in-above, upper-in, above-is}
+use Rattle.listing.specs.Listing.{Hued, PartsOf, Passed, Listed, lacksRoom, Outcome}
+use Rattle.listing.proofs.Appending.{take-set, hued-more, set-closed}
 
 -- ---- one set more
 module _ {p : Policy} {by : List ℕ} {r n : ℕ} {a₀ ah₀ r₀ rh₀ live : List ℕ} {k : Counts} (s : Listed p by r n a₀ ah₀ r₀ rh₀ live k) (c : ℕ) (ec : c ≡ coloursOf p r - 1 - n) where
@@ -40,38 +40,8 @@ module _ {p : Policy} {by : List ℕ} {r n : ℕ} {a₀ ah₀ r₀ rh₀ live : 
       ∙ ap (λ (x : ℕ). cond (inside x (coloursOf p r) && not (differs b (inFamily p x))) (withSet p r x (candidatesTo p r n (not b)) (candidatesTo p r n b)) (candidatesTo p r n b)) (sym ec)
       ∙ ap₂ (λ (x y : Bool). cond (x && not (differs b y)) (withSet p r c (candidatesTo p r n (not b)) (candidatesTo p r n b)) (candidatesTo p r n b)) ed ef
 
-  -- its live edges
-  live-here : legal p ≡ true → inside c (coloursOf p r) ≡ true → coloursOf p r < length live → (m : ℕ) → m ≡ bitAnd (edgesIn p c) (liveAbove live r (coloursOf p r) c) → Live p r (upper (coloursOf p r) c) c m
-  live-here lawful i h m e = go (test (eqb (setAbove (coloursOf p r) c) (coloursOf p r))) (test (inside (upper (coloursOf p r) (setAbove (coloursOf p r) c)) (upper (coloursOf p r) c)))
-    where
-      of-root : m ≡ bitAnd (edgesIn p c) r → Live p r (upper (coloursOf p r) c) c m
-      of-root q = live-less p lawful r (upper (coloursOf p r) c) c r (upper (coloursOf p r) c) c m (live-root p lawful r (upper (coloursOf p r) c) c) (inside-refl (upper (coloursOf p r) c)) (inside-refl c) q
-
-      with-edges : (a b : Bool) → eqb (setAbove (coloursOf p r) c) (coloursOf p r) ≡ a → inside (upper (coloursOf p r) (setAbove (coloursOf p r) c)) (upper (coloursOf p r) c) ≡ b
-          → m ≡ bitAnd (edgesIn p c) (cond a r (cond b (getD live (setAbove (coloursOf p r) c) 0) r))
-      with-edges a b q k = e ∙ ap (bitAnd (edgesIn p c)) (sym (above-is live r (coloursOf p r) c a b q k))
-
-      go : (eqb (setAbove (coloursOf p r) c) (coloursOf p r) ≡ true) ⊎ (eqb (setAbove (coloursOf p r) c) (coloursOf p r) ≡ false) → (inside (upper (coloursOf p r) (setAbove (coloursOf p r) c)) (upper (coloursOf p r) c) ≡ true) ⊎ (inside (upper (coloursOf p r) (setAbove (coloursOf p r) c)) (upper (coloursOf p r) c) ≡ false)
-          → Live p r (upper (coloursOf p r) c) c m
-      go (inl q) (inl k) = of-root (with-edges true true q k)
-      go (inl q) (inr k) = of-root (with-edges true false q k)
-      go (inr q) (inr k) = of-root (with-edges false false q k)
-      go (inr q) (inl k) =
-          let d = setAbove (coloursOf p r) c in
-          live-less p lawful r (upper (coloursOf p r) d) d (getD live d 0) (upper (coloursOf p r) c) c m (s .live-are d (omega (arith, h, inside-le d (coloursOf p r) (in-above (coloursOf p r) c i)))) k (above-in (coloursOf p r) c) (with-edges false true q k)
-
-  live-next : (e : ℕ) → Live p r (upper (coloursOf p r) c) c e → (d : ℕ) → d < length (set live c e) → Live p r (upper (coloursOf p r) d) d (getD (set live c e) d 0)
-  live-next e v d b = go (ℕ-discrete d c)
-    where
-      inner : d < length live
-      inner = omega (arith, b, length-set live c e)
-
-      go : Dec (d ≡ c) → Live p r (upper (coloursOf p r) d) d (getD (set live c e) d 0)
-      go (yes q) = subst (λ (x : ℕ). Live p r (upper (coloursOf p r) x) x (getD (set live c e) x 0)) (sym q) (subst (Live p r (upper (coloursOf p r) c) c) (sym (getD-set-same live c e 0 (omega (arith, inner, q)))) v)
-      go (no q) = subst (Live p r (upper (coloursOf p r) d) d) (sym (getD-set-other live c d e 0 q)) (s .live-are d inner)
-
   -- whatever the live edges become
-  module _ {live' : List ℕ} (la : (d : ℕ) → d < length live' → Live p r (upper (coloursOf p r) d) d (getD live' d 0)) where
+  module _ {live' : List ℕ} (la : (d : ℕ) → d < length live' → Live p r d (getD live' d 0)) where
     pub listed-accepting : {a ah : List ℕ} {m : ℕ} → inside c (coloursOf p r) ≡ true → inFamily p c ≡ true → take m a ≡ withSet p r c (take (k .rejecting) r₀) (take (k .accepting) a₀) → Hued (tableColours by) a ah m
         → Listed p by r (n + 1) a ah r₀ rh₀ live' (record { accepting = m; rejecting = k .rejecting })
     listed-accepting d f q h = record {
@@ -92,59 +62,89 @@ module _ {p : Policy} {by : List ℕ} {r n : ℕ} {a₀ ah₀ r₀ rh₀ live : 
       live-are = la;
     }
 
-  pub listed-still : inside c (coloursOf p r) ≡ false → Listed p by r (n + 1) a₀ ah₀ r₀ rh₀ live k
-  listed-still d = record {
-    accepting-are = s .accepting-are ∙ sym (next-is true false (inFamily p c) d refl);
-    rejecting-are = s .rejecting-are ∙ sym (next-is false false (inFamily p c) d refl);
+  -- nothing is listed where no cycle has its colours
+  listed-absent : legal p ≡ true → ((y : ℕ) → isCycle p y ≡ true → inside y r ≡ true → coloursOf p y ≢ c) → Listed p by r (n + 1) a₀ ah₀ r₀ rh₀ live k
+  listed-absent lawful none = record {
+    accepting-are = s .accepting-are ∙ sym (still true);
+    rejecting-are = s .rejecting-are ∙ sym (still false);
     accepting-hued = s .accepting-hued;
     rejecting-hued = s .rejecting-hued;
     live-are = s .live-are;
   }
+    where
+      alike : (b : Bool) {x y : List ℕ} → x ≡ y → cond b x y ≡ y
+      alike true e = e
+      alike false e = refl
 
--- ---- the set c of the colours of the root
-module _ {p : Policy} {states letters : ℕ} {heads out into by : List ℕ} (t : PartsOf p states letters heads out into by)
-    {r n : ℕ} {a₀ ah₀ r₀ rh₀ live : List ℕ} {k : Counts} (s : Listed p by r n a₀ ah₀ r₀ rh₀ live k) {used : ℕ} (eu : used ≡ coloursOf p r)
-    (c : ℕ) (ec : c ≡ used - 1 - n) (within : inside c used ≡ true) where
-  of-root : inside c (coloursOf p r) ≡ true
-  of-root = ap (inside c) (sym eu) ∙ within
+      still : (b : Bool) → candidatesTo p r (n + 1) b ≡ candidatesTo p r n b
+      still b = next-is b (inside c (coloursOf p r)) (inFamily p c) refl refl ∙ alike (inside c (coloursOf p r) && not (differs b (inFamily p c))) (absent-none p lawful r c (candidatesTo p r n (not b)) (candidatesTo p r n b) none)
 
-  next : c ≡ coloursOf p r - 1 - n
-  next = ec ∙ ap (λ (u : ℕ). u - 1 - n) eu
+-- live edges of one set more
+pub live-set : (p : Policy) (r c e : ℕ) (live : List ℕ) → ((d : ℕ) → d < length live → Live p r d (getD live d 0)) → Live p r c e → (d : ℕ) → d < length (set live c e) → Live p r d (getD (set live c e) d 0)
+live-set p r c e live are v d b = go (ℕ-discrete d c)
+  where
+    inner : d < length live
+    inner = omega (arith, b, length-set live c e)
 
-  -- closed: no listed cycle of the other verdict has its colours
-  pub closed-accepting : inFamily p c ≡ true → isOpen c (take (k .rejecting) rh₀) (k .accepting) ≡ false → Listed p by r (n + 1) a₀ ah₀ r₀ rh₀ live k
-  closed-accepting f o =
-      listed-accepting s c next (s .live-are) of-root f
-      (set-closed t r c (k .accepting) (take (k .rejecting) r₀) (take (k .rejecting) rh₀) (take (k .accepting) a₀) (s .rejecting-hued .hues-are) (length-take-le (k .accepting) a₀ (s .accepting-hued .long)) o) (s .accepting-hued)
+    go : Dec (d ≡ c) → Live p r d (getD (set live c e) d 0)
+    go (yes q) = subst (λ (x : ℕ). Live p r x (getD (set live c e) x 0)) (sym q) (subst (Live p r c) (sym (getD-set-same live c e 0 (omega (arith, inner, q)))) v)
+    go (no q) = subst (Live p r d) (sym (getD-set-other live c d e 0 q)) (are d inner)
 
-  pub closed-rejecting : inFamily p c ≡ false → isOpen c (take (k .accepting) ah₀) (k .rejecting) ≡ false → Listed p by r (n + 1) a₀ ah₀ r₀ rh₀ live k
-  closed-rejecting f o =
-      listed-rejecting s c next (s .live-are) of-root f
-      (set-closed t r c (k .rejecting) (take (k .accepting) a₀) (take (k .accepting) ah₀) (take (k .rejecting) r₀) (s .accepting-hued .hues-are) (length-take-le (k .rejecting) r₀ (s .rejecting-hued .long)) o) (s .rejecting-hued)
+-- ---- of the list of verdict v, and of the other one
+abbrev pub otherHues : Bool → Counts → List ℕ → List ℕ → List ℕ
+otherHues v k ah th = cond v (take (k .rejecting) th) (take (k .accepting) ah)
 
-  -- looked for in m, among the live edges l of the set above; e are those that were found on cycles
-  module _ (more : used < length live) {l : ℕ} (el : l ≡ liveAbove live r used c) (m : ℕ) (em : m ≡ bitAnd (tableEdges by c) l) {o e : ℕ} (eo : o ≡ upper used c) (on : OnCycles p o m e) where
-    edges : m ≡ bitAnd (edgesIn p c) l
-    edges = set-edges t c l m em
+abbrev pub sameCount : Bool → Counts → ℕ
+sameCount v k = cond v (k .accepting) (k .rejecting)
 
-    needed : o ≡ upper (coloursOf p r) c
-    needed = eo ∙ ap (λ (u : ℕ). upper u c) eu
+-- ---- sets that are passed, of the colours `used` of the root
+module _ {p : Policy} {states letters : ℕ} {heads out into by : List ℕ} (t : PartsOf p states letters heads out into by) (r used : ℕ) (eu : used ≡ coloursOf p r)
+    (a₀ ah₀ r₀ rh₀ live : List ℕ) (k : Counts) where
+  abbrev Here : ℕ → Type 0
+  Here n = Listed p by r n a₀ ah₀ r₀ rh₀ live k
 
-    live-set : Live p r (upper (coloursOf p r) c) c m
-    live-set = live-here s c next (t .graph .lawful) of-root (omega (arith, more, eu)) m (edges ∙ ap (bitAnd (edgesIn p c)) (el ∙ ap (λ (u : ℕ). liveAbove live r u c) eu))
+  set-is : (x : ℕ) → x < used → x ≡ coloursOf p r - 1 - (used - 1 - x)
+  set-is x h = omega (arith, eu)
 
-    live-edges : (d : ℕ) → d < length (set live c e) → Live p r (upper (coloursOf p r) d) d (getD (set live c e) d 0)
-    live-edges =
-        let f = subst (λ (u : ℕ). OnCycles p u m e) needed on in
-        live-next s c next e (live-found p (t .graph .lawful) r (upper (coloursOf p r) c) c m e live-set (f .within) (f .cycles))
+  -- a set that is not open
+  closed : (v : Bool) (x : ℕ) → x < used → inside x (coloursOf p r) ≡ true → inFamily p x ≡ v → isOpen x (otherHues v k ah₀ rh₀) (sameCount v k) ≡ false → Here (used - 1 - x) → Here (used - 1 - x + 1)
+  closed true x h i f o s =
+      listed-accepting s x (set-is x h) (s .live-are) i f
+      (set-closed t r x (k .accepting) (take (k .rejecting) r₀) (take (k .rejecting) rh₀) (take (k .accepting) a₀) (s .rejecting-hued .hues-are) (length-take-le (k .accepting) a₀ (s .accepting-hued .long)) o) (s .accepting-hued)
+  closed false x h i f o s =
+      listed-rejecting s x (set-is x h) (s .live-are) i f
+      (set-closed t r x (k .rejecting) (take (k .accepting) a₀) (take (k .accepting) ah₀) (take (k .rejecting) r₀) (s .accepting-hued .hues-are) (length-take-le (k .rejecting) r₀ (s .rejecting-hued .long)) o) (s .rejecting-hued)
 
-    pub turn-accepting : {a ah : List ℕ} {x : ℕ} → inFamily p c ≡ true → take x a ≡ withCycles (tableColours by) c (take (k .rejecting) r₀) (take (k .accepting) a₀) (largestIn p m) → Hued (tableColours by) a ah x
-        → Listed p by r (n + 1) a ah r₀ rh₀ (set live c e) (record { accepting = x; rejecting = k .rejecting })
-    turn-accepting f q h = listed-accepting s c next live-edges of-root f (set-listed t r (upper (coloursOf p r) c) c l m (take (k .rejecting) r₀) (take (k .accepting) a₀) live-set (upper-in (coloursOf p r) c) edges q) h
+  -- a cycle of the root has its colours
+  outside : (x : ℕ) → inside x (coloursOf p r) ≡ false → (y : ℕ) → isCycle p y ≡ true → inside y r ≡ true → coloursOf p y ≢ x
+  outside x f y cy i e = true≢false (sym (subst (λ (d : ℕ). inside d (coloursOf p r) ≡ true) e (colours-up p y r i)) ∙ f)
 
-    pub turn-rejecting : {b bh : List ℕ} {x : ℕ} → inFamily p c ≡ false → take x b ≡ withCycles (tableColours by) c (take (k .accepting) a₀) (take (k .rejecting) r₀) (largestIn p m) → Hued (tableColours by) b bh x
-        → Listed p by r (n + 1) a₀ ah₀ b bh (set live c e) (record { accepting = k .accepting; rejecting = x })
-    turn-rejecting f q h = listed-rejecting s c next live-edges of-root f (set-listed t r (upper (coloursOf p r) c) c l m (take (k .accepting) a₀) (take (k .rejecting) r₀) live-set (upper-in (coloursOf p r) c) edges q) h
+  pass : (v : Bool) (x : ℕ) → x < used → Passed p r v (otherHues v k ah₀ rh₀) (sameCount v k) x → Here (used - 1 - x) → Here (used - 1 - x + 1)
+  pass v x h (inl none) s = listed-absent s x (set-is x h) (t .graph .lawful) none
+  pass v x h (inr o) s = go (test (inside x (coloursOf p r)))
+    where
+      go : (inside x (coloursOf p r) ≡ true) ⊎ (inside x (coloursOf p r) ≡ false) → Here (used - 1 - x + 1)
+      go (inl i) = closed v x h i (o .0) (o .1) s
+      go (inr f) = listed-absent s x (set-is x h) (t .graph .lawful) (outside x f)
+
+  -- all sets from `low` up to `high`, in turn
+  pub passed : (v : Bool) (low high : ℕ) → low ≤ high → high ≤ used → ((x : ℕ) → low ≤ x → x < high → inside x used ≡ true → Passed p r v (otherHues v k ah₀ rh₀) (sameCount v k) x) → Here (used - high) → Here (used - low)
+  passed v low zero l h each s = subst Here (ap (λ (x : ℕ). used - x) (omega arith)) s
+  passed v low (suc x) l h each s = go (ℕ-discrete low (suc x)) (λ b. passed v low x b (omega arith) (λ y c d i. each y c (omega arith) i))
+    where
+      here : Here (used - 1 - x)
+      here = subst Here (omega arith) s
+
+      by-colours : (inside x used ≡ true) ⊎ (inside x used ≡ false) → low ≤ x → Passed p r v (otherHues v k ah₀ rh₀) (sameCount v k) x
+      by-colours (inl i) b = each x b (omega arith) i
+      by-colours (inr f) b = inl (outside x (ap (inside x) (sym eu) ∙ f))
+
+      go : Dec (low ≡ suc x) → (low ≤ x → Here (used - x) → Here (used - low)) → Here (used - low)
+      go (yes e) on = subst Here (ap (λ (y : ℕ). used - y) (sym e)) s
+      go (no ne) on =
+          let b : low ≤ x = omega (arith, ne, l) in
+          let e : used - 1 - x + 1 ≡ used - x = omega (arith, h) in
+          on b (subst Here e (pass v x (omega arith) (by-colours (test (inside x used)) b) here))
 
 -- ---- the root alone
 pub replicate-in : (n i x z : ℕ) → i < n → getD (replicate n x) i z ≡ x
@@ -164,8 +164,8 @@ module _ (p : Policy) (lawful : legal p ≡ true) (by : List ℕ) (e : by ≡ by
   first-is b d q = ap (λ (v : Bool). cond (differs b v) [] (r ∷ [])) (accepting-is p r ∙ ap (inFamily p) (sym used-is) ∙ q)
 
   module _ (live : List ℕ) (are : (d : ℕ) → d < length live → getD live d 0 ≡ r) where
-    root-live : (d : ℕ) → d < length live → Live p r (upper (coloursOf p r) d) d (getD live d 0)
-    root-live d b = subst (Live p r (upper (coloursOf p r) d) d) (sym (are d b)) (live-root p lawful r (upper (coloursOf p r) d) d)
+    root-live : (d : ℕ) → d < length live → Live p r d (getD live d 0)
+    root-live d b = subst (Live p r d) (sym (are d b)) (live-root p lawful r d)
 
     pub begun-accepting : (a ah t th : List ℕ) → 0 < length a → 0 < length ah → inFamily p used ≡ true → Listed p by r 0 (set a 0 r) (set ah 0 used) t th live (record { accepting = 1; rejecting = 0 })
     begun-accepting a ah t th h g q = record {
@@ -203,7 +203,7 @@ module _ {p : Policy} {by : List ℕ} {r n : ℕ} {a ah t th live : List ℕ} {k
     enough = λ _ _. refl;
   }
 
-  counts-are : (k .accepting ≡ length (candidatesTo p r n true)) × (k .rejecting ≡ length (candidatesTo p r n false))
+  pub counts-are : (k .accepting ≡ length (candidatesTo p r n true)) × (k .rejecting ≡ length (candidatesTo p r n false))
   counts-are = (
     sym (length-take-le (k .accepting) a (s .accepting-hued .long)) ∙ ap length (s .accepting-are),
     sym (length-take-le (k .rejecting) t (s .rejecting-hued .long)) ∙ ap length (s .rejecting-are),

@@ -1,18 +1,19 @@
 -- The candidates of a root as they stand in the lists that a caller lends, each with the colours of its masks beside it.
 use Prim.Native.Nat.{ℕ, zero, suc, _+_, _-_, _<_, _≤_}
 use mathlib.Core.Path.{_≡_}
-use mathlib.Core.Bool.{Bool, true, false, _||_, cond}
+use mathlib.Core.Logic.{_⊎_, _≢_}
+use mathlib.Core.Bool.{Bool, true, false, _||_}
 use mathlib.Core.List.{List, map}
 use lib.Bits.{bitAnd, bitOr}
-use lib.Dec.{eqb, ltb}
+use lib.Dec.{ltb}
 use lib.ListN.{length, getD, take}
 use Rattle.masks.specs.Masks.{inside}
 use Rattle.policy.specs.declared.Policy.{Policy}
-use Rattle.policy.specs.Policies.{coloursOf}
+use Rattle.policy.specs.Policies.{coloursOf, inFamily}
 use Rattle.policy.specs.ByColour.{byColour, tableColours}
 use Rattle.graph.specs.Cycles.{isCycle}
 use Rattle.graph.specs.Through.{GraphOf, EndsOf}
-use Rattle.candidates.specs.Candidates.{candidatesTo, candidates, Live}
+use Rattle.candidates.specs.Candidates.{isOpen, candidatesTo, candidates, Live}
 use Rattle.listing.specs.declared.Counts.{Counts}
 
 -- of a list of masks, the first n count, and their colours stand in another; `hue` gives the colours of a mask
@@ -27,36 +28,27 @@ pub record PartsOf (p : Policy) (states letters : ℕ) (heads out into by : List
   pub ends : EndsOf p out into
   pub by-is : by ≡ byColour p
 
--- x where b has all of a
-unfoldable pub whereInside : ℕ → ℕ → ℕ → ℕ
-whereInside a b x = cond (inside a b) x 0
+-- the first n edge sets of a list, as one
+unfoldable pub unionTo : List ℕ → ℕ → ℕ
+unionTo l zero = 0
+unionTo l (suc n) = bitOr (unionTo l n) (getD l n 0)
 
--- those of the first n edge sets of a list that have the colours u, as one; `hue` gives the colours of an edge set
-unfoldable pub unionTo : (ℕ → ℕ) → ℕ → List ℕ → ℕ → ℕ
-unionTo hue u l zero = 0
-unionTo hue u l (suc n) = let x = getD l n 0 in bitOr (unionTo hue u l n) (whereInside u (hue x) x)
-
--- all cycles inside m that have the colours u lie inside e, and e inside m
-pub record OnCycles (p : Policy) (u m e : ℕ) : Type 0 where
+-- all cycles inside m lie inside e, and e inside m
+pub record OnCycles (p : Policy) (m e : ℕ) : Type 0 where
   pub within : inside e m ≡ true
-  pub cycles : (x : ℕ) → isCycle p x ≡ true → inside x m ≡ true → inside u (coloursOf p x) ≡ true → inside x e ≡ true
+  pub cycles : (x : ℕ) → isCycle p x ≡ true → inside x m ≡ true → inside x e ≡ true
 
--- ---- live edges, by sets of the colours u
--- one more than c with all that are not in u
-unfoldable pub stepFrom : ℕ → ℕ → ℕ
-stepFrom u c = c + (255 - u) + 1
+-- ---- the span of a set c of the colours u, from `upper` up to c: the sets of these colours that lack the lowest colour that c lacks, and have of the higher ones those of c
+unfoldable pub lowest : ℕ → ℕ → ℕ
+lowest u c = bitAnd (u - c) (256 - (u - c))
 
--- c, with the lowest colour that it lacks
-unfoldable pub setAbove : ℕ → ℕ → ℕ
-setAbove u c = bitOr c (bitAnd (stepFrom u c) u)
-
--- c, without those below that one
 unfoldable pub upper : ℕ → ℕ → ℕ
-upper u c = bitAnd c (stepFrom u c)
+upper u c = bitAnd c (256 - lowest u c)
 
--- the live edges of the set above c; those of the root where there is none
-unfoldable pub liveAbove : List ℕ → ℕ → ℕ → ℕ → ℕ
-liveAbove live r u c = let d = setAbove u c in cond (eqb d u) r (cond (inside (upper u d) (upper u c)) (getD live d 0) r)
+-- nothing of the root r is listed at the set x: no cycle has exactly these colours, or no listed one of the other verdict has them all. `hues` are the colours of
+-- these, and `same` of the verdict v are listed
+abbrev pub Passed : Policy → ℕ → Bool → List ℕ → ℕ → ℕ → Type 0
+Passed p r v hues same x = ((y : ℕ) → isCycle p y ≡ true → inside y r ≡ true → coloursOf p y ≢ x) ⊎ ((inFamily p x ≡ v) × (isOpen x hues same ≡ false))
 
 -- the lists of the root r after n sets, and live edges for each set
 pub record Listed (p : Policy) (by : List ℕ) (r n : ℕ) (accepting accepted rejecting rejected live : List ℕ) (k : Counts) : Type 0 where
@@ -64,7 +56,7 @@ pub record Listed (p : Policy) (by : List ℕ) (r n : ℕ) (accepting accepted r
   pub rejecting-are : take (k .rejecting) rejecting ≡ candidatesTo p r n false
   pub accepting-hued : Hued (tableColours by) accepting accepted (k .accepting)
   pub rejecting-hued : Hued (tableColours by) rejecting rejected (k .rejecting)
-  pub live-are : (d : ℕ) → d < length live → Live p r (upper (coloursOf p r) d) d (getD live d 0)
+  pub live-are : (d : ℕ) → d < length live → Live p r d (getD live d 0)
 
 -- of lists with so many places, one may have no room for a cycle of each state
 unfoldable pub lacksRoom : ℕ → ℕ → Counts → Bool

@@ -1,19 +1,22 @@
 // The candidates of a root, listed by verdict: colour set by colour set, by falling mask, the wanted cycles inside the root. Beside the lists of accepting and of rejecting masks
 // stand their colour sets, accepted and rejected.
 ghost use mathlib.Core.Path.{_≡_};
-ghost use mathlib.Core.Bool.{true};
+ghost use mathlib.Core.Logic.{_⊎_};
+ghost use mathlib.Core.Bool.{true, false, cond};
 ghost use mathlib.Core.List.{List, map, List·Memᴰ};
 ghost use Prim.Native.Nat.{ℕ, _+_, _-_, _<_, _≤_};
+ghost use lib.Dec.{eqb};
 ghost use lib.ListN.{length, getD, take};
+ghost use Rattle.lists.specs.Bools.{differs};
 ghost use Rattle.lists.specs.Lists.{any};
 ghost use Rattle.policy.specs.declared.Policy.{Policy};
-ghost use Rattle.policy.specs.Policies.{coloursOf, legal};
-ghost use Rattle.policy.specs.ByColour.{byColour, tableColours};
+ghost use Rattle.policy.specs.Policies.{coloursOf, inFamily, legal};
+ghost use Rattle.policy.specs.ByColour.{byColour, edgesIn, tableColours};
 ghost use Rattle.components.specs.Components.{largestIn};
 ghost use Rattle.forest.specs.Forest.{roots};
-ghost use Rattle.candidates.specs.Candidates.{covers, mayHold, wanted, isOpen, withCycle, withCycles};
+ghost use Rattle.candidates.specs.Candidates.{covers, mayHold, areLong, wanted, isOpen, withCycle, withCycles, Live};
 ghost use Rattle.masks.specs.Masks.{inside};
-ghost use Rattle.listing.specs.Listing.{Hued, PartsOf, whereInside, unionTo, OnCycles, stepFrom, setAbove, upper, liveAbove, Listed, lacksRoom, Outcome};
+ghost use Rattle.listing.specs.Listing.{Hued, PartsOf, unionTo, OnCycles, lowest, upper, Listed, lacksRoom, Outcome};
 
 // How many masks each list holds.
 pub struct Counts {
@@ -31,6 +34,12 @@ pub struct Listing {
 struct Cycles {
     count: usize,
     edges: u64,
+}
+
+// The lists after some sets: those below `left` are left.
+struct Step {
+    counts: Counts,
+    left: u8,
 }
 
 // Whether e lies inside a mask of the list that itself lies inside y.
@@ -56,13 +65,19 @@ fn may_hold(c: u8, m: u64, same: &[u64], h: u8, y: u64) -> bool
     false
 }
 
-// Whether it may be a child of a listed mask. `other` has the masks of the other verdict and `hues` their colours. In long lists a look costs more than it saves, so then the
-// answer is yes.
+// Whether lists of so many masks are long: then a look at them costs more than it saves.
+fn are_long(a: usize, b: usize) -> bool
+    ensures { λ r. ⌜ r ≡ areLong a b ⌝ }
+{
+    ((16 < a) & (16 < b)) | (64 < a) | (64 < b)
+}
+
+// Whether it may be a child of a listed mask. `other` has the masks of the other verdict and `hues` their colours. In long lists the answer is yes.
 fn is_wanted(c: u8, m: u64, other: &[u64], hues: &[u8], same: &[u64]) -> bool
     requires { ⌜ length (now other) ≤ length (now hues) ⌝ }
     ensures { λ r. ⌜ r ≡ wanted c m (now (other .entry)) (now (hues .entry)) (now (same .entry)) ⌝ }
 {
-    if (16 < other.len()) | (16 < same.len()) {
+    if are_long(other.len(), same.len()) {
         return true;
     }
     for i in 0..other.len() {
@@ -78,7 +93,7 @@ fn is_wanted(c: u8, m: u64, other: &[u64], hues: &[u8], same: &[u64]) -> bool
 fn is_open(c: u8, hues: &[u8], same: usize) -> bool
     ensures { λ r. ⌜ r ≡ isOpen c (now (hues .entry)) same ⌝ }
 {
-    if (16 < hues.len()) | (16 < same) {
+    if are_long(hues.len(), same) {
         return true;
     }
     for i in 0..hues.len() {
@@ -117,20 +132,9 @@ fn append_cycle(
     count
 }
 
-// The cycle x, where it has the colours u.
-fn edges_with(by: &[u64; 9], u: u8, x: u64) -> u64
-    ensures { λ r. ⌜ r ≡ whereInside u (tableColours (now (by .entry)) x) x ⌝ }
-{
-    if masks::set_inside(u, policy::colours_in(by, x)) {
-        return x;
-    }
-    0
-}
-
-// The first n cycles in turn, and the edges of those that have the colours u.
+// The first n cycles in turn.
 fn append_cycles(
     by: &[u64; 9],
-    u: u8,
     c: u8,
     cycles: &[u64; 16],
     n: usize,
@@ -139,21 +143,48 @@ fn append_cycles(
     same: &mut [u64],
     own: &mut [u8],
     count: usize,
-) -> Cycles
+) -> usize
     requires cycles { ⌜ (n ≤ 16) × (length (now cycles) ≡ 16) ⌝ }
     requires other { ⌜ now hues ≡ map (tableColours (now by)) (now other) ⌝ }
     requires room { ⌜ Hued (tableColours (now by)) (now same) (now own) count × (count + n ≤ length (now same)) × (count + n ≤ length (now own)) ⌝ }
-    ensures masks { λ r. ⌜ take (r .count) (now (same .exit)) ≡ withCycles (tableColours (now (by .entry))) c (now (other .entry)) (take count (now (same .entry))) (take n (now (cycles .entry))) ⌝ }
-    ensures hues { λ r. ⌜ Hued (tableColours (now (by .entry))) (now (same .exit)) (now (own .exit)) (r .count) ⌝ }
-    ensures edges { λ r. ⌜ r .edges ≡ unionTo (tableColours (now (by .entry))) u (now (cycles .entry)) n ⌝ }
+    ensures masks { λ r. ⌜ take r (now (same .exit)) ≡ withCycles (tableColours (now (by .entry))) c (now (other .entry)) (take count (now (same .entry))) (take n (now (cycles .entry))) ⌝ }
+    ensures hues { λ r. ⌜ Hued (tableColours (now (by .entry))) (now (same .exit)) (now (own .exit)) r ⌝ }
 {
     let mut next = count;
-    let mut edges: u64 = 0;
     for i in 0..n {
-        edges = masks::either(edges, edges_with(by, u, cycles[i]));
         next = append_cycle(by, c, cycles[i], other, hues, same, own, next);
     }
-    Cycles { count: next, edges }
+    next
+}
+
+// The first n cycles as one edge set.
+fn union_of(cycles: &[u64; 16], n: usize) -> u64
+    requires { ⌜ (n ≤ 16) × (length (now cycles) ≡ 16) ⌝ }
+    ensures { λ r. ⌜ r ≡ unionTo (now (cycles .entry)) n ⌝ }
+{
+    let mut edges: u64 = 0;
+    for i in 0..n {
+        edges = masks::either(edges, cycles[i]);
+    }
+    edges
+}
+
+// The edges of m that are on cycles inside it.
+fn edges_on_cycles(
+    states: usize,
+    letters: usize,
+    heads: &[u8; 64],
+    out: &[u64; 16],
+    into: &[u64; 16],
+    m: u64,
+) -> u64
+    requires { ⌜ ((p : Policy) × (by : List ℕ) × PartsOf p states letters (now heads) (now out) (now into) by) ⌝ }
+    ensures { λ r. ⌜ ((p : Policy) (by : List ℕ) → PartsOf p states letters (now (heads .entry)) (now (out .entry)) (now (into .entry)) by → OnCycles p m r) ⌝ }
+{
+    let mut rows = [0u16; 16];
+    let mut cycles = [0u64; 16];
+    let n = components::fill_cycles(states, letters, heads, out, into, m, &mut rows, &mut cycles);
+    union_of(&cycles, n)
 }
 
 // The wanted ones of the largest cycles inside m whose colours are exactly c, after the first `count` masks of a list. Beside the lists stand the parts of the policy, which
@@ -165,7 +196,6 @@ fn list_cycles(
     out: &[u64; 16],
     into: &[u64; 16],
     by: &[u64; 9],
-    u: u8,
     c: u8,
     m: u64,
     other: &[u64],
@@ -179,15 +209,17 @@ fn list_cycles(
     requires room { ⌜ Hued (tableColours (now by)) (now same) (now own) count × (count + 16 ≤ length (now same)) × (count + 16 ≤ length (now own)) ⌝ }
     ensures masks { λ r. ⌜ ((p : Policy) → PartsOf p states letters (now (heads .entry)) (now (out .entry)) (now (into .entry)) (now (by .entry)) → take (r .count) (now (same .exit)) ≡ withCycles (tableColours (now (by .entry))) c (now (other .entry)) (take count (now (same .entry))) (largestIn p m)) ⌝ }
     ensures hues { λ r. ⌜ Hued (tableColours (now (by .entry))) (now (same .exit)) (now (own .exit)) (r .count) ⌝ }
-    ensures edges { λ r. ⌜ ((p : Policy) → PartsOf p states letters (now (heads .entry)) (now (out .entry)) (now (into .entry)) (now (by .entry)) → OnCycles p u m (r .edges)) ⌝ }
+    ensures edges { λ r. ⌜ ((p : Policy) → PartsOf p states letters (now (heads .entry)) (now (out .entry)) (now (into .entry)) (now (by .entry)) → OnCycles p m (r .edges)) ⌝ }
 {
     let mut rows = [0u16; 16];
     let mut cycles = [0u64; 16];
     let n = components::fill_cycles(states, letters, heads, out, into, m, &mut rows, &mut cycles);
-    append_cycles(by, u, c, &cycles, n, other, hues, same, own, count)
+    let edges = union_of(&cycles, n);
+    let next = append_cycles(by, c, &cycles, n, other, hues, same, own, count);
+    Cycles { count: next, edges }
 }
 
-// The same, where m has all the colours c and is wanted; elsewhere there are none.
+// The same, where m is wanted; elsewhere there are none.
 fn list_wanted(
     states: usize,
     letters: usize,
@@ -195,7 +227,6 @@ fn list_wanted(
     out: &[u64; 16],
     into: &[u64; 16],
     by: &[u64; 9],
-    u: u8,
     c: u8,
     m: u64,
     other: &[u64],
@@ -209,72 +240,228 @@ fn list_wanted(
     requires room { ⌜ Hued (tableColours (now by)) (now same) (now own) count × (count + 16 ≤ length (now same)) × (count + 16 ≤ length (now own)) ⌝ }
     ensures masks { λ r. ⌜ ((p : Policy) → PartsOf p states letters (now (heads .entry)) (now (out .entry)) (now (into .entry)) (now (by .entry)) → take (r .count) (now (same .exit)) ≡ withCycles (tableColours (now (by .entry))) c (now (other .entry)) (take count (now (same .entry))) (largestIn p m)) ⌝ }
     ensures hues { λ r. ⌜ Hued (tableColours (now (by .entry))) (now (same .exit)) (now (own .exit)) (r .count) ⌝ }
-    ensures edges { λ r. ⌜ ((p : Policy) → PartsOf p states letters (now (heads .entry)) (now (out .entry)) (now (into .entry)) (now (by .entry)) → OnCycles p u m (r .edges)) ⌝ }
+    ensures edges { λ r. ⌜ ((p : Policy) → PartsOf p states letters (now (heads .entry)) (now (out .entry)) (now (into .entry)) (now (by .entry)) → OnCycles p m (r .edges)) ⌝ }
 {
-    if masks::set_inside(c, policy::colours_in(by, m)) {
-        if is_wanted(c, m, other, hues, &same[..count]) {
-            return list_cycles(
-                states,
-                letters,
-                heads,
-                out,
-                into,
-                by,
-                u,
-                c,
-                m,
-                other,
-                hues,
-                same,
-                own,
-                count,
-            );
-        }
+    if is_wanted(c, m, other, hues, &same[..count]) {
+        return list_cycles(
+            states,
+            letters,
+            heads,
+            out,
+            into,
+            by,
+            c,
+            m,
+            other,
+            hues,
+            same,
+            own,
+            count,
+        );
     }
     Cycles { count, edges: m }
 }
 
-// One more than c with all colours outside `used`.
-fn step_from(used: u8, c: u8) -> u8
-    requires { ⌜ c < used ⌝ }
-    ensures { λ r. ⌜ r ≡ stepFrom used c ⌝ }
+// ---- live edges
+// Of the colours `used`: c, with colour i where it is one of these.
+fn with_colour(used: u8, c: u8, i: u8) -> u8
+    requires { ⌜ (i < 8) × (inside c used ≡ true) ⌝ }
+    ensures { λ r. ⌜ (inside c r ≡ true) × (inside r used ≡ true) ⌝ }
 {
-    c + (255 - used) + 1
+    masks::set_with_if(c, i, masks::set_has(used, i))
 }
 
-// Of the colours `used`: c, with the lowest of them that it lacks.
-fn set_above(used: u8, c: u8) -> u8
-    requires { ⌜ c < used ⌝ }
-    ensures { λ r. ⌜ r ≡ setAbove used c ⌝ }
+// The live edges that the set c and those with one colour more have in common.
+fn live_in(live: &[u64], used: u8, c: u8) -> u64
+    requires { ⌜ (inside c used ≡ true) × (used < length (now live)) ⌝ }
+    ensures { λ r. ⌜ ((p : Policy) (root : ℕ) → legal p ≡ true → ((d : ℕ) → d < length (now (live .entry)) → Live p root d (getD (now (live .entry)) d 0)) → Live p root c r) ⌝ }
 {
-    c | (step_from(used, c) & used)
+    let mut m = live[c as usize];
+    for i in 0..8u8 {
+        m = masks::both(m, live[with_colour(used, c, i) as usize]);
+    }
+    m
 }
 
-// And without those below that one.
+// Those of them with colours in c.
+fn edges_of(by: &[u64; 9], live: &[u64], used: u8, c: u8) -> u64
+    requires { ⌜ (inside c used ≡ true) × (used < length (now live)) ⌝ }
+    ensures { λ r. ⌜ ((p : Policy) (root : ℕ) → legal p ≡ true → now (by .entry) ≡ byColour p → ((d : ℕ) → d < length (now (live .entry)) → Live p root d (getD (now (live .entry)) d 0)) → Live p root c r × (inside r (edgesIn p c) ≡ true)) ⌝ }
+{
+    masks::both(policy::edges_in(by, c), live_in(live, used, c))
+}
+
+// ---- the span of a set
+// The lowest of the colours `used` that c lacks, as a set.
+fn lowest(used: u8, c: u8) -> u8
+    requires { ⌜ c < used ⌝ }
+    ensures { λ r. ⌜ (r ≡ lowest used c) × (0 < r) ⌝ }
+{
+    let lacks = used - c;
+    lacks & (255 - lacks + 1)
+}
+
+// c, without the colours below that one.
 fn upper(used: u8, c: u8) -> u8
     requires { ⌜ c < used ⌝ }
     ensures { λ r. ⌜ r ≡ upper used c ⌝ }
 {
-    c & step_from(used, c)
+    c & (255 - lowest(used, c) + 1)
 }
 
-// The live edges of the set above c, where they do for c: that is asked, and is always so. The root's do for every set.
-fn live_above(live: &[u64], root: u64, used: u8, c: u8) -> u64
-    requires { ⌜ (c < used) × (inside c used ≡ true) × (used < length (now live)) ⌝ }
-    ensures { λ r. ⌜ r ≡ liveAbove (now (live .entry)) root used c ⌝ }
+// Whether two verdicts are not the same.
+fn differs(a: bool, b: bool) -> bool
+    ensures { λ r. ⌜ r ≡ differs a b ⌝ }
 {
-    let d = set_above(used, c);
-    if d == used {
-        return root;
+    if a {
+        return !b;
     }
-    if masks::set_inside(upper(used, d), upper(used, c)) {
-        return live[d as usize];
-    }
-    root
+    b
 }
 
-// The next set c below the colours `used` of the root: if it is one of these colours, its wanted cycles, in the list of its verdict. They are looked for among the live edges of
-// the set above.
+// Whether all sets inside c, from one on, have the verdict v; without a branch, so that many are looked at together.
+fn is_uniform(family: &[bool; 256], from: u8, c: u8, v: bool) -> bool
+    ensures { λ r. ⌜ (r ≡ true → (s : ℕ) → from ≤ s → s < c → inside s c ≡ true → getD (now (family .entry)) s false ≡ v) ⌝ }
+{
+    let mut same = true;
+    for s in from..c {
+        same = same & (!differs(family[s as usize], v) | !masks::set_inside(s, c));
+    }
+    same
+}
+
+// The first set from `up` on that a cycle can have the colours of: the empty one only where an edge is quiet.
+fn first_from(by: &[u64; 9], up: u8) -> u8
+    ensures { λ r. ⌜ (up ≤ r) × (up < r → (up ≡ 0) × (r ≡ 1) × (getD (now (by .entry)) 8 0 ≡ 0)) ⌝ }
+{
+    if (up == 0) & (by[8] == 0) {
+        return 1;
+    }
+    up
+}
+
+// Whether an open set can be told of two lists: by the masks of the other verdict than v. Beside them stand their colours.
+fn is_open_for(v: bool, c: u8, accepted: &[u8], rejected: &[u8]) -> bool
+    ensures { λ r. ⌜ r ≡ isOpen c (cond v (now (rejected .entry)) (now (accepted .entry))) (length (cond v (now (accepted .entry)) (now (rejected .entry)))) ⌝ }
+{
+    if v {
+        return is_open(c, rejected, accepted.len());
+    }
+    is_open(c, accepted, rejected.len())
+}
+
+// Whether nothing is listed at any set from `up` up to c, where c has the verdict v and nothing is open for it: all of them that cycles can have are passed. Few are not looked at.
+fn is_passed(
+    by: &[u64; 9],
+    family: &[bool; 256],
+    v: bool,
+    up: u8,
+    c: u8,
+    accepted: &[u8],
+    rejected: &[u8],
+) -> bool
+    requires { ⌜ up ≤ c ⌝ }
+    ensures { λ r. ⌜ (r ≡ true → (s : ℕ) → up ≤ s → s < c → inside up s ≡ true → inside s c ≡ true → ((s ≡ 0) × (getD (now (by .entry)) 8 0 ≡ 0)) ⊎ ((getD (now (family .entry)) s false ≡ v) × (isOpen s (cond v (now (rejected .entry)) (now (accepted .entry))) (length (cond v (now (accepted .entry)) (now (rejected .entry)))) ≡ false))) ⌝ }
+{
+    if c - up < 3 {
+        return false;
+    }
+    if is_open_for(v, up, accepted, rejected) {
+        return false;
+    }
+    is_uniform(family, first_from(by, up), c, v)
+}
+
+// The set that is left after c: the next one, or the next one below the span where no cycle is left.
+fn left_after(edges: u64, up: u8, c: u8) -> u8
+    ensures { λ r. ⌜ r ≡ cond (eqb edges 0) up c ⌝ }
+{
+    if edges == 0 {
+        return up;
+    }
+    c
+}
+
+// An open set c with the verdict v: the wanted ones of its cycles, which are looked for in m, go into the list of the verdict.
+fn list_set(
+    states: usize,
+    letters: usize,
+    heads: &[u8; 64],
+    out: &[u64; 16],
+    into: &[u64; 16],
+    by: &[u64; 9],
+    v: bool,
+    up: u8,
+    c: u8,
+    m: u64,
+    accepting: &mut [u64],
+    accepted: &mut [u8],
+    rejecting: &mut [u64],
+    rejected: &mut [u8],
+    live: &mut [u64],
+    listed: Counts,
+) -> Step
+    requires policy { ⌜ ((p : Policy) × PartsOf p states letters (now heads) (now out) (now into) (now by)) ⌝ }
+    requires accepting { ⌜ Hued (tableColours (now by)) (now accepting) (now accepted) (listed .accepting) × (listed .accepting + 16 ≤ length (now accepting)) × (listed .accepting + 16 ≤ length (now accepted)) ⌝ }
+    requires rejecting { ⌜ Hued (tableColours (now by)) (now rejecting) (now rejected) (listed .rejecting) × (listed .rejecting + 16 ≤ length (now rejecting)) × (listed .rejecting + 16 ≤ length (now rejected)) ⌝ }
+    requires live { ⌜ c < length (now live) ⌝ }
+    ensures { λ r. ⌜ ((p : Policy) (root used : ℕ) → PartsOf p states letters (now (heads .entry)) (now (out .entry)) (now (into .entry)) (now (by .entry)) → used ≡ coloursOf p root → c < used → inside c used ≡ true → v ≡ inFamily p c → up ≡ upper used c → Live p root c m → inside m (edgesIn p c) ≡ true → Listed p (now (by .entry)) root (used - 1 - c) (now (accepting .entry)) (now (accepted .entry)) (now (rejecting .entry)) (now (rejected .entry)) (now (live .entry)) listed → Listed p (now (by .entry)) root (used - r .left) (now (accepting .exit)) (now (accepted .exit)) (now (rejecting .exit)) (now (rejected .exit)) (now (live .exit)) (r .counts)) ⌝ }
+    ensures left { λ r. ⌜ (up ≤ c → r .left ≤ c) ⌝ }
+{
+    let a = listed.accepting;
+    let b = listed.rejecting;
+    if v {
+        let n = list_wanted(
+            states,
+            letters,
+            heads,
+            out,
+            into,
+            by,
+            c,
+            m,
+            &rejecting[..b],
+            &rejected[..b],
+            accepting,
+            accepted,
+            a,
+        );
+        live[c as usize] = n.edges;
+        return Step {
+            counts: Counts {
+                accepting: n.count,
+                rejecting: b,
+            },
+            left: left_after(n.edges, up, c),
+        };
+    }
+    let n = list_wanted(
+        states,
+        letters,
+        heads,
+        out,
+        into,
+        by,
+        c,
+        m,
+        &accepting[..a],
+        &accepted[..a],
+        rejecting,
+        rejected,
+        b,
+    );
+    live[c as usize] = n.edges;
+    Step {
+        counts: Counts {
+            accepting: a,
+            rejecting: n.count,
+        },
+        left: left_after(n.edges, up, c),
+    }
+}
+
+// The next set c below the colours `used` of the root. A set that is not open is passed, and its span with it where that can be told; where the span is large its live edges are
+// looked for all the same. Where the live edges lack a colour, the sets with that colour are passed.
 fn list_next(
     states: usize,
     letters: usize,
@@ -283,7 +470,6 @@ fn list_next(
     into: &[u64; 16],
     by: &[u64; 9],
     family: &[bool; 256],
-    root: u64,
     used: u8,
     c: u8,
     accepting: &mut [u64],
@@ -292,70 +478,90 @@ fn list_next(
     rejected: &mut [u8],
     live: &mut [u64],
     listed: Counts,
-) -> Counts
+) -> Step
     requires policy { ⌜ ((p : Policy) × PartsOf p states letters (now heads) (now out) (now into) (now by)) ⌝ }
     requires accepting { ⌜ Hued (tableColours (now by)) (now accepting) (now accepted) (listed .accepting) × (listed .accepting + 16 ≤ length (now accepting)) × (listed .accepting + 16 ≤ length (now accepted)) ⌝ }
     requires rejecting { ⌜ Hued (tableColours (now by)) (now rejecting) (now rejected) (listed .rejecting) × (listed .rejecting + 16 ≤ length (now rejecting)) × (listed .rejecting + 16 ≤ length (now rejected)) ⌝ }
     requires live { ⌜ (c < used) × (used < length (now live)) ⌝ }
-    ensures { λ r. ⌜ ((p : Policy) → PartsOf p states letters (now (heads .entry)) (now (out .entry)) (now (into .entry)) (now (by .entry)) → now (family .entry) ≡ p .family → (n : ℕ) → used ≡ coloursOf p root → c ≡ used - 1 - n → Listed p (now (by .entry)) root n (now (accepting .entry)) (now (accepted .entry)) (now (rejecting .entry)) (now (rejected .entry)) (now (live .entry)) listed → Listed p (now (by .entry)) root (n + 1) (now (accepting .exit)) (now (accepted .exit)) (now (rejecting .exit)) (now (rejected .exit)) (now (live .exit)) r) ⌝ }
+    ensures { λ r. ⌜ ((p : Policy) (root : ℕ) → PartsOf p states letters (now (heads .entry)) (now (out .entry)) (now (into .entry)) (now (by .entry)) → now (family .entry) ≡ p .family → used ≡ coloursOf p root → Listed p (now (by .entry)) root (used - 1 - c) (now (accepting .entry)) (now (accepted .entry)) (now (rejecting .entry)) (now (rejected .entry)) (now (live .entry)) listed → Listed p (now (by .entry)) root (used - r .left) (now (accepting .exit)) (now (accepted .exit)) (now (rejecting .exit)) (now (rejected .exit)) (now (live .exit)) (r .counts)) ⌝ }
+    ensures left { λ r. ⌜ r .left ≤ c ⌝ }
 {
+    if !masks::set_inside(c, used) {
+        return Step {
+            counts: listed,
+            left: c,
+        };
+    }
     let a = listed.accepting;
     let b = listed.rejecting;
-    if masks::set_inside(c, used) {
-        if family[c as usize] {
-            if is_open(c, &rejected[..b], a) {
-                let m = masks::both(policy::edges_in(by, c), live_above(live, root, used, c));
-                let n = list_wanted(
-                    states,
-                    letters,
-                    heads,
-                    out,
-                    into,
-                    by,
-                    upper(used, c),
-                    c,
-                    m,
-                    &rejecting[..b],
-                    &rejected[..b],
-                    accepting,
-                    accepted,
-                    a,
-                );
-                live[c as usize] = n.edges;
-                return Counts {
-                    accepting: n.count,
-                    rejecting: b,
-                };
-            }
-            return listed;
-        }
-        if is_open(c, &accepted[..a], b) {
-            let m = masks::both(policy::edges_in(by, c), live_above(live, root, used, c));
-            let n = list_wanted(
-                states,
-                letters,
-                heads,
-                out,
-                into,
-                by,
-                upper(used, c),
-                c,
-                m,
-                &accepting[..a],
-                &accepted[..a],
-                rejecting,
-                rejected,
-                b,
-            );
-            live[c as usize] = n.edges;
-            return Counts {
-                accepting: a,
-                rejecting: n.count,
+    let v = family[c as usize];
+    let up = upper(used, c);
+    let open = is_open_for(v, c, &accepted[..a], &rejected[..b]);
+    if !open {
+        if is_passed(by, family, v, up, c, &accepted[..a], &rejected[..b]) {
+            return Step {
+                counts: listed,
+                left: up,
             };
         }
-        return listed;
+        if c - up < 15 {
+            return Step {
+                counts: listed,
+                left: c,
+            };
+        }
     }
-    listed
+    let m = edges_of(by, live, used, c);
+    let hue = policy::colours_in(by, m);
+    if !masks::set_inside(up, hue) {
+        return Step {
+            counts: listed,
+            left: up,
+        };
+    }
+    if hue < c {
+        live[hue as usize] = masks::both(live[hue as usize], m);
+        return Step {
+            counts: listed,
+            left: hue + 1,
+        };
+    }
+    if open {
+        return list_set(
+            states,
+            letters,
+            heads,
+            out,
+            into,
+            by,
+            v,
+            up,
+            c,
+            m,
+            accepting,
+            accepted,
+            rejecting,
+            rejected,
+            live,
+            listed,
+        );
+    }
+    let edges = edges_on_cycles(states, letters, heads, out, into, m);
+    live[c as usize] = edges;
+    Step {
+        counts: listed,
+        left: left_after(edges, up, c),
+    }
+}
+
+// The sets to look at are those below: all sets below the colours `used` of the root, or none where all that cycles can have share its verdict.
+fn sets_left(by: &[u64; 9], family: &[bool; 256], used: u8) -> u8
+    ensures { λ r. ⌜ (r ≡ used) ⊎ ((r ≡ 0) × ((s : ℕ) → s < used → inside s used ≡ true → ((s ≡ 0) × (getD (now (by .entry)) 8 0 ≡ 0)) ⊎ (getD (now (family .entry)) s false ≡ getD (now (family .entry)) used false))) ⌝ }
+{
+    if is_uniform(family, first_from(by, 0), used, family[used as usize]) {
+        return 0;
+    }
+    used
 }
 
 // The root alone is listed.
@@ -429,14 +635,15 @@ fn fill_lists(
         rejecting,
         rejected,
     );
-    for c in 0..used {
+    let mut left = sets_left(&table, family, used);
+    while 0 < left {
         if lacks_room(accepting.len(), rejecting.len(), listed) {
             return Listing {
                 counts: listed,
                 whole: false,
             };
         }
-        listed = list_next(
+        let step = list_next(
             states,
             letters,
             heads,
@@ -444,9 +651,8 @@ fn fill_lists(
             into,
             &table,
             family,
-            root,
             used,
-            used - 1 - c,
+            left - 1,
             accepting,
             accepted,
             rejecting,
@@ -454,6 +660,8 @@ fn fill_lists(
             live,
             listed,
         );
+        listed = step.counts;
+        left = step.left;
     }
     Listing {
         counts: listed,

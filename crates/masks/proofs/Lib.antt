@@ -3,3 +3,4 @@ pub mod Members
 pub mod MaskOf
 pub mod SetOf
 pub mod Submasks
+pub mod Subsets

@@ -16,7 +16,8 @@ use Rattle.policy.specs.Policies.{coloursOf}
 use Rattle.policy.specs.ByColour.{edgesIn}
 use Rattle.comparing.specs.Pairs.{Asked, needsSearch, pairAgrees, needsSearchBy}
 use Rattle.comparing.proofs.Searches.{edges-p, colours-p, colours-q, missing-agrees, unsearched-agrees, searched-agrees, used-agrees, used-not, search-by}
-use Rattle.comparing.proofs.Subsets.{and-inside, not-between, from-here}
+use Rattle.masks.proofs.Bits.{and-inside}
+use Rattle.masks.proofs.Subsets.{not-between, from-here}
 use Rattle.comparing.proofs.set_agrees.Statement.{statement}
 use Rattle.comparing.proofs.set_agrees.Tie as tie
 

@@ -1,18 +1,21 @@
--- `list_cycles` meets its contract. Assumes nothing.
-use Rattle.listing.specs.Listing.{unionTo}
-use Prim.Native.Nat.{ℕ, _≤_}
-use native.Mathlib.Omega.{arith}
-use mathlib.Core.Path.{ap, _∙_}
-use lib.ListN.{take, replicate}
-use Rattle.policy.specs.ByColour.{tableColours}
-use Rattle.policy.proofs.Laws.{legal-counts}
-use Rattle.components.specs.Finding.{Found}
-use Rattle.components.proofs.Finding.{found-first}
+use Rattle.listing.proofs.Appending.{union-on}
 use Rattle.candidates.specs.Candidates.{withCycles}
-use Rattle.listing.proofs.Appending.{hue-is, union-on}
+use Rattle.components.proofs.Finding.{found-first}
+use Rattle.components.specs.Finding.{Found}
+use Rattle.policy.proofs.Laws.{legal-counts}
+use Rattle.policy.specs.ByColour.{tableColours}
+use lib.ListN.{take, replicate}
+use mathlib.Core.Path.{ap, _∙_}
+use Prim.Native.Nat.{_≤_}
+use native.Mathlib.Omega.{arith}
 use borrow.Author.Needs.{needs}
 use Rattle.listing.proofs.list_cycles.Statement.{statement}
 use Rattle.listing.proofs.list_cycles.Tie as tie
+use Rattle.listing.proofs.list_cycles.Reads as reads
+use Rattle.listing.proofs.list_cycles.Lts as lts
+use Rattle.components.proofs.fill_cycles.Reads as fill-cycles-reads
+use Rattle.listing.proofs.append_cycles.Reads as append-cycles-reads
+use Rattle.listing.proofs.union_of.Reads as union-of-reads
 
 fill-cycles-requires : tie.Need-fill-cycles-requires
 fill-cycles-requires c κs = search needs
@@ -24,10 +27,13 @@ found c = let s = c .before .before .before .before .before .before .before in c
 few : (c : tie.After-fill-cycles) → c .fill-cycles .result ≤ 16
 few c = let q = c .before .before .before .before .before .before .before .pre .0 in omega (arith, found c .few, legal-counts (q .0) (q .1 .graph .lawful) .states-few)
 
+union-of-requires : tie.Need-union-of-requires
+union-of-requires c κs = (few (c .before), found (c .before) .long)
+
 append-cycles-requires : tie.Need-append-cycles-requires
 append-cycles-requires c κs =
-    let s = c .before .before .before .before .before .before .before .before .before .before in
-    ((few (c .before .before .before), found (c .before .before .before) .long), (s .pre .1 .0, (s .pre .1 .1 .0, omega (arith, few (c .before .before .before), s .pre .1 .1 .1), omega (arith, few (c .before .before .before), s .pre .1 .1 .2))))
+    let s = c .before .before .before .before .before .before .before .before .before .before .before .before in
+    ((few (c .before .before .before .before .before), found (c .before .before .before .before .before) .long), (s .pre .1 .0, (s .pre .1 .1 .0, omega (arith, few (c .before .before .before .before .before), s .pre .1 .1 .1), omega (arith, few (c .before .before .before .before .before), s .pre .1 .1 .2))))
 
 same-length : tie.Need-same-length
 same-length c = search needs
@@ -37,15 +43,21 @@ same-length-2 c = search needs
 
 returns : tie.Need-returns
 returns c =
-    let s = c .before .before .before .before .before .before .before .before .before .before .before .before .before .before .before in
+    let s = c .before .before .before .before .before .before .before .before .before .before .before .before .before .before .before .before .before in
     let a = s .args in
-    let f = c .before .before .before .before .before .before .before .before .fill-cycles in
+    let f = c .before .before .before .before .before .before .before .before .before .before .fill-cycles in
     let o = c .before .before .before .before .append-cycles .ensures in (
       λ p t. o .0 ∙ ap (withCycles (tableColours (a .by .now)) (a .c) (a .other .now) (take (a .count) (a .same .now))) (found-first p (t .graph .lawful) (f .ensures .0 p (t .graph) (t .ends))),
-      (o .1 .0, λ p t. let q = f .ensures .0 p (t .graph) (t .ends) in union-on p (t .graph .lawful) (a .u) (a .m) (f .last .1 .1 .1 .1 .1 .1 .1 .0) (f .result) (c .before .before .before .before .append-cycles .result .edges) (omega (arith, q .few, q .long, legal-counts p (t .graph .lawful) .states-few)) (found-first p (t .graph .lawful) q) (o .1 .1 ∙ ap (λ (h : ℕ → ℕ). unionTo h (a .u) (f .last .1 .1 .1 .1 .1 .1 .1 .0) (f .result)) (hue-is t))),
+      (o .1, λ p t. let q = f .ensures .0 p (t .graph) (t .ends) in union-on p (t .graph .lawful) (a .m) (f .last .1 .1 .1 .1 .1 .1 .1 .0) (f .result) (c .before .before .before .before .before .before .before .before .union-of .result) (omega (arith, q .few, q .long, legal-counts p (t .graph .lawful) .states-few)) (found-first p (t .graph .lawful) q) (c .before .before .before .before .before .before .before .before .union-of .ensures)),
     )
 
 pub list-cycles-spec : {M : Type 1} → statement M
 list-cycles-spec =
     tie.close
-    (tie.spec fill-cycles-requires append-cycles-requires same-length same-length-2 returns)
+    (tie.spec
+    fill-cycles-requires
+    union-of-requires
+    append-cycles-requires
+    same-length
+    same-length-2
+    returns)

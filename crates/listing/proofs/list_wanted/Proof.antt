@@ -1,32 +1,28 @@
--- `list_wanted` meets its contract. Assumes nothing.
-use native.Mathlib.Omega.{arith}
-use mathlib.Core.Path.{sym, ap, _∙_}
-use lib.ListN.{length, take, length-map}
-use lib.Seq.{length-take-le}
-use borrow.Author.Needs.{needs}
-use Rattle.masks.specs.Masks.{inside}
+use Rattle.listing.proofs.Appending.{none-wanted, all-on}
 use Rattle.policy.specs.ByColour.{tableColours}
-use Rattle.listing.proofs.Appending.{none-lacking, none-wanted, all-on}
+use lib.Seq.{length-take-le}
+use lib.ListN.{length, take, length-map}
+use mathlib.Core.Path.{sym, ap, _∙_}
+use native.Mathlib.Omega.{arith}
+use borrow.Author.Needs.{needs}
 use Rattle.listing.proofs.list_wanted.Statement.{statement}
 use Rattle.listing.proofs.list_wanted.Tie as tie
-
-colours-in-requires : tie.Need-colours-in-requires
-colours-in-requires c κs = search needs
-
-set-inside-requires : tie.Need-set-inside-requires
-set-inside-requires c κs = search needs
+use Rattle.listing.proofs.list_wanted.Reads as reads
+use Rattle.listing.proofs.list_wanted.Lts as lts
+use Rattle.listing.proofs.is_wanted.Reads as is-wanted-reads
+use Rattle.listing.proofs.list_cycles.Reads as list-cycles-reads
 
 slice-reshare-prefix-is-wanted : tie.Need-slice-reshare-prefix-is-wanted
 slice-reshare-prefix-is-wanted c = search needs
 
 slice-aggregate-is-wanted : tie.Need-slice-aggregate-is-wanted
-slice-aggregate-is-wanted c = let s = c .before .before .before .before .before .before .before .before in sym (length-take-le (s .args .count) (s .args .same .now) (s .pre .1 .1 .0 .long))
+slice-aggregate-is-wanted c = let s = c .before .before .before .before .before in sym (length-take-le (s .args .count) (s .args .same .now) (s .pre .1 .1 .0 .long))
 
 is-wanted-requires : tie.Need-is-wanted-requires
-is-wanted-requires c κs = let s = c .before .before .before .before .before .before .before .before in omega (arith, ap length (s .pre .1 .0), length-map (s .args .other .now) (tableColours (s .args .by .now)))
+is-wanted-requires c κs = let s = c .before .before .before .before .before in omega (arith, ap length (s .pre .1 .0), length-map (s .args .other .now) (tableColours (s .args .by .now)))
 
 list-cycles-requires : tie.Need-list-cycles-requires
-list-cycles-requires c κs = c .before .before .before .before .before .before .before .before .before .before .before .before .pre
+list-cycles-requires c κs = search needs
 
 same-length : tie.Need-same-length
 same-length c = search needs
@@ -35,29 +31,21 @@ same-length-2 : tie.Need-same-length-2
 same-length-2 c = search needs
 
 returns : tie.Need-returns
-returns c = c .before .before .before .before .list-cycles .ensures
+returns c = search needs
 
 same-length-3 : tie.Need-same-length-3
 same-length-3 c = search needs
 
 returns-2 : tie.Need-returns-2
 returns-2 c =
-    let s = c .before .before .before .before .before .before .before .before .before .before in
-    let a = s .args in
-    (λ p t. none-wanted t (a .c) (a .m) (a .other .now) (a .hues .now) (take (a .count) (a .same .now)) (s .pre .1 .0) (sym (c .before .is-wanted .ensures) ∙ c .if2 .left), (s .pre .1 .1 .0, λ p t. all-on p (a .u) (a .m)))
-
-returns-3 : tie.Need-returns-3
-returns-3 c =
     let s = c .before .before .before .before .before .before .before in
     let a = s .args in
-    (λ p t. none-lacking t (a .c) (a .m) (a .other .now) (take (a .count) (a .same .now)) (ap (inside (a .c)) (sym (c .before .before .colours-in .ensures)) ∙ sym (c .before .set-inside .ensures) ∙ c .if1 .left), (s .pre .1 .1 .0, λ p t. all-on p (a .u) (a .m)))
+    (λ p t. none-wanted t (a .c) (a .m) (a .other .now) (a .hues .now) (take (a .count) (a .same .now)) (s .pre .1 .0) (sym (c .before .is-wanted .ensures) ∙ c .if1 .left), (s .pre .1 .1 .0, λ p t. all-on p (a .m)))
 
 pub list-wanted-spec : {M : Type 1} → statement M
 list-wanted-spec =
     tie.close
     (tie.spec
-    colours-in-requires
-    set-inside-requires
     slice-reshare-prefix-is-wanted
     slice-aggregate-is-wanted
     is-wanted-requires
@@ -66,5 +54,4 @@ list-wanted-spec =
     same-length-2
     returns
     same-length-3
-    returns-2
-    returns-3)
+    returns-2)

@@ -7,9 +7,8 @@ use mathlib.Core.Path.{_≡_, sym, ap, _∙_, subst}
 use mathlib.Core.Bool.{true}
 use lib.Arith.{bin-ind}
 use lib.Bits.{bitAnd, and-step, and-le-l}
-use Rattle.lists.proofs.Bools.{eqb≡, and-r}
-use Rattle.masks.specs.Masks.{has, inside}
-use Rattle.masks.proofs.Bits.{has-and, all-inside}
+use Rattle.lists.proofs.Bools.{eqb≡}
+use Rattle.masks.specs.Masks.{inside}
 
 -- by the lowest bit of d
 below-by-bits : (d u e : ℕ) → bitAnd d u ≡ d → bitAnd e u ≡ e → e < d → e ≤ bitAnd (d - 1) u
@@ -47,9 +46,6 @@ below-by-bits = bin-ind (λ (d : ℕ). (u e : ℕ) → bitAnd d u ≡ d → bitA
 pub below-inside : (d u e : ℕ) → inside d u ≡ true → inside e u ≡ true → e < d → e ≤ bitAnd (d - 1) u
 unfolding inside
 below-inside d u e hd he l = below-by-bits d u e (eqb≡ (bitAnd d u) d hd) (eqb≡ (bitAnd e u) e he) l
-
-pub and-inside : (a b : ℕ) → inside (bitAnd a b) b ≡ true
-and-inside a b = all-inside (bitAnd a b) b (λ e h. and-r (has a e) (has b e) (sym (has-and e a b) ∙ h))
 
 -- so a set above it is not below d
 pub not-between : (d u e : ℕ) → inside d u ≡ true → inside e u ≡ true → bitAnd (d - 1) u < e → d ≤ e
