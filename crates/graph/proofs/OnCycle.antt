@@ -16,12 +16,12 @@ use lib.Pow.{pow-pos, shl-exact, ones-lt, ones-split, low}
 use lib.Seq.{getD-set-same, getD-set-other, ext-getD}
 use borrow.Author.Tests.{lt-ltb}
 use Rattle.lists.specs.Lists.{below}
-use Rattle.lists.proofs.Bools.{test, or-cases, or-left, or-right, and-l, and-r, both, eqb≡, ≡eqb, neqb, not-true, bool-ext, lt-true}
+use Rattle.lists.proofs.Bools.{test, or-cases, or-left, or-right, and-l, and-r, both, eqb≡, ≡eqb, neqb, not-true, not-false, bool-ext, lt-true}
 use Rattle.lists.proofs.Lists.{length-map-below, getD-map-below}
 use Rattle.masks.specs.Masks.{has, insert, minus, maskOf}
-use Rattle.masks.proofs.Bits.{has-and, has-or, has-none, has-minus, has-full, has-high, mask-ext}
+use Rattle.masks.proofs.Bits.{has-and, has-or, has-none, has-minus, has-full, has-high, mask-ext, lt-pow}
 use Rattle.masks.proofs.MaskOf.{has-mask-of, mask-of-some, mask-of-in, mask-of-out}
-use Rattle.masks.proofs.Members.{none-zero, some-nonzero}
+use Rattle.masks.proofs.Members.{none-zero, some-nonzero, some-bit}
 use Rattle.policy.specs.declared.Policy.{Policy}
 use Rattle.policy.specs.Policies.{edges, edgeOf, source, targetOf, legal}
 use Rattle.policy.proofs.Laws.{legal-counts, legal-target, source-edge, source-lt}
@@ -202,6 +202,31 @@ module _ (p : Policy) (ok : legal p ≡ true) where
       let d : v * p .letters + e % p .letters ≡ e = ap (λ (k : ℕ). k * p .letters + e % p .letters) (sym q) ∙ div-add-mod' e (p .letters) in
       let r : e % p .letters < p .letters = mod-lt e (omega (arith, legal-counts p ok .letters-some)) in
       (omega arith, omega arith)
+
+  -- a set of edges contains v if it has one of these
+  pub own-contains : (v m : ℕ) → v < p .states → not (eqb (bitAnd m (ownEdges (p .letters) v)) 0) ≡ contains p v m
+  unfolding edges
+  own-contains v m l = bool-ext (not (eqb x 0)) (contains p v m) (λ t. found (λ z. true≢false (sym (≡eqb x 0 z) ∙ not-true (eqb x 0) t))) (λ t. not-false (eqb x 0) (λ z. some t (eqb≡ x 0 z)))
+    where
+      own : ℕ
+      own = ownEdges (p .letters) v
+
+      x : ℕ
+      x = bitAnd m own
+
+      found : x ≢ 0 → contains p v m ≡ true
+      found n =
+          let s = some-bit x x (lt-pow x) n in
+          let e : ℕ = s .0 in
+          let t : has m e && has own e ≡ true = sym (has-and e m own) ∙ s .2 in
+          let r = own-has (p .letters) v e (and-r (has m e) (has own e) t) in
+          some-contains p v m e (omega (arith, r .1, row-within v (p .states) (p .letters) l)) (and-l (has m e) (has own e) t) (own-source v e (r .0) (r .1))
+
+      some : contains p v m ≡ true → x ≢ 0
+      some t =
+          let s = contains-some p v m t in
+          let r = source-own v (s .0) (s .3) in
+          some-nonzero x (s .0) (has-and (s .0) m own ∙ both (has m (s .0)) (has own (s .0)) (s .2) (has-own (p .letters) v (s .0) (r .0) (r .1)))
 
   leaving-some : (v e : ℕ) → v < 16 → has (getD (leaving (p .letters) (p .states)) v 0) e ≡ true → (e < edges p) × (source p e ≡ v)
   unfolding leaving edges

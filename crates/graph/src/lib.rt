@@ -129,7 +129,7 @@ pub fn edges_between(states: usize, out: &[u64; 16], into: &[u64; 16], m: u64, s
 // ---- the tables of edges, made once for a policy
 
 // The edges that leave state v.
-fn own_edges(letters: usize, v: usize) -> u64
+pub fn own_edges(letters: usize, v: usize) -> u64
     requires { ⌜ v * letters + letters ≤ 64 ⌝ }
     ensures { λ r. ⌜ r ≡ ownEdges letters v ⌝ }
 {

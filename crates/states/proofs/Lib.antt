@@ -1,2 +1,2 @@
-pub mod LeafTests
+pub mod LeafPass
 pub mod StatesBelow

@@ -5,7 +5,7 @@ use native.Mathlib.Nat.{zero-add}
 use native.Mathlib.Decide.{decLe}
 use native.Mathlib.Numerals.{add-one}
 use mathlib.Core.Path.{_≡_, refl, sym, ap, ap₂, _∙_, subst}
-use mathlib.Core.Logic.{_⊎_, inl, inr, _≢_}
+use mathlib.Core.Logic.{_≢_}
 use mathlib.Core.Bool.{Bool, true, false, _&&_}
 use mathlib.Core.List.{List, [], _∷_, _++_, map, append-nil, append-assoc, map-append, List·Memᴰ}
 use lib.Dec.{ltb, leb}
@@ -34,31 +34,11 @@ use Rattle.states.specs.StateTables.{builtBelow, leavesBelow, leavesOver
 
 -- ---- the leaves of a state
 module _ (p : Policy) (v : ℕ) where
-  leaves-next : (n : ℕ) → leavesBelow p v (n + 1) ≡ leavesBelow p v n ++ filter (isLeaf (forest p) p v) (n ∷ [])
-  unfolding leavesBelow
-  leaves-next n = ap (λ (k : ℕ). filter (isLeaf (forest p) p v) (below k)) (add-one n) ∙ filter-append (isLeaf (forest p) p v) (below n) (n ∷ [])
-
-  leaves-in : (n : ℕ) → isLeaf (forest p) p v n ≡ true → leavesBelow p v (n + 1) ≡ leavesBelow p v n ++ (n ∷ [])
-  leaves-in n t = leaves-next n ∙ rw t refl
-
-  leaves-out : (n : ℕ) → isLeaf (forest p) p v n ≡ false → leavesBelow p v (n + 1) ≡ leavesBelow p v n
-  leaves-out n t = leaves-next n ∙ rw t (append-nil (leavesBelow p v n))
-
   leaves-all : (n : ℕ) → n ≡ length (forest p) → leavesBelow p v n ≡ leaves (forest p) p v
   unfolding leavesBelow leaves
   leaves-all n e = ap (λ (k : ℕ). filter (isLeaf (forest p) p v) (below k)) e
 
   module _ (t₀ t : List ℕ) (at next n : ℕ) where
-    pub leaves-none : next ≡ at → t ≡ t₀ → n ≡ 0 → Stored t₀ t at next (leavesBelow p v n)
-    unfolding leavesBelow
-    leaves-none a b c = rw (a, b, c) (stored-none t₀ at)
-
-    -- one node more
-    pub leaves-turn : (b : Bool) → b ≡ isLeaf (forest p) p v n → Stored t₀ t at next (leavesBelow p v n) → (t′ : List ℕ) (next′ : ℕ)
-        → ((b ≡ true) × (t′ ≡ set t next n) × (next′ ≡ next + 1)) ⊎ ((b ≡ false) × (t′ ≡ t) × (next′ ≡ next)) → Stored t₀ t′ at next′ (leavesBelow p v (n + 1)) × (next′ ≤ next + 1)
-    leaves-turn b e s t′ next′ (inl w) = (rw (leaves-in n (sym e ∙ w .0), w .1, w .2) (stored-more s n), omega (arith, w .2))
-    leaves-turn b e s t′ next′ (inr w) = (rw (leaves-out n (sym e ∙ w .0), w .1, w .2) s, omega (arith, w .2))
-
     -- with no leaf there is one state all the same
     pub over-none : n ≡ length (forest p) → Stored t₀ t at next (leavesBelow p v n) → next ≡ at → (t′ : List ℕ) → t′ ≡ set t at 65535 → Stored t₀ t′ at (at + 1) (leavesOver p v)
     unfolding leavesOver

@@ -1,48 +1,17 @@
 // The built states: for each policy state its leaves by number, or 65,535 where it is in no cycle.
 use policy::Policy;
 ghost use mathlib.Core.Path.{_≡_};
-ghost use mathlib.Core.Bool.{true};
+ghost use mathlib.Core.Bool.{true, cond};
+ghost use mathlib.Core.List.{[], _∷_};
 ghost use Prim.Native.Nat.{_+_, _-_, _≤_, _<_};
 ghost use lib.ListN.{length, set, replicate};
 ghost use lib.Seq.{sets};
 ghost use Rattle.tables.specs.Tables.{Column, Stored};
 ghost use Rattle.policy.specs.Policies.{legal};
-ghost use Rattle.graph.specs.Cycles.{contains};
 ghost use Rattle.forest.specs.Forest.{forest, nodeMasks};
-ghost use Rattle.automaton.specs.Automaton.{isLeaf, built, start};
+ghost use Rattle.automaton.specs.Automaton.{built, start};
 ghost use Rattle.automaton.specs.Stages.{nodeEnds, stateStarts};
 ghost use Rattle.states.specs.StateTables.{leavesBelow, leavesOver, StatesFilled};
-
-// Whether an edge of m leaves state v. The edges that leave v stand side by side.
-fn contains_state(p: Policy, v: usize, m: u64) -> bool
-    requires { ⌜ (legal p ≡ true) × (v < p .states) ⌝ }
-    ensures { λ r. ⌜ r ≡ contains p v m ⌝ }
-{
-    let letters = p.letters as usize;
-    let first = v * letters;
-    masks::both(m >> first, masks::full(letters)) != 0
-}
-
-// Whether node n is a leaf of state v: it contains v, and no child of it does. The first child of n is n + 1, and the next one stands where the
-// descendants of the one before end.
-fn is_leaf(p: Policy, masks: &[u64], ends: &[u16], v: usize, n: usize) -> bool
-    requires nodes { ⌜ (legal p ≡ true) × (length (forest p) ≤ 65535) × Column (nodeMasks p) (now masks) × Column (nodeEnds p) (now ends) ⌝ }
-    requires place { ⌜ (v < p .states) × (n < length (forest p)) ⌝ }
-    ensures { λ r. ⌜ r ≡ isLeaf (forest p) p v n ⌝ }
-{
-    if !contains_state(p, v, masks[n]) {
-        return false;
-    }
-    let end = ends[n] as usize;
-    let mut j = n + 1;
-    while j < end {
-        if contains_state(p, v, masks[j]) {
-            return false;
-        }
-        j = ends[j] as usize;
-    }
-    true
-}
 
 // x in its place, if the table has it.
 fn put_leaf(t: &mut [u16], at: usize, x: usize)
@@ -64,8 +33,22 @@ fn put_source(t: &mut [u8], at: usize, x: usize)
     }
 }
 
-// The leaves of v, from `at` on; the place after them. There are at most 16 times 65,536 built states, so a place never overflows; those past the end
-// of the table are counted, and not written.
+// x in its place if b holds; the place after.
+fn put_leaf_if(t: &mut [u16], at: usize, x: usize, b: bool) -> usize
+    requires { ⌜ (x < 65536) × (at ≤ 1114111) ⌝ }
+    ensures { λ r. ⌜ Stored (now (t .entry)) (now (t .exit)) at r (cond b (x ∷ []) []) ⌝ }
+{
+    if b {
+        put_leaf(t, at, x);
+        return at + 1;
+    }
+    at
+}
+
+// The leaves of v, from `at` on; the place after them. A node stands before its descendants, and lies inside its parent: so the last node seen that
+// contains v is a leaf of v if the next one that contains v is past the end of its descendants, or if there is none. While none is seen, `last` is
+// 65,535, and `end` past every node. There are at most 16 times 65,536 built states, so a place never overflows; those past the end of the table are
+// counted, and not written.
 fn fill_leaves(
     p: Policy,
     masks: &[u64],
@@ -79,14 +62,18 @@ fn fill_leaves(
     requires place { ⌜ (count ≡ length (forest p)) × (v < p .states) × (at ≤ 1048576) ⌝ }
     ensures { λ r. ⌜ Stored (now (leaves .entry)) (now (leaves .exit)) at r (leavesBelow p v count) × (r ≤ at + 65535) ⌝ }
 {
+    let own = graph::own_edges(p.letters as usize, v);
     let mut next = at;
+    let mut last: usize = 65535;
+    let mut end: usize = 65536;
     for n in 0..count {
-        if is_leaf(p, masks, ends, v, n) {
-            put_leaf(leaves, next, n);
-            next = next + 1;
+        if masks[n] & own != 0 {
+            next = put_leaf_if(leaves, next, last, end <= n);
+            last = n;
+            end = ends[n] as usize;
         }
     }
-    next
+    put_leaf_if(leaves, next, last, last != 65535)
 }
 
 // The leaves of the states over v: 65,535 alone where v is in no cycle.
