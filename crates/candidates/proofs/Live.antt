@@ -9,7 +9,7 @@ use mathlib.Core.Logic.{_⊎_, inl, inr, _≢_}
 use mathlib.Core.Bool.{Bool, true, false, not, _&&_, _||_, cond, true≢false, false≢true}
 use mathlib.Core.List.{List, [], _∷_, _++_, map, List·Memᴰ, List·Memᴰ·head, List·Memᴰ·tail}
 use lib.Bits.{bitAnd}
-use lib.Dec.{eqb, ltb}
+use lib.Dec.{eqb}
 use lib.ListN.{length, getD, length-map}
 use Rattle.lists.specs.Lists.{any, flat, below}
 use Rattle.lists.proofs.Bools.{test, ≡eqb, neqb, and-l, and-r, both, or-left, or-right, or-cases, not-true}
@@ -35,11 +35,10 @@ use Rattle.candidates.proofs.Full.{inside-colours}
 and-more : (m x y : ℕ) → inside x m ≡ true → inside (bitAnd x y) (bitAnd m y) ≡ true
 and-more m x y i = all-inside (bitAnd x y) (bitAnd m y) (λ e t. let h = sym (has-and e x y) ∙ t in has-and e m y ∙ both (has m e) (has y e) (inside-all x m i e (and-l (has x e) (has y e) h)) (and-r (has x e) (has y e) h))
 
-held-more : (c m x : ℕ) (same : List ℕ) (h y : ℕ) → inside x m ≡ true → mayHold c x same h y ≡ true → mayHold c m same h y ≡ true
+held-more : (c d m x : ℕ) (same : List ℕ) (h y : ℕ) → inside x m ≡ true → inside d h ≡ true → mayHold c x same h y ≡ true → mayHold d m same h y ≡ true
 unfolding mayHold covers
-held-more c m x same h y i t =
-    both (inside c h && not (eqb (bitAnd m y) 0)) (not (any (covers (bitAnd m y) y) same))
-    (both (inside c h) (not (eqb (bitAnd m y) 0)) (and-l (inside c h) (not (eqb (bitAnd x y) 0)) first) (ap not (neqb (bitAnd m y) 0 some))) (ap not none)
+held-more c d m x same h y i k t =
+    both (inside d h && not (eqb (bitAnd m y) 0)) (not (any (covers (bitAnd m y) y) same)) (both (inside d h) (not (eqb (bitAnd m y) 0)) k (ap not (neqb (bitAnd m y) 0 some))) (ap not none)
   where
     first : inside c h && not (eqb (bitAnd x y) 0) ≡ true
     first = and-l (inside c h && not (eqb (bitAnd x y) 0)) (not (any (covers (bitAnd x y) y) same)) t
@@ -61,6 +60,11 @@ held-more c m x same h y i t =
             ∙ not-true (any (covers (bitAnd x y) y) same) (and-r (inside c h && not (eqb (bitAnd x y) 0)) (not (any (covers (bitAnd x y) y) same)) t)
             ))
 
+-- what may hold has all the colours
+holding : (c x : ℕ) (same : List ℕ) (h y : ℕ) → mayHold c x same h y ≡ true → inside c h ≡ true
+unfolding mayHold
+holding c x same h y t = and-l (inside c h) (not (eqb (bitAnd x y) 0)) (and-l (inside c h && not (eqb (bitAnd x y) 0)) (not (any (covers (bitAnd x y) y) same)) t)
+
 wanted-more : (c m x : ℕ) (other hues same : List ℕ) → inside x m ≡ true → wanted c x other hues same ≡ true → wanted c m other hues same ≡ true
 unfolding wanted
 wanted-more c m x other hues same i t = go (or-cases long (any (λ (j : ℕ). mayHold c x same (getD hues j 0) (getD other j 0)) (below (length other))) t)
@@ -73,7 +77,32 @@ wanted-more c m x other hues same i t = go (or-cases long (any (λ (j : ℕ). ma
     go (inr q) =
         let r = any-some (λ (j : ℕ). mayHold c x same (getD hues j 0) (getD other j 0)) (below (length other)) q in
         or-right long (any (λ (j : ℕ). mayHold c m same (getD hues j 0) (getD other j 0)) (below (length other)))
-        (some-any (λ (j : ℕ). mayHold c m same (getD hues j 0) (getD other j 0)) (below (length other)) (r .0) (r .1) (held-more c m x same (getD hues (r .0) 0) (getD other (r .0) 0) i (r .2)))
+        (some-any (λ (j : ℕ). mayHold c m same (getD hues j 0) (getD other j 0)) (below (length other)) (r .0) (r .1) (held-more c c m x same (getD hues (r .0) 0) (getD other (r .0) 0) i (holding c x same (getD hues (r .0) 0) (getD other (r .0) 0) (r .2)) (r .2)))
+
+-- a part of a cycle m that is not wanted for its own colours d is not wanted for c, where every listed cycle of the other verdict with the colours c has those too
+pub part-unwanted : (c d m x : ℕ) (other hues same : List ℕ) → inside x m ≡ true → length hues ≡ length other → ((h : ℕ) → List·Memᴰ h hues → inside c h ≡ true → inside d h ≡ true) → wanted d m other hues same ≡ false → wanted c x other hues same ≡ false
+unfolding wanted
+part-unwanted c d m x other hues same i e above f = go (test (long || any held (below (length other))))
+  where
+    long : Bool
+    long = areLong (length other) (length same)
+
+    held : ℕ → Bool
+    held j = mayHold c x same (getD hues j 0) (getD other j 0)
+
+    more : (long ≡ true) ⊎ (any held (below (length other)) ≡ true) → long || any (λ (j : ℕ). mayHold d m same (getD hues j 0) (getD other j 0)) (below (length other)) ≡ true
+    more (inl t) = or-left long (any (λ (j : ℕ). mayHold d m same (getD hues j 0) (getD other j 0)) (below (length other))) t
+    more (inr t) =
+        let r = any-some held (below (length other)) t in
+        let j = r .0 in
+        let b = below-lt (length other) j (r .1) in
+        or-right long (any (λ (j : ℕ). mayHold d m same (getD hues j 0) (getD other j 0)) (below (length other)))
+        (some-any (λ (j : ℕ). mayHold d m same (getD hues j 0) (getD other j 0)) (below (length other)) j (r .1)
+        (held-more c d m x same (getD hues j 0) (getD other j 0) i (above (getD hues j 0) (getD-mem hues j 0 (omega (arith, e, b))) (holding c x same (getD hues j 0) (getD other j 0) (r .2))) (r .2)))
+
+    go : (long || any held (below (length other)) ≡ true) ⊎ (long || any held (below (length other)) ≡ false) → long || any held (below (length other)) ≡ false
+    go (inl t) = absurd (true≢false (sym (more (or-cases long (any held (below (length other))) t)) ∙ f))
+    go (inr q) = q
 
 -- what is wanted is open
 wanted-open : (c x : ℕ) (other hues same : List ℕ) → length hues ≡ length other → wanted c x other hues same ≡ true → isOpen c hues (length same) ≡ true
@@ -114,7 +143,7 @@ and-none true = refl
 and-none false = refl
 
 module _ (hue : ℕ → ℕ) (c : ℕ) (other : List ℕ) where
-  none-listed : (same xs : List ℕ) → ((x : ℕ) → List·Memᴰ x xs → eqb (hue x) c && isWanted hue c x other same ≡ false) → withCycles hue c other same xs ≡ same
+  pub none-listed : (same xs : List ℕ) → ((x : ℕ) → List·Memᴰ x xs → eqb (hue x) c && isWanted hue c x other same ≡ false) → withCycles hue c other same xs ≡ same
   unfolding withCycles withCycle
   none-listed same [] h = refl
   none-listed same (x ∷ xs) h =

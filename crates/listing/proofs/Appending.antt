@@ -5,23 +5,24 @@ use native.Mathlib.Decide.{ℕ-discrete}
 use native.Mathlib.Numerals.{add-one}
 use mathlib.Core.Path.{_≡_, refl, sym, ap, ap₂, _∙_, subst, fun-ext}
 use mathlib.Core.Logic.{_⊎_, inl, inr, _≢_}
-use mathlib.Core.Bool.{Bool, true, false, _&&_, cond, true≢false, false≢true}
+use mathlib.Core.Bool.{Bool, true, false, _&&_, cond, false≢true}
 use mathlib.Core.List.{List, [], _∷_, _++_, map, List·Memᴰ}
 use lib.Bits.{bitAnd, bitOr}
+use lib.Dec.{eqb}
 use lib.ListN.{length, getD, take, drop, set, length-set, List·getD-append, take-append-drop}
 use lib.Seq.{length-take-le, take-suc, take-set-le, getD-set-same}
 use Rattle.lists.proofs.Bools.{≡eqb, neqb, or-cases, or-left, or-right}
 use Rattle.lists.proofs.Lists.{getD-mem, mem-at}
 use Rattle.masks.specs.Masks.{has, inside}
-use Rattle.masks.proofs.Bits.{has-or, has-none, inside-all, all-inside, inside-refl, inside-trans}
+use Rattle.masks.proofs.Bits.{has-or, has-none, inside-all, all-inside, inside-refl, inside-trans, and-inside}
 use Rattle.policy.specs.declared.Policy.{Policy}
 use Rattle.policy.specs.Policies.{coloursOf, legal}
 use Rattle.policy.specs.ByColour.{edgesIn, tableEdges, tableColours}
-use Rattle.policy.proofs.Laws.{colours-up}
 use Rattle.policy.proofs.ByColour.{table-edges-are, table-colours-are}
+use Rattle.graph.specs.Cycles.{isCycle}
 use Rattle.components.specs.Components.{largestIn}
 use Rattle.candidates.specs.Candidates.{wanted, isOpen, isWanted, withCycle, withCycles, withSet, Live}
-use Rattle.candidates.proofs.Live.{unwanted-none, closed-none, largest-within, in-largest, live-exact}
+use Rattle.candidates.proofs.Live.{none-listed, unwanted-none, closed-none, largest-within, largest-cycle, in-largest, live-exact}
 use Rattle.listing.specs.Listing.{Hued, PartsOf, unionTo, OnCycles}
 
 -- ---- a list with one more
@@ -93,6 +94,21 @@ module _ {p : Policy} {states letters : ℕ} {heads out into by : List ℕ} (s :
   unfolding withSet
   set-closed root c k other hues same are n f =
       sym (closed-none (coloursOf p) c other same (largestIn p (bitAnd (edgesIn p c) root)) (ap₂ (isOpen c) (sym (are ∙ ap (λ (h : ℕ → ℕ). map h other) hue-is)) n ∙ f))
+
+  -- nor where none of its cycles is wanted
+  pub set-unwanted : (root c : ℕ) (other same : List ℕ) → ((y : ℕ) → isCycle p y ≡ true → inside y root ≡ true → coloursOf p y ≡ c → isWanted (coloursOf p) c y other same ≡ false) → same ≡ withSet p root c other same
+  unfolding withSet
+  set-unwanted root c other same h = let m = bitAnd (edgesIn p c) root in sym (none-listed (coloursOf p) c other same (largestIn p m) (λ y k. go y k (ℕ-discrete (coloursOf p y) c)))
+    where
+      none : (b : Bool) → b && false ≡ false
+      none true = refl
+      none false = refl
+
+      go : (y : ℕ) → List·Memᴰ y (largestIn p (bitAnd (edgesIn p c) root)) → Dec (coloursOf p y ≡ c) → eqb (coloursOf p y) c && isWanted (coloursOf p) c y other same ≡ false
+      go y k (no e) = ap (λ (b : Bool). b && isWanted (coloursOf p) c y other same) (neqb (coloursOf p y) c e)
+      go y k (yes e) =
+          let m = bitAnd (edgesIn p c) root in
+          ap (λ (b : Bool). eqb (coloursOf p y) c && b) (h y (largest-cycle p (s .graph .lawful) m y k) (inside-trans y m root (largest-within p (s .graph .lawful) m y k) (and-inside (edgesIn p c) root)) e) ∙ none (eqb (coloursOf p y) c)
 
   -- nor where the edge set is not wanted
   pub none-wanted : (c m : ℕ) (other hues same : List ℕ) → hues ≡ map (tableColours by) other → wanted c m other hues same ≡ false → same ≡ withCycles (tableColours by) c other same (largestIn p m)

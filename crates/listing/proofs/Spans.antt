@@ -170,3 +170,31 @@ below-alike family quiet first used f alike s b i = go (decLt s first)
     go : Dec (s < first) → ((s ≡ 0) × (quiet ≡ 0)) ⊎ (getD family s false ≡ getD family used false)
     go (yes l) = let q = f .1 (omega (arith, l)) in inl (omega (arith, l, q .1), q .2)
     go (no l) = inr (alike s (omega (arith, l)) b i)
+
+-- ---- in turn
+pub above-next : (u c h : ℕ) {a b : Bool} → a ≡ inside u h → b ≡ inside c h → a && not b ≡ false → inside u h ≡ true → inside c h ≡ true
+above-next u c h {a} {b} ea eb f t = sym eb ∙ go a b f (ea ∙ t)
+  where
+    go : (a b : Bool) → a && not b ≡ false → a ≡ true → b ≡ true
+    go true true f e = refl
+    go true false f e = absurd (true≢false f)
+    go false b f e = absurd (false≢true e)
+
+pub one-more : (P : ℕ → Type 0) (i : ℕ) → ((j : ℕ) → j < i → P j) → P i → (j : ℕ) → j < i + 1 → P j
+one-more P i before this j b = go (ℕ-discrete j i)
+  where
+    go : Dec (j ≡ i) → P j
+    go (yes e) = subst P (sym e) this
+    go (no e) = before j (omega (arith, b, e))
+
+pub past-next : (col : ℕ → ℕ) (U : ℕ → Type 0) (i left left' c : ℕ) → left ≤ left' → (left < c → (j : ℕ) → j < i → (col j < left) ⊎ U j) → (left' < c → (col i < left') ⊎ U i)
+    → left' < c → (j : ℕ) → j < i + 1 → (col j < left') ⊎ U j
+past-next col U i left left' c l before this h j b = go (ℕ-discrete j i)
+  where
+    more : (col j < left) ⊎ U j → (col j < left') ⊎ U j
+    more (inl q) = inl (omega (arith, q, l))
+    more (inr q) = inr q
+
+    go : Dec (j ≡ i) → (col j < left') ⊎ U j
+    go (yes e) = subst (λ (x : ℕ). (col x < left') ⊎ U x) (sym e) (this h)
+    go (no e) = more (before (omega (arith, h, l)) j (omega (arith, b, e)))

@@ -7,28 +7,25 @@ use mathlib.Core.Path.{_≡_, refl, sym, ap, ap₂, _∙_, subst}
 use mathlib.Core.Logic.{_⊎_, inl, inr, _≢_}
 use mathlib.Core.Bool.{Bool, true, false, not, _&&_, cond, true≢false, false≢true}
 use mathlib.Core.List.{List, [], _∷_, List·Memᴰ}
-use lib.Bits.{bitAnd}
-use lib.Dec.{eqb, ltb}
+use lib.Dec.{ltb}
 use lib.ListN.{length, getD, take, set, replicate, length-set}
 use lib.Seq.{length-take-le, getD-set-same, getD-set-other}
 use Rattle.lists.specs.Bools.{differs}
 use Rattle.lists.proofs.Bools.{test, or-cases, or-none, or-rest, lt-true, lt-false}
 use Rattle.masks.specs.Masks.{inside}
-use Rattle.masks.proofs.Bits.{inside-refl, inside-le}
 use Rattle.policy.specs.declared.Policy.{Policy}
 use Rattle.policy.specs.Policies.{coloursOf, inFamily, accepting, legal}
-use Rattle.policy.specs.ByColour.{byColour, edgesIn, tableEdges, tableColours}
+use Rattle.policy.specs.ByColour.{byColour, tableColours}
 use Rattle.policy.proofs.Laws.{accepting-is, colours-up}
 use Rattle.policy.proofs.ByColour.{table-colours-are}
 use Rattle.graph.specs.Cycles.{isCycle}
 use Rattle.forest.specs.Forest.{roots}
-use Rattle.components.specs.Components.{largestIn}
-use Rattle.candidates.specs.Candidates.{isOpen, withCycles, withSet, candidatesTo, candidates, Live}
+use Rattle.candidates.specs.Candidates.{isOpen, isWanted, withSet, candidatesTo, candidates, Live}
 use Rattle.candidates.proofs.Candidates.{listing-few}
 use Rattle.candidates.proofs.Live.{live-root, absent-none}
 use Rattle.listing.specs.declared.Counts.{Counts}
 use Rattle.listing.specs.Listing.{Hued, PartsOf, Passed, Listed, lacksRoom, Outcome}
-use Rattle.listing.proofs.Appending.{take-set, hued-more, set-closed}
+use Rattle.listing.proofs.Appending.{take-set, hued-more, set-closed, set-unwanted}
 
 -- ---- one set more
 module _ {p : Policy} {by : List ℕ} {r n : ℕ} {a₀ ah₀ r₀ rh₀ live : List ℕ} {k : Counts} (s : Listed p by r n a₀ ah₀ r₀ rh₀ live k) (c : ℕ) (ec : c ≡ coloursOf p r - 1 - n) where
@@ -97,6 +94,12 @@ otherHues v k ah th = cond v (take (k .rejecting) th) (take (k .accepting) ah)
 abbrev pub sameCount : Bool → Counts → ℕ
 sameCount v k = cond v (k .accepting) (k .rejecting)
 
+abbrev pub otherMasks : Bool → Counts → List ℕ → List ℕ → List ℕ
+otherMasks v k a t = cond v (take (k .rejecting) t) (take (k .accepting) a)
+
+abbrev pub sameMasks : Bool → Counts → List ℕ → List ℕ → List ℕ
+sameMasks v k a t = cond v (take (k .accepting) a) (take (k .rejecting) t)
+
 -- ---- sets that are passed, of the colours `used` of the root
 module _ {p : Policy} {states letters : ℕ} {heads out into by : List ℕ} (t : PartsOf p states letters heads out into by) (r used : ℕ) (eu : used ≡ coloursOf p r)
     (a₀ ah₀ r₀ rh₀ live : List ℕ) (k : Counts) where
@@ -115,27 +118,41 @@ module _ {p : Policy} {states letters : ℕ} {heads out into by : List ℕ} (t :
       listed-rejecting s x (set-is x h) (s .live-are) i f
       (set-closed t r x (k .rejecting) (take (k .accepting) a₀) (take (k .accepting) ah₀) (take (k .rejecting) r₀) (s .accepting-hued .hues-are) (length-take-le (k .rejecting) r₀ (s .rejecting-hued .long)) o) (s .rejecting-hued)
 
+  -- a set of which no cycle is wanted
+  unwanted : (v : Bool) (x : ℕ) → x < used → inside x (coloursOf p r) ≡ true → inFamily p x ≡ v
+      → ((y : ℕ) → isCycle p y ≡ true → inside y r ≡ true → coloursOf p y ≡ x → isWanted (coloursOf p) x y (otherMasks v k a₀ r₀) (sameMasks v k a₀ r₀) ≡ false) → Here (used - 1 - x) → Here (used - 1 - x + 1)
+  unwanted true x h i f w s = listed-accepting s x (set-is x h) (s .live-are) i f (set-unwanted t r x (take (k .rejecting) r₀) (take (k .accepting) a₀) w) (s .accepting-hued)
+  unwanted false x h i f w s = listed-rejecting s x (set-is x h) (s .live-are) i f (set-unwanted t r x (take (k .accepting) a₀) (take (k .rejecting) r₀) w) (s .rejecting-hued)
+
+  abbrev Pass : Bool → ℕ → Type 0
+  Pass v x = Passed p r v (otherMasks v k a₀ r₀) (otherHues v k ah₀ rh₀) (sameMasks v k a₀ r₀) (sameCount v k) x
+
   -- a cycle of the root has its colours
   outside : (x : ℕ) → inside x (coloursOf p r) ≡ false → (y : ℕ) → isCycle p y ≡ true → inside y r ≡ true → coloursOf p y ≢ x
   outside x f y cy i e = true≢false (sym (subst (λ (d : ℕ). inside d (coloursOf p r) ≡ true) e (colours-up p y r i)) ∙ f)
 
-  pass : (v : Bool) (x : ℕ) → x < used → Passed p r v (otherHues v k ah₀ rh₀) (sameCount v k) x → Here (used - 1 - x) → Here (used - 1 - x + 1)
+  pass : (v : Bool) (x : ℕ) → x < used → Pass v x → Here (used - 1 - x) → Here (used - 1 - x + 1)
   pass v x h (inl none) s = listed-absent s x (set-is x h) (t .graph .lawful) none
   pass v x h (inr o) s = go (test (inside x (coloursOf p r)))
     where
       go : (inside x (coloursOf p r) ≡ true) ⊎ (inside x (coloursOf p r) ≡ false) → Here (used - 1 - x + 1)
-      go (inl i) = closed v x h i (o .0) (o .1) s
+      go (inl i) = by-reason (o .1) i
+        where
+          by-reason : (isOpen x (otherHues v k ah₀ rh₀) (sameCount v k) ≡ false) ⊎ ((y : ℕ) → isCycle p y ≡ true → inside y r ≡ true → coloursOf p y ≡ x → isWanted (coloursOf p) x y (otherMasks v k a₀ r₀) (sameMasks v k a₀ r₀) ≡ false)
+              → inside x (coloursOf p r) ≡ true → Here (used - 1 - x + 1)
+          by-reason (inl c) i = closed v x h i (o .0) c s
+          by-reason (inr w) i = unwanted v x h i (o .0) w s
       go (inr f) = listed-absent s x (set-is x h) (t .graph .lawful) (outside x f)
 
   -- all sets from `low` up to `high`, in turn
-  pub passed : (v : Bool) (low high : ℕ) → low ≤ high → high ≤ used → ((x : ℕ) → low ≤ x → x < high → inside x used ≡ true → Passed p r v (otherHues v k ah₀ rh₀) (sameCount v k) x) → Here (used - high) → Here (used - low)
+  pub passed : (v : Bool) (low high : ℕ) → low ≤ high → high ≤ used → ((x : ℕ) → low ≤ x → x < high → inside x used ≡ true → Pass v x) → Here (used - high) → Here (used - low)
   passed v low zero l h each s = subst Here (ap (λ (x : ℕ). used - x) (omega arith)) s
   passed v low (suc x) l h each s = go (ℕ-discrete low (suc x)) (λ b. passed v low x b (omega arith) (λ y c d i. each y c (omega arith) i))
     where
       here : Here (used - 1 - x)
       here = subst Here (omega arith) s
 
-      by-colours : (inside x used ≡ true) ⊎ (inside x used ≡ false) → low ≤ x → Passed p r v (otherHues v k ah₀ rh₀) (sameCount v k) x
+      by-colours : (inside x used ≡ true) ⊎ (inside x used ≡ false) → low ≤ x → Pass v x
       by-colours (inl i) b = each x b (omega arith) i
       by-colours (inr f) b = inl (outside x (ap (inside x) (sym eu) ∙ f))
 

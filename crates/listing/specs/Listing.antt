@@ -1,5 +1,5 @@
 -- The candidates of a root as they stand in the lists that a caller lends, each with the colours of its masks beside it.
-use Prim.Native.Nat.{ℕ, zero, suc, _+_, _-_, _<_, _≤_}
+use Prim.Native.Nat.{ℕ, zero, suc, _-_, _<_, _≤_}
 use mathlib.Core.Path.{_≡_}
 use mathlib.Core.Logic.{_⊎_, _≢_}
 use mathlib.Core.Bool.{Bool, true, false, _||_}
@@ -13,7 +13,7 @@ use Rattle.policy.specs.Policies.{coloursOf, inFamily}
 use Rattle.policy.specs.ByColour.{byColour, tableColours}
 use Rattle.graph.specs.Cycles.{isCycle}
 use Rattle.graph.specs.Through.{GraphOf, EndsOf}
-use Rattle.candidates.specs.Candidates.{isOpen, candidatesTo, candidates, Live}
+use Rattle.candidates.specs.Candidates.{isOpen, isWanted, candidatesTo, candidates, Live}
 use Rattle.listing.specs.declared.Counts.{Counts}
 
 -- of a list of masks, the first n count, and their colours stand in another; `hue` gives the colours of a mask
@@ -45,10 +45,18 @@ lowest u c = bitAnd (u - c) (256 - (u - c))
 unfoldable pub upper : ℕ → ℕ → ℕ
 upper u c = bitAnd c (256 - lowest u c)
 
--- nothing of the root r is listed at the set x: no cycle has exactly these colours, or no listed one of the other verdict has them all. `hues` are the colours of
--- these, and `same` of the verdict v are listed
-abbrev pub Passed : Policy → ℕ → Bool → List ℕ → ℕ → ℕ → Type 0
-Passed p r v hues same x = ((y : ℕ) → isCycle p y ≡ true → inside y r ≡ true → coloursOf p y ≢ x) ⊎ ((inFamily p x ≡ v) × (isOpen x hues same ≡ false))
+-- nothing of the root r is listed at the set x: no cycle has exactly these colours, or no listed one of the other verdict has them all, or none is wanted. `other` are the listed
+-- cycles of the other verdict than v and `hues` their colours, `same` are those of the verdict v, and `many` of these are listed
+abbrev pub Passed : Policy → ℕ → Bool → List ℕ → List ℕ → List ℕ → ℕ → ℕ → Type 0
+Passed p r v other hues same many x =
+    ((y : ℕ) → isCycle p y ≡ true → inside y r ≡ true → coloursOf p y ≢ x)
+    ⊎ ((inFamily p x ≡ v) × ((isOpen x hues many ≡ false) ⊎ ((y : ℕ) → isCycle p y ≡ true → inside y r ≡ true → coloursOf p y ≡ x → isWanted (coloursOf p) x y other same ≡ false)))
+
+-- the same of the sets of a span from `left` up to c, by the cycles inside e
+abbrev pub Settled : Policy → Bool → ℕ → ℕ → ℕ → List ℕ → List ℕ → ℕ → Type 0
+Settled p v up c e other same left =
+    (s : ℕ) → left ≤ s → s < c → inside up s ≡ true → inside s c ≡ true
+    → ((y : ℕ) → isCycle p y ≡ true → inside y e ≡ true → coloursOf p y ≢ s) ⊎ ((inFamily p s ≡ v) × ((y : ℕ) → isCycle p y ≡ true → inside y e ≡ true → coloursOf p y ≡ s → isWanted (coloursOf p) s y other same ≡ false))
 
 -- the lists of the root r after n sets, and live edges for each set
 pub record Listed (p : Policy) (by : List ℕ) (r n : ℕ) (accepting accepted rejecting rejected live : List ℕ) (k : Counts) : Type 0 where

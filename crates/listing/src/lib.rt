@@ -16,7 +16,7 @@ ghost use Rattle.components.specs.Components.{largestIn};
 ghost use Rattle.forest.specs.Forest.{roots};
 ghost use Rattle.candidates.specs.Candidates.{covers, mayHold, areLong, wanted, isOpen, withCycle, withCycles, Live};
 ghost use Rattle.masks.specs.Masks.{inside};
-ghost use Rattle.listing.specs.Listing.{Hued, PartsOf, unionTo, OnCycles, lowest, upper, Listed, lacksRoom, Outcome};
+ghost use Rattle.listing.specs.Listing.{Hued, PartsOf, unionTo, OnCycles, lowest, upper, Settled, Listed, lacksRoom, Outcome};
 
 // How many masks each list holds.
 pub struct Counts {
@@ -382,6 +382,149 @@ fn left_after(edges: u64, up: u8, c: u8) -> u8
     c
 }
 
+// ---- what a search settles
+// Whether every listed mask of the other verdict with the colours `up` has the colours c too. `hues` are their colours.
+fn are_above(up: u8, c: u8, hues: &[u8]) -> bool
+    ensures { λ r. ⌜ (r ≡ true → (h : ℕ) → List·Memᴰ h (now (hues .entry)) → inside up h ≡ true → inside c h ≡ true) ⌝ }
+{
+    for i in 0..hues.len() {
+        if masks::set_inside(up, hues[i]) & !masks::set_inside(c, hues[i]) {
+            return false;
+        }
+    }
+    true
+}
+
+// The set after x, where x may be a child of a listed mask and that set is more than `left`; c where it is not below c.
+fn past_wanted(
+    by: &[u64; 9],
+    x: u64,
+    other: &[u64],
+    hues: &[u8],
+    same: &[u64],
+    left: u8,
+    c: u8,
+) -> u8
+    requires { ⌜ (length (now other) ≤ length (now hues)) × (left ≤ c) ⌝ }
+    ensures { λ r. ⌜ (left ≤ r) × (r ≤ c) × (r < c → (tableColours (now (by .entry)) x < r) ⊎ (wanted (tableColours (now (by .entry)) x) x (now (other .entry)) (now (hues .entry)) (now (same .entry)) ≡ false)) ⌝ }
+{
+    let hue = policy::colours_in(by, x);
+    if is_wanted(hue, x, other, hues, same) {
+        if c <= hue {
+            return c;
+        }
+        if left <= hue {
+            return hue + 1;
+        }
+    }
+    left
+}
+
+// The same for the first n cycles in turn.
+fn past_all(
+    by: &[u64; 9],
+    cycles: &[u64; 16],
+    n: usize,
+    other: &[u64],
+    hues: &[u8],
+    same: &[u64],
+    up: u8,
+    c: u8,
+) -> u8
+    requires { ⌜ (n ≤ 16) × (length (now cycles) ≡ 16) × (length (now other) ≤ length (now hues)) × (up ≤ c) ⌝ }
+    ensures { λ r. ⌜ (up ≤ r) × (r ≤ c) × (r < c → (i : ℕ) → i < n → (tableColours (now (by .entry)) (getD (now (cycles .entry)) i 0) < r) ⊎ (wanted (tableColours (now (by .entry)) (getD (now (cycles .entry)) i 0)) (getD (now (cycles .entry)) i 0) (now (other .entry)) (now (hues .entry)) (now (same .entry)) ≡ false)) ⌝ }
+{
+    let mut left = up;
+    for i in 0..n {
+        left = past_wanted(by, cycles[i], other, hues, same, left, c);
+    }
+    left
+}
+
+// After a search of the set c with the verdict v that left the edges e: the sets from the answer up to c are settled. That is told where all of them have this verdict, and of the
+// cycles found those that may be children of listed masks have colours below.
+fn past_settled(
+    states: usize,
+    letters: usize,
+    heads: &[u8; 64],
+    out: &[u64; 16],
+    into: &[u64; 16],
+    by: &[u64; 9],
+    family: &[bool; 256],
+    v: bool,
+    up: u8,
+    c: u8,
+    e: u64,
+    other: &[u64],
+    hues: &[u8],
+    same: &[u64],
+) -> u8
+    requires policy { ⌜ ((p : Policy) × PartsOf p states letters (now heads) (now out) (now into) (now by)) ⌝ }
+    requires other { ⌜ (now hues ≡ map (tableColours (now by)) (now other)) × (up ≤ c) ⌝ }
+    ensures { λ r. ⌜ ((p : Policy) → PartsOf p states letters (now (heads .entry)) (now (out .entry)) (now (into .entry)) (now (by .entry)) → now (family .entry) ≡ p .family → inside (coloursOf p e) c ≡ true → Settled p v up c e (now (other .entry)) (now (same .entry)) r) ⌝ }
+    ensures left { λ r. ⌜ (up ≤ r) × (r ≤ c) ⌝ }
+{
+    if !are_above(up, c, hues) {
+        return c;
+    }
+    if !is_uniform(family, first_from(by, up), c, v) {
+        return c;
+    }
+    let mut rows = [0u16; 16];
+    let mut cycles = [0u64; 16];
+    let n = components::fill_cycles(states, letters, heads, out, into, e, &mut rows, &mut cycles);
+    past_all(by, &cycles, n, other, hues, same, up, c)
+}
+
+// The same, where it can gain: not in small spans, nor where the lists are long. Where no edge is left the whole span is settled.
+fn left_settled(
+    states: usize,
+    letters: usize,
+    heads: &[u8; 64],
+    out: &[u64; 16],
+    into: &[u64; 16],
+    by: &[u64; 9],
+    family: &[bool; 256],
+    v: bool,
+    up: u8,
+    c: u8,
+    e: u64,
+    other: &[u64],
+    hues: &[u8],
+    same: &[u64],
+) -> u8
+    requires policy { ⌜ ((p : Policy) × PartsOf p states letters (now heads) (now out) (now into) (now by)) ⌝ }
+    requires other { ⌜ (now hues ≡ map (tableColours (now by)) (now other)) × (up ≤ c) ⌝ }
+    ensures { λ r. ⌜ ((p : Policy) → PartsOf p states letters (now (heads .entry)) (now (out .entry)) (now (into .entry)) (now (by .entry)) → now (family .entry) ≡ p .family → inside (coloursOf p e) c ≡ true → Settled p v up c e (now (other .entry)) (now (same .entry)) r) ⌝ }
+    ensures left { λ r. ⌜ (up ≤ r) × (r ≤ c) ⌝ }
+{
+    if e == 0 {
+        return up;
+    }
+    if c - up < 7 {
+        return c;
+    }
+    if are_long(other.len(), same.len()) {
+        return c;
+    }
+    past_settled(
+        states,
+        letters,
+        heads,
+        out,
+        into,
+        by,
+        family,
+        v,
+        up,
+        c,
+        e,
+        other,
+        hues,
+        same,
+    )
+}
+
 // An open set c with the verdict v: the wanted ones of its cycles, which are looked for in m, go into the list of the verdict.
 fn list_set(
     states: usize,
@@ -390,6 +533,7 @@ fn list_set(
     out: &[u64; 16],
     into: &[u64; 16],
     by: &[u64; 9],
+    family: &[bool; 256],
     v: bool,
     up: u8,
     c: u8,
@@ -404,9 +548,9 @@ fn list_set(
     requires policy { ⌜ ((p : Policy) × PartsOf p states letters (now heads) (now out) (now into) (now by)) ⌝ }
     requires accepting { ⌜ Hued (tableColours (now by)) (now accepting) (now accepted) (listed .accepting) × (listed .accepting + 16 ≤ length (now accepting)) × (listed .accepting + 16 ≤ length (now accepted)) ⌝ }
     requires rejecting { ⌜ Hued (tableColours (now by)) (now rejecting) (now rejected) (listed .rejecting) × (listed .rejecting + 16 ≤ length (now rejecting)) × (listed .rejecting + 16 ≤ length (now rejected)) ⌝ }
-    requires live { ⌜ c < length (now live) ⌝ }
-    ensures { λ r. ⌜ ((p : Policy) (root used : ℕ) → PartsOf p states letters (now (heads .entry)) (now (out .entry)) (now (into .entry)) (now (by .entry)) → used ≡ coloursOf p root → c < used → inside c used ≡ true → v ≡ inFamily p c → up ≡ upper used c → Live p root c m → inside m (edgesIn p c) ≡ true → Listed p (now (by .entry)) root (used - 1 - c) (now (accepting .entry)) (now (accepted .entry)) (now (rejecting .entry)) (now (rejected .entry)) (now (live .entry)) listed → Listed p (now (by .entry)) root (used - r .left) (now (accepting .exit)) (now (accepted .exit)) (now (rejecting .exit)) (now (rejected .exit)) (now (live .exit)) (r .counts)) ⌝ }
-    ensures left { λ r. ⌜ (up ≤ c → r .left ≤ c) ⌝ }
+    requires live { ⌜ (c < length (now live)) × (up ≤ c) ⌝ }
+    ensures { λ r. ⌜ ((p : Policy) (root used : ℕ) → PartsOf p states letters (now (heads .entry)) (now (out .entry)) (now (into .entry)) (now (by .entry)) → now (family .entry) ≡ p .family → used ≡ coloursOf p root → c < used → inside c used ≡ true → v ≡ inFamily p c → up ≡ upper used c → Live p root c m → inside m (edgesIn p c) ≡ true → Listed p (now (by .entry)) root (used - 1 - c) (now (accepting .entry)) (now (accepted .entry)) (now (rejecting .entry)) (now (rejected .entry)) (now (live .entry)) listed → Listed p (now (by .entry)) root (used - r .left) (now (accepting .exit)) (now (accepted .exit)) (now (rejecting .exit)) (now (rejected .exit)) (now (live .exit)) (r .counts)) ⌝ }
+    ensures left { λ r. ⌜ r .left ≤ c ⌝ }
 {
     let a = listed.accepting;
     let b = listed.rejecting;
@@ -432,7 +576,22 @@ fn list_set(
                 accepting: n.count,
                 rejecting: b,
             },
-            left: left_after(n.edges, up, c),
+            left: left_settled(
+                states,
+                letters,
+                heads,
+                out,
+                into,
+                by,
+                family,
+                v,
+                up,
+                c,
+                n.edges,
+                &rejecting[..b],
+                &rejected[..b],
+                &accepting[..n.count],
+            ),
         };
     }
     let n = list_wanted(
@@ -456,7 +615,22 @@ fn list_set(
             accepting: a,
             rejecting: n.count,
         },
-        left: left_after(n.edges, up, c),
+        left: left_settled(
+            states,
+            letters,
+            heads,
+            out,
+            into,
+            by,
+            family,
+            v,
+            up,
+            c,
+            n.edges,
+            &accepting[..a],
+            &accepted[..a],
+            &rejecting[..n.count],
+        ),
     }
 }
 
@@ -534,6 +708,7 @@ fn list_next(
             out,
             into,
             by,
+            family,
             v,
             up,
             c,

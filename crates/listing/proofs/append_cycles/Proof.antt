@@ -6,12 +6,8 @@ use lib.ListN.{length, take}
 use mathlib.Core.Path.{_≡_, refl, ap, _∙_}
 use Prim.Native.Nat.{ℕ, _+_, _-_, _≤_, _<_}
 use native.Mathlib.Omega.{arith}
-use borrow.Author.Needs.{needs}
 use Rattle.listing.proofs.append_cycles.Statement.{statement}
 use Rattle.listing.proofs.append_cycles.Tie as tie
-use Rattle.listing.proofs.append_cycles.Reads as reads
-use Rattle.listing.proofs.append_cycles.Lts as lts
-use Rattle.listing.proofs.append_cycle.Reads as append-cycle-reads
 
 abbrev Inv-loop : tie.InvT-loop
 Inv-loop by c cycles n other hues same₀ own₀ count next₀ i₀ same own next i = (i ≤ n) × (next ≤ count + i) × (length same ≡ length same₀) × (length own ≡ length own₀) × (take next same ≡ withCycles (tableColours by) c other (take count same₀) (take i cycles)) × Hued (tableColours by) same own next

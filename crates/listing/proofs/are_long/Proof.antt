@@ -1,11 +1,7 @@
 use Rattle.candidates.specs.Candidates.{areLong}
 use mathlib.Core.Path.{refl}
-use native.Mathlib.Omega.{arith}
-use borrow.Author.Needs.{needs}
 use Rattle.listing.proofs.are_long.Statement.{statement}
 use Rattle.listing.proofs.are_long.Tie as tie
-use Rattle.listing.proofs.are_long.Reads as reads
-use Rattle.listing.proofs.are_long.Lts as lts
 
 returns : tie.Need-returns
 unfolding areLong

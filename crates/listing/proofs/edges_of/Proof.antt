@@ -9,15 +9,9 @@ use mathlib.Core.List.{List}
 use mathlib.Core.Bool.{true}
 use mathlib.Core.Path.{_≡_, sym, ap, _∙_, subst}
 use Prim.Native.Nat.{ℕ}
-use native.Mathlib.Omega.{arith}
 use borrow.Author.Needs.{needs}
 use Rattle.listing.proofs.edges_of.Statement.{statement}
 use Rattle.listing.proofs.edges_of.Tie as tie
-use Rattle.listing.proofs.edges_of.Reads as reads
-use Rattle.listing.proofs.edges_of.Lts as lts
-use Rattle.listing.proofs.live_in.Reads as live-in-reads
-use Rattle.masks.proofs.both.Reads as both-reads
-use Rattle.policy.proofs.edges_in.Reads as edges-in-reads
 
 edges-in-requires : tie.Need-edges-in-requires
 edges-in-requires c κs = search needs

@@ -11,13 +11,6 @@ use native.Mathlib.Omega.{arith}
 use borrow.Author.Needs.{needs}
 use Rattle.listing.proofs.fill_lists.Statement.{statement}
 use Rattle.listing.proofs.fill_lists.Tie as tie
-use Rattle.listing.proofs.fill_lists.Reads as reads
-use Rattle.listing.proofs.fill_lists.Lts as lts
-use Rattle.listing.proofs.begin.Reads as begin-reads
-use Rattle.listing.proofs.lacks_room.Reads as lacks-room-reads
-use Rattle.listing.proofs.list_next.Reads as list-next-reads
-use Rattle.listing.proofs.sets_left.Reads as sets-left-reads
-use Rattle.policy.proofs.colours_in.Reads as colours-in-reads
 
 abbrev Inv-loop : tie.InvT-loop
 Inv-loop states letters heads out into by family root accepting₀ accepted₀ rejecting₀ rejected₀ live₀ table used listed₀ left₀ accepting accepted rejecting rejected live listed left =

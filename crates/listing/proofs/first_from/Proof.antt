@@ -6,8 +6,6 @@ use native.Mathlib.Omega.{arith}
 use borrow.Author.Needs.{needs}
 use Rattle.listing.proofs.first_from.Statement.{statement}
 use Rattle.listing.proofs.first_from.Tie as tie
-use Rattle.listing.proofs.first_from.Reads as reads
-use Rattle.listing.proofs.first_from.Lts as lts
 
 element-copy-out-if1 : tie.Need-element-copy-out-if1
 element-copy-out-if1 c = search needs

@@ -10,10 +10,6 @@ use native.Mathlib.Omega.{arith}
 use borrow.Author.Needs.{needs}
 use Rattle.listing.proofs.is_open.Statement.{statement}
 use Rattle.listing.proofs.is_open.Tie as tie
-use Rattle.listing.proofs.is_open.Reads as reads
-use Rattle.listing.proofs.is_open.Lts as lts
-use Rattle.listing.proofs.are_long.Reads as are-long-reads
-use Rattle.masks.proofs.set_inside.Reads as set-inside-reads
 
 abbrev Inv-loop : tie.InvT-loop
 Inv-loop c hues same i₀ i-end i = (i ≤ i-end) × (any (inside c) (take i hues) ≡ false)

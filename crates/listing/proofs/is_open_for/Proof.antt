@@ -2,13 +2,9 @@ use Rattle.candidates.specs.Candidates.{isOpen}
 use lib.ListN.{length}
 use mathlib.Core.Bool.{Bool, cond}
 use mathlib.Core.Path.{sym, ap, _∙_}
-use native.Mathlib.Omega.{arith}
 use borrow.Author.Needs.{needs}
 use Rattle.listing.proofs.is_open_for.Statement.{statement}
 use Rattle.listing.proofs.is_open_for.Tie as tie
-use Rattle.listing.proofs.is_open_for.Reads as reads
-use Rattle.listing.proofs.is_open_for.Lts as lts
-use Rattle.listing.proofs.is_open.Reads as is-open-reads
 
 is-open-requires : tie.Need-is-open-requires
 is-open-requires c κs = search needs

@@ -2,15 +2,9 @@ use Rattle.listing.proofs.Spans.{span-passed}
 use lib.ListN.{length, getD}
 use mathlib.Core.Bool.{cond, false≢true}
 use mathlib.Core.Path.{sym, _∙_}
-use native.Mathlib.Omega.{arith}
 use borrow.Author.Needs.{needs}
 use Rattle.listing.proofs.is_passed.Statement.{statement}
 use Rattle.listing.proofs.is_passed.Tie as tie
-use Rattle.listing.proofs.is_passed.Reads as reads
-use Rattle.listing.proofs.is_passed.Lts as lts
-use Rattle.listing.proofs.first_from.Reads as first-from-reads
-use Rattle.listing.proofs.is_open_for.Reads as is-open-for-reads
-use Rattle.listing.proofs.is_uniform.Reads as is-uniform-reads
 
 sub-if1 : tie.Need-sub-if1
 sub-if1 c = search needs

@@ -8,10 +8,6 @@ use native.Mathlib.Omega.{arith}
 use borrow.Author.Needs.{needs}
 use Rattle.listing.proofs.is_uniform.Statement.{statement}
 use Rattle.listing.proofs.is_uniform.Tie as tie
-use Rattle.listing.proofs.is_uniform.Reads as reads
-use Rattle.listing.proofs.is_uniform.Lts as lts
-use Rattle.listing.proofs.differs.Reads as differs-reads
-use Rattle.masks.proofs.set_inside.Reads as set-inside-reads
 
 abbrev Inv-loop : tie.InvT-loop
 Inv-loop family from c v same₀ s₀ same s = (from ≤ s) × (same ≡ true → (x : ℕ) → from ≤ x → x < s → inside x c ≡ true → getD family x false ≡ v)

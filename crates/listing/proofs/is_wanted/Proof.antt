@@ -10,10 +10,6 @@ use native.Mathlib.Omega.{arith}
 use borrow.Author.Needs.{needs}
 use Rattle.listing.proofs.is_wanted.Statement.{statement}
 use Rattle.listing.proofs.is_wanted.Tie as tie
-use Rattle.listing.proofs.is_wanted.Reads as reads
-use Rattle.listing.proofs.is_wanted.Lts as lts
-use Rattle.listing.proofs.are_long.Reads as are-long-reads
-use Rattle.listing.proofs.may_hold.Reads as may-hold-reads
 
 abbrev Inv-loop : tie.InvT-loop
 Inv-loop c m other hues same i₀ i-end i = (i ≤ i-end) × (any (λ (j : ℕ). mayHold c m same (getD hues j 0) (getD other j 0)) (below i) ≡ false)

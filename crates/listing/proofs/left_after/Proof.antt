@@ -1,12 +1,8 @@
 use Rattle.lists.proofs.Bools.{≡eqb, neqb}
 use mathlib.Core.Bool.{Bool, cond}
 use mathlib.Core.Path.{sym, ap}
-use native.Mathlib.Omega.{arith}
-use borrow.Author.Needs.{needs}
 use Rattle.listing.proofs.left_after.Statement.{statement}
 use Rattle.listing.proofs.left_after.Tie as tie
-use Rattle.listing.proofs.left_after.Reads as reads
-use Rattle.listing.proofs.left_after.Lts as lts
 
 returns : tie.Need-returns
 returns c = sym (ap (λ (b : Bool). cond b (c .before .args .up) (c .before .args .c)) (≡eqb (c .before .args .edges) 0 (c .if1 .taken)))

@@ -11,11 +11,6 @@ use native.Mathlib.Omega.{arith}
 use borrow.Author.Needs.{needs}
 use Rattle.listing.proofs.list_cycles.Statement.{statement}
 use Rattle.listing.proofs.list_cycles.Tie as tie
-use Rattle.listing.proofs.list_cycles.Reads as reads
-use Rattle.listing.proofs.list_cycles.Lts as lts
-use Rattle.components.proofs.fill_cycles.Reads as fill-cycles-reads
-use Rattle.listing.proofs.append_cycles.Reads as append-cycles-reads
-use Rattle.listing.proofs.union_of.Reads as union-of-reads
 
 fill-cycles-requires : tie.Need-fill-cycles-requires
 fill-cycles-requires c κs = search needs

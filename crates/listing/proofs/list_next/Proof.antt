@@ -12,18 +12,6 @@ use native.Mathlib.Omega.{arith}
 use borrow.Author.Needs.{needs}
 use Rattle.listing.proofs.list_next.Statement.{statement}
 use Rattle.listing.proofs.list_next.Tie as tie
-use Rattle.listing.proofs.list_next.Reads as reads
-use Rattle.listing.proofs.list_next.Lts as lts
-use Rattle.listing.proofs.edges_of.Reads as edges-of-reads
-use Rattle.listing.proofs.edges_on_cycles.Reads as edges-on-cycles-reads
-use Rattle.listing.proofs.is_open_for.Reads as is-open-for-reads
-use Rattle.listing.proofs.is_passed.Reads as is-passed-reads
-use Rattle.listing.proofs.left_after.Reads as left-after-reads
-use Rattle.listing.proofs.list_set.Reads as list-set-reads
-use Rattle.listing.proofs.upper.Reads as upper-reads
-use Rattle.masks.proofs.both.Reads as both-reads
-use Rattle.masks.proofs.set_inside.Reads as set-inside-reads
-use Rattle.policy.proofs.colours_in.Reads as colours-in-reads
 
 set-inside-requires : tie.Need-set-inside-requires
 set-inside-requires c κs = search needs
@@ -169,7 +157,7 @@ returns-5 c =
 list-set-requires : tie.Need-list-set-requires
 list-set-requires c κs =
     let s = c .before .before .before .before .before .before .before .before .before .before .before .before .before .before .before .before .before .before .before .before .before .before .before .before .before in
-    let a = s .args in (s .pre .0, (s .pre .1 .0, (s .pre .1 .1 .0, omega (arith, s .pre .1 .1 .1 .0, s .pre .1 .1 .1 .1))))
+    let a = s .args in (s .pre .0, (s .pre .1 .0, (s .pre .1 .1 .0, (omega (arith, s .pre .1 .1 .1 .0, s .pre .1 .1 .1 .1), subst (λ (x : ℕ). x ≤ a .c) (sym (c .before .before .before .before .before .before .before .before .before .before .before .before .before .before .before .before .upper .ensures)) (upper-le (a .used) (a .c) (s .pre .1 .1 .1 .0) (s .fits .used .fits))))))
 
 same-length-11 : tie.Need-same-length-11
 same-length-11 c = search needs
@@ -191,7 +179,7 @@ unfolding inFamily
 returns-6 c =
     let s = c .before .before .before .before .before .before .before .before .before .before .before .before .before .before .before .before .before .before .before .before .before .before .before .before .before .before .before .before .before .before .before .before .before .before .before .before in
     let a = s .args in
-    (λ p root t f u l. c .before .before .before .before .before .before .before .before .before .before .list-set .ensures .0 p root (a .used) t u (s .pre .1 .1 .1 .0) (sym (c .before .before .before .before .before .before .before .before .before .before .before .before .before .before .before .before .before .before .before .before .before .before .before .before .before .before .before .before .before .before .set-inside .ensures) ∙ unnot (c .before .before .before .before .before .before .before .before .before .before .before .before .before .before .before .before .before .before .before .before .before .before .before .before .before .before .before .before .before .before .set-inside .result) (c .before .before .before .before .before .before .before .before .before .before .before .before .before .before .before .before .before .before .before .before .before .before .before .before .before .before .before .before .before .if1 .left)) (ap (λ (x : List Bool). getD x (a .c) false) f) (c .before .before .before .before .before .before .before .before .before .before .before .before .before .before .before .before .before .before .before .before .before .before .before .before .before .before .before .upper .ensures) ((c .before .before .before .before .before .before .before .before .before .before .before .before .before .before .before .before .before .before .before .before .before .edges-of .ensures p root (t .graph .lawful) (t .by-is) (l .live-are)) .0) ((c .before .before .before .before .before .before .before .before .before .before .before .before .before .before .before .before .before .before .before .before .before .edges-of .ensures p root (t .graph .lawful) (t .by-is) (l .live-are)) .1) l, c .before .before .before .before .before .before .before .before .before .before .list-set .ensures .1 (subst (λ (x : ℕ). x ≤ a .c) (sym (c .before .before .before .before .before .before .before .before .before .before .before .before .before .before .before .before .before .before .before .before .before .before .before .before .before .before .before .upper .ensures)) (upper-le (a .used) (a .c) (s .pre .1 .1 .1 .0) (s .fits .used .fits))))
+    (λ p root t f u l. c .before .before .before .before .before .before .before .before .before .before .list-set .ensures .0 p root (a .used) t f u (s .pre .1 .1 .1 .0) (sym (c .before .before .before .before .before .before .before .before .before .before .before .before .before .before .before .before .before .before .before .before .before .before .before .before .before .before .before .before .before .before .set-inside .ensures) ∙ unnot (c .before .before .before .before .before .before .before .before .before .before .before .before .before .before .before .before .before .before .before .before .before .before .before .before .before .before .before .before .before .before .set-inside .result) (c .before .before .before .before .before .before .before .before .before .before .before .before .before .before .before .before .before .before .before .before .before .before .before .before .before .before .before .before .before .if1 .left)) (ap (λ (x : List Bool). getD x (a .c) false) f) (c .before .before .before .before .before .before .before .before .before .before .before .before .before .before .before .before .before .before .before .before .before .before .before .before .before .before .before .upper .ensures) ((c .before .before .before .before .before .before .before .before .before .before .before .before .before .before .before .before .before .before .before .before .before .edges-of .ensures p root (t .graph .lawful) (t .by-is) (l .live-are)) .0) ((c .before .before .before .before .before .before .before .before .before .before .before .before .before .before .before .before .before .before .before .before .before .edges-of .ensures p root (t .graph .lawful) (t .by-is) (l .live-are)) .1) l, c .before .before .before .before .before .before .before .before .before .before .list-set .ensures .1)
 
 edges-on-cycles-requires : tie.Need-edges-on-cycles-requires
 edges-on-cycles-requires c κs = search needs

@@ -7,10 +7,6 @@ use native.Mathlib.Omega.{arith}
 use borrow.Author.Needs.{needs}
 use Rattle.listing.proofs.list_wanted.Statement.{statement}
 use Rattle.listing.proofs.list_wanted.Tie as tie
-use Rattle.listing.proofs.list_wanted.Reads as reads
-use Rattle.listing.proofs.list_wanted.Lts as lts
-use Rattle.listing.proofs.is_wanted.Reads as is-wanted-reads
-use Rattle.listing.proofs.list_cycles.Reads as list-cycles-reads
 
 slice-reshare-prefix-is-wanted : tie.Need-slice-reshare-prefix-is-wanted
 slice-reshare-prefix-is-wanted c = search needs

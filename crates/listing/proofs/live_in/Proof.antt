@@ -11,10 +11,6 @@ use native.Mathlib.Omega.{arith}
 use borrow.Author.Needs.{needs}
 use Rattle.listing.proofs.live_in.Statement.{statement}
 use Rattle.listing.proofs.live_in.Tie as tie
-use Rattle.listing.proofs.live_in.Reads as reads
-use Rattle.listing.proofs.live_in.Lts as lts
-use Rattle.listing.proofs.with_colour.Reads as with-colour-reads
-use Rattle.masks.proofs.both.Reads as both-reads
 
 abbrev Inv-loop : tie.InvT-loop
 Inv-loop live used c m₀ i₀ m i = (i ≤ 8) × ((p : Policy) (root : ℕ) → legal p ≡ true → ((d : ℕ) → d < length live → Live p root d (getD live d 0)) → Live p root c m)

@@ -7,8 +7,6 @@ use native.Mathlib.Omega.{arith}
 use borrow.Author.Needs.{needs}
 use Rattle.listing.proofs.lowest.Statement.{statement}
 use Rattle.listing.proofs.lowest.Tie as tie
-use Rattle.listing.proofs.lowest.Reads as reads
-use Rattle.listing.proofs.lowest.Lts as lts
 
 sub-lacks : tie.Need-sub-lacks
 sub-lacks c = search needs

@@ -2,14 +2,9 @@ use Rattle.listing.proofs.Spans.{below-alike}
 use lib.ListN.{getD}
 use mathlib.Core.Logic.{inl, inr}
 use mathlib.Core.Path.{refl}
-use native.Mathlib.Omega.{arith}
 use borrow.Author.Needs.{needs}
 use Rattle.listing.proofs.sets_left.Statement.{statement}
 use Rattle.listing.proofs.sets_left.Tie as tie
-use Rattle.listing.proofs.sets_left.Reads as reads
-use Rattle.listing.proofs.sets_left.Lts as lts
-use Rattle.listing.proofs.first_from.Reads as first-from-reads
-use Rattle.listing.proofs.is_uniform.Reads as is-uniform-reads
 
 first-from-requires : tie.Need-first-from-requires
 first-from-requires c κs = search needs

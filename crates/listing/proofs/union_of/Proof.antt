@@ -8,9 +8,6 @@ use native.Mathlib.Omega.{arith}
 use borrow.Author.Needs.{needs}
 use Rattle.listing.proofs.union_of.Statement.{statement}
 use Rattle.listing.proofs.union_of.Tie as tie
-use Rattle.listing.proofs.union_of.Reads as reads
-use Rattle.listing.proofs.union_of.Lts as lts
-use Rattle.masks.proofs.either.Reads as either-reads
 
 abbrev Inv-loop : tie.InvT-loop
 Inv-loop cycles n edges₀ i₀ edges i = (i ≤ n) × (edges ≡ unionTo cycles i)

@@ -6,9 +6,6 @@ use native.Mathlib.Omega.{arith}
 use borrow.Author.Needs.{needs}
 use Rattle.listing.proofs.upper.Statement.{statement}
 use Rattle.listing.proofs.upper.Tie as tie
-use Rattle.listing.proofs.upper.Reads as reads
-use Rattle.listing.proofs.upper.Lts as lts
-use Rattle.listing.proofs.lowest.Reads as lowest-reads
 
 lowest-requires : tie.Need-lowest-requires
 lowest-requires c κs = search needs

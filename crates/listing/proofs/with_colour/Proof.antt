@@ -1,12 +1,7 @@
 use Rattle.listing.proofs.Spans.{coloured}
-use native.Mathlib.Omega.{arith}
 use borrow.Author.Needs.{needs}
 use Rattle.listing.proofs.with_colour.Statement.{statement}
 use Rattle.listing.proofs.with_colour.Tie as tie
-use Rattle.listing.proofs.with_colour.Reads as reads
-use Rattle.listing.proofs.with_colour.Lts as lts
-use Rattle.masks.proofs.set_has.Reads as set-has-reads
-use Rattle.masks.proofs.set_with_if.Reads as set-with-if-reads
 
 set-has-requires : tie.Need-set-has-requires
 set-has-requires c κs = search needs
