@@ -1,5 +1,3 @@
-pub mod Looks
 pub mod Appending
-pub mod Spans
 pub mod Turns
 pub mod Steps

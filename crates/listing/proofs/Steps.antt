@@ -28,9 +28,10 @@ use Rattle.candidates.proofs.Candidates.{colours-few}
 use Rattle.candidates.proofs.Full.{inside-colours}
 use Rattle.candidates.proofs.Live.{part-unwanted, largest-within, in-largest, live-less, live-both, live-found, absent-in}
 use Rattle.listing.specs.declared.Counts.{Counts}
-use Rattle.listing.specs.Listing.{Hued, PartsOf, OnCycles, upper, Passed, Settled, Listed}
+use Rattle.listing.specs.Listing.{Hued, PartsOf, OnCycles, Passed, Settled, Listed}
 use Rattle.listing.proofs.Appending.{hue-is, set-edges, set-listed}
-use Rattle.listing.proofs.Spans.{upper-le, span-has, span-in}
+use Rattle.looks.specs.Spans.{upper}
+use Rattle.looks.proofs.Spans.{upper-le, span-has, span-in}
 use Rattle.listing.proofs.Turns.{counts-are, otherHues, sameCount, otherMasks, sameMasks, passed, live-set, listed-accepting, listed-rejecting}
 
 nothing : (y : ℕ) → inside y 0 ≡ true → y ≡ 0

@@ -38,13 +38,6 @@ pub record OnCycles (p : Policy) (m e : ℕ) : Type 0 where
   pub within : inside e m ≡ true
   pub cycles : (x : ℕ) → isCycle p x ≡ true → inside x m ≡ true → inside x e ≡ true
 
--- ---- the span of a set c of the colours u, from `upper` up to c: the sets of these colours that lack the lowest colour that c lacks, and have of the higher ones those of c
-unfoldable pub lowest : ℕ → ℕ → ℕ
-lowest u c = bitAnd (u - c) (256 - (u - c))
-
-unfoldable pub upper : ℕ → ℕ → ℕ
-upper u c = bitAnd c (256 - lowest u c)
-
 -- nothing of the root r is listed at the set x: no cycle has exactly these colours, or no listed one of the other verdict has them all, or none is wanted. `other` are the listed
 -- cycles of the other verdict than v and `hues` their colours, `same` are those of the verdict v, and `many` of these are listed
 abbrev pub Passed : Policy → ℕ → Bool → List ℕ → List ℕ → List ℕ → ℕ → ℕ → Type 0

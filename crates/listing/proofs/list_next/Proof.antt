@@ -1,5 +1,5 @@
 use Rattle.listing.proofs.Steps.{left-le, step-outside, at-closed, at-passed, at-lacking, at-jump, at-looked}
-use Rattle.listing.proofs.Spans.{upper-le}
+use Rattle.looks.proofs.Spans.{upper-le}
 use Rattle.lists.proofs.Bools.{not-true, unnot}
 use lib.Seq.{length-take-le}
 use lib.ListN.{getD}

@@ -1,4 +1,4 @@
-use Rattle.listing.proofs.Spans.{below-alike}
+use Rattle.looks.proofs.Spans.{below-alike}
 use lib.ListN.{getD}
 use mathlib.Core.Logic.{inl, inr}
 use mathlib.Core.Path.{refl}
