@@ -15,6 +15,7 @@ use Rattle.lists.proofs.Bools.{test, eqb≡}
 use Rattle.lists.proofs.Lists.{mem-at}
 use Rattle.masks.specs.Masks.{inside}
 use Rattle.masks.proofs.Bits.{has-none, inside-refl, inside-trans, inside-le}
+use Rattle.masks.proofs.Subsets.{below-inside}
 use Rattle.policy.specs.declared.Policy.{Policy}
 use Rattle.policy.specs.Policies.{coloursOf, inFamily, accepting}
 use Rattle.policy.specs.ByColour.{edgesIn, tableEdgesTo, tableEdges, tableColours}
@@ -339,3 +340,16 @@ module _ {p : Policy} {states letters : ℕ} {heads out into by : List ℕ} (t :
 -- the colours of what was found
 pub on-colours : (p : Policy) (c m e : ℕ) → inside e m ≡ true → inside m (edgesIn p c) ≡ true → inside (coloursOf p e) c ≡ true
 on-colours p c m e i em = inside-trans (coloursOf p e) (coloursOf p (edgesIn p c)) c (colours-up p e (edgesIn p c) (inside-trans e m (edgesIn p c) i em)) (edges-in-colours p c)
+
+-- ---- sets that are not of the root's colours
+pub left-outside : {p : Policy} {states letters : ℕ} {heads out into by : List ℕ} (t : PartsOf p states letters heads out into by) (r used : ℕ) (eu : used ≡ coloursOf p r) (a₀ ah₀ r₀ rh₀ live : List ℕ) (k : Counts) (left next : ℕ)
+    → next ≤ left → left ≤ used → ((x : ℕ) → next ≤ x → x < left → inside x used ≡ false) → Listed p by r (used - left) a₀ ah₀ r₀ rh₀ live k → Listed p by r (used - next) a₀ ah₀ r₀ rh₀ live k
+left-outside t r used eu a₀ ah₀ r₀ rh₀ live k left next l h none s = passed t r used eu a₀ ah₀ r₀ rh₀ live k true next left l h (λ x a b i. absurd (true≢false (sym i ∙ none x a b))) s
+
+-- between a set of the colours u and the next one below it there is none
+pub none-between : (u left : ℕ) → inside left u ≡ true → (x : ℕ) → bitAnd (left - 1) u + 1 ≤ x → x < left → inside x u ≡ false
+none-between u left i x a b = go (test (inside x u))
+  where
+    go : (inside x u ≡ true) ⊎ (inside x u ≡ false) → inside x u ≡ false
+    go (inl t) = absurd (omega (arith, a, below-inside left u x i t b))
+    go (inr f) = f

@@ -7,14 +7,12 @@ ghost use mathlib.Core.List.{List, map, List·Memᴰ};
 ghost use Prim.Native.Nat.{ℕ, _+_, _-_, _<_, _≤_};
 ghost use lib.Dec.{eqb};
 ghost use lib.ListN.{length, getD, take};
-ghost use Rattle.lists.specs.Bools.{differs};
-ghost use Rattle.lists.specs.Lists.{any};
 ghost use Rattle.policy.specs.declared.Policy.{Policy};
 ghost use Rattle.policy.specs.Policies.{coloursOf, inFamily, legal};
 ghost use Rattle.policy.specs.ByColour.{byColour, edgesIn, tableColours};
 ghost use Rattle.components.specs.Components.{largestIn};
 ghost use Rattle.forest.specs.Forest.{roots};
-ghost use Rattle.candidates.specs.Candidates.{covers, mayHold, areLong, wanted, isOpen, withCycle, withCycles, Live};
+ghost use Rattle.candidates.specs.Candidates.{withCycle, withCycles, Live};
 ghost use Rattle.masks.specs.Masks.{inside};
 ghost use Rattle.looks.specs.Spans.{upper};
 ghost use Rattle.listing.specs.Listing.{Hued, PartsOf, unionTo, OnCycles, Settled, Listed, lacksRoom, Outcome};
@@ -500,10 +498,14 @@ fn list_next(
     }
 }
 
-// The sets to look at are those below: all sets below the colours `used` of the root, or none where all that cycles can have share its verdict.
+// The sets to look at are those below: all sets below the colours `used` of the root, or none where all that cycles can have share its verdict. Few
+// are not looked at.
 fn sets_left(by: &[u64; 9], family: &[bool; 256], used: u8) -> u8
     ensures { λ r. ⌜ (r ≡ used) ⊎ ((r ≡ 0) × ((s : ℕ) → s < used → inside s used ≡ true → ((s ≡ 0) × (getD (now (by .entry)) 8 0 ≡ 0)) ⊎ (getD (now (family .entry)) s false ≡ getD (now (family .entry)) used false))) ⌝ }
 {
+    if used < 16 {
+        return used;
+    }
     if looks::is_uniform(
         family,
         looks::first_from(by, 0),
@@ -513,6 +515,16 @@ fn sets_left(by: &[u64; 9], family: &[bool; 256], used: u8) -> u8
         return 0;
     }
     used
+}
+
+// The sets left below `left`, but for some that are not of the colours `used`: where `left` is of these, the next one below is one less, with what it has of them.
+fn next_left(used: u8, left: u8) -> u8
+    ensures { λ r. ⌜ (r ≤ left) × ((x : ℕ) → r ≤ x → x < left → inside x used ≡ false) ⌝ }
+{
+    if (0 < left) & masks::set_inside(left, used) {
+        return ((left - 1) & used) + 1;
+    }
+    left
 }
 
 // The root alone is listed.
@@ -612,7 +624,7 @@ fn fill_lists(
             listed,
         );
         listed = step.counts;
-        left = step.left;
+        left = next_left(used, step.left);
     }
     Listing {
         counts: listed,

@@ -1,4 +1,4 @@
-use Rattle.listing.proofs.Steps.{left-most, left-listed}
+use Rattle.listing.proofs.Steps.{left-most, left-listed, left-outside}
 use Rattle.listing.proofs.Turns.{room-some, outcome-whole, outcome-part}
 use Rattle.listing.proofs.Appending.{hue-is}
 use Rattle.listing.specs.Listing.{PartsOf, Listed}
@@ -85,19 +85,25 @@ list-next-requires c κs =
     let o = c .before .before .before .before .before .before .before .before .before .before .before .before .before .before .before .before .before .before .before .before .begin .kept in
     ((s .pre .0 .0, s .pre .0 .1), ((l .accepting-hued, room .0, omega (arith, room .0, at .inv .2, at .inv .3, o .1 .1 .1 .0, o .1 .1 .1 .1 .0, s .pre .1 .0 .1)), ((l .rejecting-hued, room .1, omega (arith, room .1, at .inv .4, at .inv .5, o .1 .1 .1 .1 .1 .0, o .1 .1 .1 .1 .1 .1 .0, s .pre .1 .0 .3)), (omega (arith, c .before .before .before .before .before .before .before .before .loop-test .taken, at .inv .0), omega (arith, at .inv .6, s .pre .1 .1 .0, c .before .before .before .before .before .before .before .before .before .before .before .before .before .before .before .before .before .before .before .before .before .before .before .before .before .before .colours-in .ensures)))))
 
+next-left-requires : tie.Need-next-left-requires Inv-loop μ-loop
+next-left-requires c κs = search needs
+
 loop-less : tie.Need-loop-less Inv-loop μ-loop
-loop-less c = let o = c .before .before .before .before .before .before .before .before .before .before .before .list-next in omega (arith, o .ensures .1, c .before .before .before .before .before .before .before .before .before .before .before .before .before .before .before .before .before .before .before .before .loop-test .taken)
+loop-less c = let o = c .before .before .before .before .before .before .before .before .before .before .before .before .list-next in omega (arith, o .ensures .1, c .next-left .ensures .0, c .before .before .before .before .before .before .before .before .before .before .before .before .before .before .before .before .before .before .before .before .before .loop-test .taken)
 
 loop-again : tie.Need-loop-again Inv-loop μ-loop
 loop-again c =
-    let at = c .before .before .before .before .before .before .before .before .before .before .before .before .before .before .before .before .before .before .before .before .before .loop in
+    let s = c .before .before .before .before .before .before .before .before .before .before .before .before .before .before .before .before .before .before .before .before .before .before .before .before .before .before .before .before .before .before .before .before .before .before .before .before .before .before .before .before .before .before .before .before .before .before .before in
+    let at = c .before .before .before .before .before .before .before .before .before .before .before .before .before .before .before .before .before .before .before .before .before .before .loop in
     let i = at .inv in
-    let o = c .before .before .before .before .before .before .before .before .before .before .before .list-next in
-    let used = c .before .before .before .before .before .before .before .before .before .before .before .before .before .before .before .before .before .before .before .before .before .before .before .before .before .before .before .before .before .before .before .before .before .before .before .before .before .before .colours-in .result in (
-      omega (arith, o .ensures .1, c .before .before .before .before .before .before .before .before .before .before .before .before .before .before .before .before .before .before .before .before .loop-test .taken, i .0),
+    let o = c .before .before .before .before .before .before .before .before .before .before .before .before .list-next in
+    let used = c .before .before .before .before .before .before .before .before .before .before .before .before .before .before .before .before .before .before .before .before .before .before .before .before .before .before .before .before .before .before .before .before .before .before .before .before .before .before .before .colours-in .result in
+    let left = c .next-left in (
+      omega (arith, o .ensures .1, left .ensures .0, c .before .before .before .before .before .before .before .before .before .before .before .before .before .before .before .before .before .before .before .before .before .loop-test .taken, i .0),
       λ p t f.
-          let n : used - at .left ≡ used - 1 - (at .left - 1) = omega (arith, c .before .before .before .before .before .before .before .before .before .before .before .before .before .before .before .before .before .before .before .before .loop-test .taken, i .0) in
-          o .ensures .0 p (c .before .before .before .before .before .before .before .before .before .before .before .before .before .before .before .before .before .before .before .before .before .before .before .before .before .before .before .before .before .before .before .before .before .before .before .before .before .before .before .before .before .before .before .before .before .before .args .root) t f (used-is (c .before .before .before .before .before .before .before .before .before .before .before .before .before .before .before .before .before .before .before .before .before) p t) (subst (λ (x : ℕ). Listed p (c .before .before .before .before .before .before .before .before .before .before .before .before .before .before .before .before .before .before .before .before .before .before .before .before .before .before .before .before .before .before .before .before .before .before .before .before .before .before .before .before .before .before .before .before .before .before .args .by .now) (c .before .before .before .before .before .before .before .before .before .before .before .before .before .before .before .before .before .before .before .before .before .before .before .before .before .before .before .before .before .before .before .before .before .before .before .before .before .before .before .before .before .before .before .before .before .before .args .root) x (at .accepting) (at .accepted) (at .rejecting) (at .rejected) (at .live) (at .listed)) n (i .1 p t f)),
+          let n : used - at .left ≡ used - 1 - (at .left - 1) = omega (arith, c .before .before .before .before .before .before .before .before .before .before .before .before .before .before .before .before .before .before .before .before .before .loop-test .taken, i .0) in
+          left-outside t (s .args .root) used (used-is (c .before .before .before .before .before .before .before .before .before .before .before .before .before .before .before .before .before .before .before .before .before .before) p t) (o .last .1 .1 .1 .1 .1 .1 .1 .1 .1 .0) (o .last .1 .1 .1 .1 .1 .1 .1 .1 .1 .1 .0) (o .last .1 .1 .1 .1 .1 .1 .1 .1 .1 .1 .1 .0) (o .last .1 .1 .1 .1 .1 .1 .1 .1 .1 .1 .1 .1 .0) (o .last .1 .1 .1 .1 .1 .1 .1 .1 .1 .1 .1 .1 .1 .0) (o .result .counts) (o .result .left) (left .result) (left .ensures .0) (omega (arith, o .ensures .1, c .before .before .before .before .before .before .before .before .before .before .before .before .before .before .before .before .before .before .before .before .before .loop-test .taken, i .0)) (left .ensures .1)
+          (o .ensures .0 p (s .args .root) t f (used-is (c .before .before .before .before .before .before .before .before .before .before .before .before .before .before .before .before .before .before .before .before .before .before) p t) (subst (λ (x : ℕ). Listed p (s .args .by .now) (s .args .root) x (at .accepting) (at .accepted) (at .rejecting) (at .rejected) (at .live) (at .listed)) n (i .1 p t f))),
       o .kept .1 .1 .1 .1 .1 .1 .1 .1 .1 .0 ∙ i .2,
       o .kept .1 .1 .1 .1 .1 .1 .1 .1 .1 .1 .0 ∙ i .3,
       o .kept .1 .1 .1 .1 .1 .1 .1 .1 .1 .1 .1 .0 ∙ i .4,
@@ -142,6 +148,7 @@ fill-lists-spec =
     returns
     sub-list-next
     list-next-requires
+    next-left-requires
     loop-less
     loop-again
     same-length-6
