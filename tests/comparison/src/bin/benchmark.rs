@@ -386,6 +386,8 @@ fn main() {
         include_str!("../../policies/few_nodes_4_quiet.hex"),
         include_str!("../../policies/few_nodes_5.hex"),
         include_str!("../../policies/few_nodes_27.hex"),
+        include_str!("../../policies/few_nodes_7.hex"),
+        include_str!("../../policies/few_nodes_16.hex"),
     ] {
         few_nodes("few nodes, found since", text);
     }
