@@ -1,6 +1,6 @@
--- What need not be searched. An edge set that is not wanted has no wanted cycle inside it, and one that lacks a colour of c has no cycle with exactly the colours c; where no listed
--- cycle of the other verdict has all the colours c, nothing is wanted. And the cycles with exactly the colours c are looked for among edges that are live: those on such cycles.
--- Assumes nothing.
+-- What need not be searched. An edge set that is not wanted has no wanted cycle inside it, nor a part of a cycle that is not wanted, and one that lacks a colour of c has no cycle with
+-- exactly the colours c; where no listed cycle of the other verdict has all the colours c, nothing is wanted. And the cycles with exactly the colours c are looked for among live
+-- edges, which have all cycles with colours in c. Assumes nothing.
 use Prim.Native.Nat.{ℕ, _<_}
 use native.Mathlib.Omega.{arith}
 use native.Mathlib.Decide.{ℕ-discrete}
@@ -138,7 +138,7 @@ closed-more u c hues k i f = go (test (areLong (length hues) k || any (inside c)
     go (inr q) = q
 
 -- ---- nothing is listed
-and-none : (b : Bool) → b && false ≡ false
+pub and-none : (b : Bool) → b && false ≡ false
 and-none true = refl
 and-none false = refl
 

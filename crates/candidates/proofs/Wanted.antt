@@ -26,6 +26,10 @@ use Rattle.forest.proofs.Children.{child, mem-opposed}
 use Rattle.candidates.proofs.LargerFirst.{Falling, falling-append}
 use Rattle.candidates.specs.Candidates.{covers, mayHold, areLong, wanted, isWanted, withCycle, withCycles}
 
+-- nothing lies inside the empty set
+pub in-none : (x : ℕ) → inside x 0 ≡ true → x ≡ 0
+in-none x i = omega (arith, inside-le x 0 i)
+
 getD-map : (f : ℕ → ℕ) (l : List ℕ) (i : ℕ) → i < length l → getD (map f l) i 0 ≡ f (getD l i 0)
 getD-map f [] i h = absurd (omega arith)
 getD-map f (x ∷ l) zero h = refl
@@ -66,10 +70,7 @@ module _ (p : Policy) where
       x-in = all-inside x e (λ f t. has-and f m y ∙ both (has m f) (has y f) (inside-all x m i f t) (inside-all x y up f t))
 
       some : e ≢ 0
-      some z = cycle-some p x (child p y x ch .cycle) (none x (subst (λ (n : ℕ). inside x n ≡ true) z x-in))
-        where
-          none : (x : ℕ) → inside x 0 ≡ true → x ≡ 0
-          none x i = omega (arith, inside-le x 0 i)
+      some z = cycle-some p x (child p y x ch .cycle) (in-none x (subst (λ (n : ℕ). inside x n ≡ true) z x-in))
 
       go : (any (covers e y) same ≡ true) ⊎ (any (covers e y) same ≡ false) → List·Memᴰ x same
       go (inl t) =

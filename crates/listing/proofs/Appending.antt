@@ -22,7 +22,7 @@ use Rattle.policy.proofs.ByColour.{table-edges-are, table-colours-are}
 use Rattle.graph.specs.Cycles.{isCycle}
 use Rattle.components.specs.Components.{largestIn}
 use Rattle.candidates.specs.Candidates.{wanted, isOpen, isWanted, withCycle, withCycles, withSet, Live}
-use Rattle.candidates.proofs.Live.{none-listed, unwanted-none, closed-none, largest-within, largest-cycle, in-largest, live-exact}
+use Rattle.candidates.proofs.Live.{and-none, none-listed, unwanted-none, closed-none, largest-within, largest-cycle, in-largest, live-exact}
 use Rattle.listing.specs.Listing.{Hued, PartsOf, unionTo, OnCycles}
 
 -- ---- a list with one more
@@ -100,15 +100,11 @@ module _ {p : Policy} {states letters : ℕ} {heads out into by : List ℕ} (s :
   unfolding withSet
   set-unwanted root c other same h = let m = bitAnd (edgesIn p c) root in sym (none-listed (coloursOf p) c other same (largestIn p m) (λ y k. go y k (ℕ-discrete (coloursOf p y) c)))
     where
-      none : (b : Bool) → b && false ≡ false
-      none true = refl
-      none false = refl
-
       go : (y : ℕ) → List·Memᴰ y (largestIn p (bitAnd (edgesIn p c) root)) → Dec (coloursOf p y ≡ c) → eqb (coloursOf p y) c && isWanted (coloursOf p) c y other same ≡ false
       go y k (no e) = ap (λ (b : Bool). b && isWanted (coloursOf p) c y other same) (neqb (coloursOf p y) c e)
       go y k (yes e) =
           let m = bitAnd (edgesIn p c) root in
-          ap (λ (b : Bool). eqb (coloursOf p y) c && b) (h y (largest-cycle p (s .graph .lawful) m y k) (inside-trans y m root (largest-within p (s .graph .lawful) m y k) (and-inside (edgesIn p c) root)) e) ∙ none (eqb (coloursOf p y) c)
+          ap (λ (b : Bool). eqb (coloursOf p y) c && b) (h y (largest-cycle p (s .graph .lawful) m y k) (inside-trans y m root (largest-within p (s .graph .lawful) m y k) (and-inside (edgesIn p c) root)) e) ∙ and-none (eqb (coloursOf p y) c)
 
   -- nor where the edge set is not wanted
   pub none-wanted : (c m : ℕ) (other hues same : List ℕ) → hues ≡ map (tableColours by) other → wanted c m other hues same ≡ false → same ≡ withCycles (tableColours by) c other same (largestIn p m)

@@ -27,6 +27,7 @@ use Rattle.components.specs.Components.{largestIn}
 use Rattle.candidates.specs.Candidates.{areLong, wanted, isOpen, isWanted, withCycles, candidatesTo, Live}
 use Rattle.candidates.proofs.Candidates.{colours-few}
 use Rattle.candidates.proofs.Full.{inside-colours}
+use Rattle.candidates.proofs.Wanted.{in-none}
 use Rattle.candidates.proofs.Live.{part-unwanted, largest-within, in-largest, live-less, live-both, live-found, absent-in}
 use Rattle.listing.specs.declared.Counts.{Counts}
 use Rattle.listing.specs.Listing.{Hued, PartsOf, OnCycles, Passed, Settled, Listed}
@@ -34,9 +35,6 @@ use Rattle.listing.proofs.Appending.{hue-is, set-edges, set-listed}
 use Rattle.looks.specs.Spans.{upper}
 use Rattle.looks.proofs.Spans.{upper-le, span-has, span-in}
 use Rattle.listing.proofs.Turns.{counts-are, otherHues, sameCount, otherMasks, sameMasks, passed, live-set, listed-accepting, listed-rejecting}
-
-nothing : (y : ℕ) → inside y 0 ≡ true → y ≡ 0
-nothing y i = omega (arith, inside-le y 0 i)
 
 -- the edges of no colour are the quiet ones
 none-to : (by : List ℕ) (n : ℕ) → tableEdgesTo by n 0 ≡ getD by 8 0
@@ -51,7 +49,7 @@ of-none by = none-to by 8
 -- no cycle is quiet where no edge is
 no-quiet : {p : Policy} {states letters : ℕ} {heads out into by : List ℕ} → PartsOf p states letters heads out into by → getD by 8 0 ≡ 0 → (y : ℕ) → isCycle p y ≡ true → coloursOf p y ≢ 0
 no-quiet {p} {by = by} t z y cy e =
-    cycle-some p y cy (nothing y (subst (λ (m : ℕ). inside y m ≡ true) (sym (set-edges t 0) ∙ of-none by ∙ z) (inside-colours p (t .graph .lawful) y 0 cy (subst (λ (d : ℕ). inside d 0 ≡ true) (sym e) (inside-refl 0)))))
+    cycle-some p y cy (in-none y (subst (λ (m : ℕ). inside y m ≡ true) (sym (set-edges t 0) ∙ of-none by ∙ z) (inside-colours p (t .graph .lawful) y 0 cy (subst (λ (d : ℕ). inside d 0 ≡ true) (sym e) (inside-refl 0)))))
 
 -- the lists with other live edges
 relive : {p : Policy} {by : List ℕ} {r n : ℕ} {a ah t th live live' : List ℕ} {k : Counts} → ((d : ℕ) → d < length live' → Live p r d (getD live' d 0)) → Listed p by r n a ah t th live k → Listed p by r n a ah t th live' k
@@ -144,7 +142,7 @@ module _ {p : Policy} {states letters : ℕ} {heads out into by : List ℕ} (t :
 
       gone : e ≡ 0 → (x : ℕ) → up ≤ x → x < c → inside x used ≡ true → (y : ℕ) → isCycle p y ≡ true → inside y r ≡ true → coloursOf p y ≢ x
       gone z x a b i y cy j w =
-          cycle-some p y cy (nothing y (subst (λ (m : ℕ). inside y m ≡ true) z (v .cycles y cy j (subst (λ (d : ℕ). inside d c ≡ true) (sym w) (span-in used c h small x i a (omega (arith, b)))))))
+          cycle-some p y cy (in-none y (subst (λ (m : ℕ). inside y m ≡ true) z (v .cycles y cy j (subst (λ (d : ℕ). inside d c ≡ true) (sym w) (span-in used c h small x i a (omega (arith, b)))))))
 
       go : (eqb e 0 ≡ true) ⊎ (eqb e 0 ≡ false) → Listed p by r (used - cond (eqb e 0) up c) a₀ ah₀ r₀ rh₀ live k
       go (inr f) = subst (λ (b : Bool). Listed p by r (used - cond b up c) a₀ ah₀ r₀ rh₀ live k) (sym f) next
@@ -299,7 +297,7 @@ left-listed {p} {by = by} t r used eu family ef {left} (inr q) {a₀} {ah₀} {r
 module _ {p : Policy} {states letters : ℕ} {heads out into by : List ℕ} (t : PartsOf p states letters heads out into by) where
   -- nothing is left
   pub settled-none : (v : Bool) (up c e left : ℕ) (other same : List ℕ) → e ≡ 0 → Settled p v up c e other same left
-  settled-none v up c e left other same z s a b i j = inl (λ y cy k _. cycle-some p y cy (nothing y (subst (λ (m : ℕ). inside y m ≡ true) z k)))
+  settled-none v up c e left other same z s a b i j = inl (λ y cy k _. cycle-some p y cy (in-none y (subst (λ (m : ℕ). inside y m ≡ true) z k)))
 
   -- nothing is passed
   pub settled-end : (v : Bool) (up c e left : ℕ) (other same : List ℕ) → left ≡ c → Settled p v up c e other same left

@@ -199,7 +199,7 @@ fn list_wanted(
     Cycles { count, edges: m }
 }
 
-// The set that is left after c: the next one, or the next one below the span where no cycle is left.
+// What is left after c: the sets below it, or where no edge is left those below its span.
 fn left_after(edges: u64, up: u8, c: u8) -> u8
     ensures { λ r. ⌜ r ≡ cond (eqb edges 0) up c ⌝ }
 {
@@ -211,7 +211,7 @@ fn left_after(edges: u64, up: u8, c: u8) -> u8
 
 // ---- what a search settles
 // After a search of the set c with the verdict v that left the edges e: the sets from the answer up to c are settled. That is told where all of them have this verdict, and of the
-// cycles found those that may be children of listed masks have colours below.
+// cycles found those that may be children of listed masks have colours below. Where they begin is undecided.
 fn past_settled(
     states: usize,
     letters: usize,

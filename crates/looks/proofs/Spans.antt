@@ -1,4 +1,4 @@
--- The span of a colour set: the sets from its upper colours up to it have these, and lie inside it. Assumes nothing.
+-- The span of a colour set: the sets from its upper colours up to it have these, and lie inside it. And what is asked of its sets, one after the other. Assumes nothing.
 use Prim.Native.Nat.{ℕ, _+_, _-_, _*_, _/_, _%_, _^_, _≤_, _<_}
 use native.Mathlib.Omega.{arith}
 use native.Mathlib.Decide.{ℕ-discrete, decLt}

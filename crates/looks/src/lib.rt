@@ -1,5 +1,5 @@
 // Looks at the lists of a root, and at a set of its colours: whether anything with these colours can be listed, and among which edges it is looked for. Inner layer: beside a list of
-// masks stand their colours.
+// masks stand their colours. What only saves searches is undecided: where an answer leaves sets out, what holds of them is promised, and to leave out fewer would do.
 ghost use mathlib.Core.Path.{_≡_};
 ghost use mathlib.Core.Logic.{_⊎_};
 ghost use mathlib.Core.Bool.{true, false, cond};
@@ -78,7 +78,7 @@ fn is_open(c: u8, hues: &[u8], same: usize) -> bool
     false
 }
 
-// Whether an open set can be told of two lists: by the masks of the other verdict than v. Beside them stand their colours.
+// The same by the colours of both lists, where c has the verdict v.
 pub fn is_open_for(v: bool, c: u8, accepted: &[u8], rejected: &[u8]) -> bool
     ensures { λ r. ⌜ r ≡ isOpen c (cond v (now (rejected .entry)) (now (accepted .entry))) (length (cond v (now (accepted .entry)) (now (rejected .entry)))) ⌝ }
 {
@@ -97,7 +97,7 @@ fn with_colour(used: u8, c: u8, i: u8) -> u8
     masks::set_with_if(c, i, masks::set_has(used, i))
 }
 
-// The live edges that the set c and those with one colour more have in common.
+// The live edges that the set c and those with one colour more have in common. Which edges these are is undecided; they are live for c.
 fn live_in(live: &[u64], used: u8, c: u8) -> u64
     requires { ⌜ (inside c used ≡ true) × (used < length (now live)) ⌝ }
     ensures { λ r. ⌜ ((p : Policy) (root : ℕ) → legal p ≡ true → ((d : ℕ) → d < length (now (live .entry)) → Live p root d (getD (now (live .entry)) d 0)) → Live p root c r) ⌝ }
@@ -109,7 +109,7 @@ fn live_in(live: &[u64], used: u8, c: u8) -> u64
     m
 }
 
-// Those of them with colours in c.
+// Those of them with colours in c; as undecided, and live for c.
 pub fn edges_of(by: &[u64; 9], live: &[u64], used: u8, c: u8) -> u64
     requires { ⌜ (inside c used ≡ true) × (used < length (now live)) ⌝ }
     ensures { λ r. ⌜ ((p : Policy) (root : ℕ) → legal p ≡ true → now (by .entry) ≡ byColour p → ((d : ℕ) → d < length (now (live .entry)) → Live p root d (getD (now (live .entry)) d 0)) → Live p root c r × (inside r (edgesIn p c) ≡ true)) ⌝ }
@@ -145,7 +145,7 @@ fn differs(a: bool, b: bool) -> bool
     b
 }
 
-// Whether all sets inside c, from one on, have the verdict v; without a branch, so that many are looked at together.
+// If yes, all sets inside c, from one on, have the verdict v; no is undecided. Without a branch, so that many are looked at together.
 pub fn is_uniform(family: &[bool; 256], from: u8, c: u8, v: bool) -> bool
     ensures { λ r. ⌜ (r ≡ true → (s : ℕ) → from ≤ s → s < c → inside s c ≡ true → getD (now (family .entry)) s false ≡ v) ⌝ }
 {
@@ -156,7 +156,7 @@ pub fn is_uniform(family: &[bool; 256], from: u8, c: u8, v: bool) -> bool
     same
 }
 
-// The first set from `up` on that a cycle can have the colours of: the empty one only where an edge is quiet.
+// A set from `up` on, and no cycle has the colours of a lower one: past the empty set where no edge is quiet.
 pub fn first_from(by: &[u64; 9], up: u8) -> u8
     ensures { λ r. ⌜ (up ≤ r) × (up < r → (up ≡ 0) × (r ≡ 1) × (getD (now (by .entry)) 8 0 ≡ 0)) ⌝ }
 {
@@ -166,7 +166,8 @@ pub fn first_from(by: &[u64; 9], up: u8) -> u8
     up
 }
 
-// Whether nothing is listed at any set from `up` up to c, where c has the verdict v and nothing is open for it: all of them that cycles can have are passed. Few are not looked at.
+// If yes, nothing is listed at any set from `up` up to c, where c has the verdict v: they have this verdict and nothing is open for them, or no cycle has their colours. No is
+// undecided; few sets are not looked at.
 pub fn is_passed(
     by: &[u64; 9],
     family: &[bool; 256],
@@ -189,7 +190,7 @@ pub fn is_passed(
 }
 
 // ---- what a search settles of it
-// Whether every listed mask of the other verdict with the colours `up` has the colours c too. `hues` are their colours.
+// If yes, every listed mask of the other verdict with the colours `up` has the colours c too; no is undecided. `hues` are their colours.
 pub fn are_above(up: u8, c: u8, hues: &[u8]) -> bool
     ensures { λ r. ⌜ (r ≡ true → (h : ℕ) → List·Memᴰ h (now (hues .entry)) → inside up h ≡ true → inside c h ≡ true) ⌝ }
 {
@@ -201,7 +202,8 @@ pub fn are_above(up: u8, c: u8, hues: &[u8]) -> bool
     true
 }
 
-// The set after x, where x may be a child of a listed mask and that set is more than `left`; c where it is not below c.
+// Sets from `left` up to c that are settled by the cycle x begin at the answer: above the colours of x where x may be a child of a listed mask, and else at `left`. Where they
+// begin is undecided; c settles none.
 fn past_wanted(
     by: &[u64; 9],
     x: u64,
