@@ -11,6 +11,7 @@ use Rattle.lists.specs.Lists.{greatest, lowest}
 
 pub greatest-le : (l : List ℕ) (x : ℕ) → Memᴰ x l → x ≤ greatest l
 unfolding greatest
+greatest-le [] x x3 = elim x3 [ ]
 greatest-le (k ∷ l) x (Memᴰ.head e) = omega (arith, e)
 greatest-le (k ∷ l) x (Memᴰ.tail m) = omega (arith, greatest-le l x m)
 
@@ -39,6 +40,8 @@ greatest-more t n h = ap greatest (ap (λ (k : ℕ). take k t) (add-one n) ∙ t
 
 pub lowest-le : (l : List ℕ) (x : ℕ) → Memᴰ x l → lowest l ≤ x
 unfolding lowest
+lowest-le [] x x3 = elim x3 [ ]
+lowest-le (k ∷ []) x (mathlib.Core.List.Memᴰ.tail m) = elim m [ ]
 lowest-le (k ∷ []) x (Memᴰ.head e) = omega (arith, e)
 lowest-le (k ∷ j ∷ l) x (Memᴰ.head e) = omega (arith, e)
 lowest-le (k ∷ j ∷ l) x (Memᴰ.tail m) = omega (arith, lowest-le (j ∷ l) x m)

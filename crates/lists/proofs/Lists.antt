@@ -26,6 +26,7 @@ module _ {A : Type 0} where
       go (inr f) ih = let r = ih (rw f at e) in (r.0, Memᴰ.tail r.1, r.2)
 
   pub some-any : (p : A → Bool) (l : List A) (x : A) → Memᴰ x l → p x ≡ true → any p l ≡ true
+  some-any p [] x x4 t = elim x4 [ ]
   some-any p (y ∷ ys) x (Memᴰ.head e) t = rw (← e, t)
   some-any p (y ∷ ys) x (Memᴰ.tail m) t = or_right (p y) (any p ys) (some-any p ys x m t)
 
@@ -41,6 +42,7 @@ module _ {A : Type 0} where
   none_true p (y ∷ ys) h = rw (h y (Memᴰ.head refl)) (none_true p ys (λ x m. h x (Memᴰ.tail m)))
 
   pub filter-mem : (p : A → Bool) (l : List A) (x : A) → Memᴰ x (filter p l) → Memᴰ x l × (p x ≡ true)
+  filter-mem p [] x m = elim m [ ]
   filter-mem p (y ∷ ys) x m = go (test (p y)) (filter-mem p ys x)
     where
       wrap : Memᴰ x ys × (p x ≡ true) → Memᴰ x (y ∷ ys) × (p x ≡ true)
@@ -55,6 +57,7 @@ module _ {A : Type 0} where
       go (inr f) ih = wrap (ih (rw f at m))
 
   pub mem-filter : (p : A → Bool) (l : List A) (x : A) → Memᴰ x l → p x ≡ true → Memᴰ x (filter p l)
+  mem-filter p [] x x4 t = elim x4 [ ]
   mem-filter p (y ∷ ys) x (Memᴰ.head e) t = rw (← e, t) (Memᴰ.head refl)
   mem-filter p (y ∷ ys) x (Memᴰ.tail m) t = go (test (p y)) (mem-filter p ys x m t)
     where
@@ -63,6 +66,7 @@ module _ {A : Type 0} where
       go (inr k) ih = rw k ih
 
   pub all-each : (p : A → Bool) (l : List A) → all p l ≡ true → (x : A) → Memᴰ x l → p x ≡ true
+  all-each p [] e x x4 = elim x4 [ ]
   all-each p (y ∷ ys) e x (Memᴰ.head k) = rw k (and_l (p y) (all p ys) e)
   all-each p (y ∷ ys) e x (Memᴰ.tail m) = all-each p ys (and_r (p y) (all p ys) e) x m
 
@@ -79,6 +83,7 @@ mem_below (suc n) x h = go (mem_below n x) (ℕ_discrete x n)
     go ih (no k) = Memᴰ.append_left (n ∷ []) (ih (omega arith))
 
 pub below-lt : (n x : ℕ) → Memᴰ x (below n) → x < n
+below-lt zero x m = elim m [ ]
 below-lt (suc n) x m = go (below-lt n x) (Memᴰ.append_cases (below n) m)
   where
     go : (Memᴰ x (below n) → x < n) → Memᴰ x (below n) ⊎ Memᴰ x (n ∷ []) → x < suc n
@@ -98,11 +103,13 @@ module _ {A : Type 0} where
   get_or-mem (x ∷ l) (suc i) d h = Memᴰ.tail (get_or-mem l i d (omega arith))
 
   pub mem-at : (l : List A) (d x : A) → Memᴰ x l → (i : ℕ) × (i < length l) × (get_or l i d ≡ x)
+  mem-at [] d x x3 = elim x3 [ ]
   mem-at (a ∷ l) d x (Memᴰ.head e) = (zero, omega arith, sym e)
   mem-at (a ∷ l) d x (Memᴰ.tail m) = let r = mem-at l d x m in (suc r.0, omega arith, r.2)
 
   -- a member that passes gives a position in range, whose entry passes
   pub position_at : (p : A → Bool) (d : A) (l : List A) (x : A) → Memᴰ x l → p x ≡ true → (position p l < length l) × (p (get_or l (position p l) d) ≡ true)
+  position_at p d [] x m t = elim m [ ]
   position_at p d (y ∷ l) x m t = go (test (p y)) (position_at p d l x)
     where
       go : (p y ≡ true) ⊎ (p y ≡ false) → (Memᴰ x l → p x ≡ true → (position p l < length l) × (p (get_or l (position p l) d) ≡ true)) → (position p (y ∷ l) < length (y ∷ l)) × (p (get_or (y ∷ l) (position p (y ∷ l)) d) ≡ true)
@@ -115,6 +122,7 @@ module _ {A : Type 0} where
 
 module _ {A B : Type 0} where
   pub flat-mem : (f : B → List A) (l : List B) (y : A) → Memᴰ y (flat (map f l)) → (x : B) × Memᴰ x l × Memᴰ y (f x)
+  flat-mem f [] y m = elim m [ ]
   flat-mem f (a ∷ l) y m = go (Memᴰ.append_cases (f a) m) (flat-mem f l y)
     where
       go : Memᴰ y (f a) ⊎ Memᴰ y (flat (map f l)) → (Memᴰ y (flat (map f l)) → (x : B) × Memᴰ x l × Memᴰ y (f x)) → (x : B) × Memᴰ x (a ∷ l) × Memᴰ y (f x)
@@ -122,14 +130,17 @@ module _ {A B : Type 0} where
       go (inr k) ih = let r = ih k in (r.0, Memᴰ.tail r.1, r.2)
 
   pub mem-flat : (f : B → List A) (l : List B) (x : B) (y : A) → Memᴰ x l → Memᴰ y (f x) → Memᴰ y (flat (map f l))
+  mem-flat f [] x y x4 k = elim x4 [ ]
   mem-flat f (a ∷ l) x y (Memᴰ.head e) k = Memᴰ.append_left (flat (map f l)) (subst (λ (z : B). Memᴰ y (f z)) e k)
   mem-flat f (a ∷ l) x y (Memᴰ.tail m) k = Memᴰ.append_right (f a) (mem-flat f l x y m k)
 
   pub map-mem : (f : B → A) (l : List B) (y : A) → Memᴰ y (map f l) → (x : B) × Memᴰ x l × (y ≡ f x)
+  map-mem f [] y x' = elim x' [ ]
   map-mem f (a ∷ l) y (Memᴰ.head e) = (a, Memᴰ.head refl, e)
   map-mem f (a ∷ l) y (Memᴰ.tail m) = let r = map-mem f l y m in (r.0, Memᴰ.tail r.1, r.2)
 
   pub mem-map : (f : B → A) (l : List B) (x : B) → Memᴰ x l → Memᴰ (f x) (map f l)
+  mem-map f [] x x3 = elim x3 [ ]
   mem-map f (a ∷ l) x (Memᴰ.head e) = Memᴰ.head (ap f e)
   mem-map f (a ∷ l) x (Memᴰ.tail m) = Memᴰ.tail (mem-map f l x m)
 
@@ -150,6 +161,7 @@ module _ {A : Type 0} where
   first-cases d (x ∷ xs) = inr (Memᴰ.head refl)
 
   pub first-mem : (d : A) (l : List A) (y : A) → Memᴰ y l → Memᴰ (first_or d l) l
+  first-mem d [] y m = elim m [ ]
   first-mem d (x ∷ xs) y m = Memᴰ.head refl
 
   pub first-at : (d : A) (l : List A) → first_or d l ≡ get_or l 0 d
@@ -157,6 +169,7 @@ module _ {A : Type 0} where
   first-at d (x ∷ l) = refl
 
 pub first_le : (d : ℕ) (l : List ℕ) → Ascending l → (y : ℕ) → Memᴰ y l → first_or d l ≤ y
+first_le d [] s y x'' = elim x'' [ ]
 first_le d (x ∷ xs) s y (Memᴰ.head e) = omega arith
 first_le d (x ∷ xs) s y (Memᴰ.tail k) = omega (arith, s.0 y k)
 

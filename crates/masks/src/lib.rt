@@ -1,4 +1,6 @@
 // Sets as bit masks: edge sets in 64 bits, colour sets in 8.
+#![tactic(auto)]
+
 ghost use Rattle.std.specs.Prelude.{◌≡◌, cond, ◌-◌, ◌<◌, ◌≤◌, ◌^◌};
 ghost use Rattle.std.specs.Int.Bits.{bit_and, bit_or};
 ghost use Rattle.masks.specs.Masks.{has, insert, minus, inside, properly};

@@ -1,4 +1,6 @@
 // Endless repetition: what recurs in it, and the search for the round after which it repeats. Definitions in specs/, laws in proofs/.
+#![tactic(auto)]
+
 ghost use Rattle.std.specs.Prelude.{◌≡◌, ◌<◌};
 ghost use Rattle.recurrence.specs.Search.{search_from, search_next};
 

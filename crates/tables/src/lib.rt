@@ -1,4 +1,6 @@
 // Lent tables: how many places count; every place of one set to 0, at the three widths that tables have, or those past a beginning; a part of one copied to a later place; and an entry as a place.
+#![tactic(auto)]
+
 ghost use Rattle.std.specs.Prelude.{◌≡◌, ℕ, ◌+◌, ◌-◌, ◌<◌, ◌≤◌, min, length, take};
 ghost use mathlib.Core.List.{Memᴰ};
 ghost use Rattle.std.proofs.lemmas.List.Edits.{sets};

@@ -8,22 +8,12 @@ use mir.Val.{bool_byte}
 use borrow.Author.Rules.{rules}
 use Rattle.masks.specs.Masks.{insert}
 use Rattle.masks.proofs.Bits.{shl_one}
-use Rattle.masks.proofs.set_with_if.Statement.{statement}
-use Rattle.masks.proofs.set_with_if.Tie as tie
-
-cast-result : tie.Need-overflow-cast-result
-cast-result c = search rules
-
-shl-result : tie.Need-overflow-shl-result
-shl-result c = search rules
+use Rattle.masks.proofs.set_with_if.Goals as goal
 
 flagged : (s c : ℕ) (b : Bool) → c < 8 → bit_or s (bool_byte b * 2 ^ c % 2 ^ 8) ≡ cond b (insert s c) s
 unfolding insert
 flagged s c true h = ap (λ (x : ℕ). bit_or s x) (shl_one 8 c h)
 flagged s c false h = ap (λ (x : ℕ). bit_or s (x % 2 ^ 8)) (zero-mul (2 ^ c)) ∙ or_zero_r s
 
-returns : tie.Need-returns
+pub returns : goal.returns
 returns c = flagged c.args.s c.args.c c.args.b c.requires
-
-pub set-with-if-spec : {M : Type 1} → statement M
-set-with-if-spec = tie.close (tie.spec cast-result shl-result returns)

@@ -8,22 +8,12 @@ use mir.Val.{bool_byte}
 use borrow.Author.Rules.{rules}
 use Rattle.masks.specs.Masks.{insert}
 use Rattle.masks.proofs.Bits.{shl_one}
-use Rattle.masks.proofs.with_if.Statement.{statement}
-use Rattle.masks.proofs.with_if.Tie as tie
-
-cast-result : tie.Need-overflow-cast-result
-cast-result c = search rules
-
-shl-result : tie.Need-overflow-shl-result
-shl-result c = search rules
+use Rattle.masks.proofs.with_if.Goals as goal
 
 flagged : (m e : ℕ) (b : Bool) → e < 64 → bit_or m (bool_byte b * 2 ^ e % 2 ^ 64) ≡ cond b (insert m e) m
 unfolding insert
 flagged m e true h = ap (λ (x : ℕ). bit_or m x) (shl_one 64 e h)
 flagged m e false h = ap (λ (x : ℕ). bit_or m (x % 2 ^ 64)) (zero-mul (2 ^ e)) ∙ or_zero_r m
 
-returns : tie.Need-returns
+pub returns : goal.returns
 returns c = flagged c.args.m c.args.e c.args.b c.requires
-
-pub with-if-spec : {M : Type 1} → statement M
-with-if-spec = tie.close (tie.spec cast-result shl-result returns)

@@ -1,0 +1,7 @@
+use borrow.Author.Rules.{rules}
+use Rattle.masks.specs.Masks.{has}
+use Rattle.masks.proofs.has.Goals as goal
+
+pub returns : goal.returns
+unfolding has
+returns c = search rules

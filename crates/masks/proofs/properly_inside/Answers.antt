@@ -1,0 +1,12 @@
+use mathlib.Core.Path.{refl}
+use borrow.Author.Tests.{eq-eqb, ne_eqb}
+use Rattle.masks.specs.Masks.{inside, properly}
+use Rattle.masks.proofs.properly_inside.Goals as goal
+
+pub returns-then-a-b : goal.returns-then-a-b
+unfolding properly inside
+returns-then-a-b c = rw (eq-eqb _ _ c.if-a-b.true) refl
+
+pub returns-else-a-b : goal.returns-else-a-b
+unfolding properly inside
+returns-else-a-b c = rw (ne_eqb _ _ c.if-a-b.false) refl
