@@ -8,7 +8,7 @@ use builder::Translation;
 use reading::Outcome;
 
 // ---- reading
-#[derive(Drop)]
+#[derive(Clone, Copy)]
 pub struct ReadingValues {
     pub number: u8,
     pub offset: usize,
@@ -27,7 +27,7 @@ pub fn of_reading(o: Outcome) -> ReadingValues
 }
 
 // ---- reading a text
-#[derive(Drop)]
+#[derive(Clone, Copy)]
 pub struct TextValues {
     pub number: u8,
     pub shared: usize,
@@ -47,7 +47,7 @@ pub fn of_text(o: hanoi::Outcome) -> TextValues
 
 // ---- translating
 // The counts: how many nodes and built states there are, and the start.
-#[derive(Drop)]
+#[derive(Clone, Copy)]
 pub struct TranslationValues {
     pub number: u8,
     pub counts: [u16; 3],

@@ -1,12 +1,14 @@
 // What a player attracts in the game of row tables, in place: the mark of a state says what set it is in, and the letter that attracted it is kept beside it.
 // A game is four tables, and what is attracted is written to the marks and the letters, so a function that walks a list of states has nine parameters.
+#![tactic(auto)]
+
 ghost use Rattle.std.specs.Prelude.{◌≡◌, ℕ, ◌+◌, ◌*◌, ◌≤◌, ◌<◌, length, get_or};
 ghost use Rattle.orders.specs.Orders.{Lists};
 ghost use Rattle.attracting.specs.Attracting.{is_in, Apart, passing, First, owns, Rows, from_of, Visited, Swept, Attracts, Waits};
 
 // What is attracted, in a game with so many letters: at a level, for a player (the plant is true), states marked live or also, to those marked to; and, if
 // rows, to rows of that level too. The arena are the states with a mark of at least floor.
-#[derive(Drop)]
+#[derive(Clone, Copy)]
 pub struct Task {
     pub letters: usize,
     pub level: u8,

@@ -10,7 +10,7 @@ use filling::Building;
 use policy::{Policy, Shape};
 
 // How many nodes and built states there are, and the state begun in; or document 01's number.
-#[derive(Drop)]
+#[derive(Clone, Copy)]
 pub enum Translation {
     Translated(u16, u16, u16),
     Refused(u8),

@@ -1,4 +1,6 @@
 // The fixed order of the 256 colour sets: falling number of members, then ascending mask. No table: a set is found by counting.
+#![tactic(auto)]
+
 ghost use Rattle.std.specs.Prelude.{◌≡◌, ◌-◌, ◌≤◌, length, get_or};
 ghost use Rattle.colour_sets.specs.Order.{size, sized, set_at};
 

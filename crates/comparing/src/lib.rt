@@ -10,7 +10,7 @@ ghost use Rattle.comparing.specs.Pairs.{Comparable, Searchable, Asked, exactly_b
 use policy::Policy;
 
 // Whether every cycle has the same verdict in both; or document 01's number.
-#[derive(Drop)]
+#[derive(Clone, Copy)]
 pub enum Comparison {
     Same,
     Different,

@@ -13,7 +13,7 @@ ghost use Rattle.decomposition.specs.NodeTables.{NodeColumns, node_tables, Fills
 use policy::Policy;
 
 // What filling the node tables answers: how many nodes there are, and the lowest priority of them, which an edge in no cycle has; or that they do not fit.
-#[derive(Drop)]
+#[derive(Clone, Copy)]
 pub enum Filled {
     Nodes(usize, u8),
     TooMany,
@@ -61,7 +61,7 @@ fn height(priority: u8, root: u8) -> u8
 }
 
 // Whether priorities begin at 0, and whether some root is accepting.
-#[derive(Drop)]
+#[derive(Clone, Copy)]
 struct Beginning {
     from_zero: bool,
     accepting: bool,

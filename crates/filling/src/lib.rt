@@ -15,7 +15,7 @@ ghost use Rattle.filling.specs.Filling.{Sized, Builds};
 use policy::{Policy, Shape};
 
 // How many built states there are, and the start; or that they do not fit.
-#[derive(Drop)]
+#[derive(Clone, Copy)]
 pub enum Building {
     Whole(usize, u16),
     TooMany,

@@ -1,6 +1,8 @@
 // Paths and cycles of a policy's graph, which is given by the numbers of states and letters and by the heads, the targets
 // of its edges: a policy itself would be copied at each call. A set of states is a mask, as a set of edges is. The rows of
 // an edge set m: row v has the states that v reaches inside m by one edge or more.
+#![tactic(auto)]
+
 ghost use Rattle.std.specs.Prelude.{◌≡◌, ◌+◌, ◌*◌, ◌<◌, ◌≤◌, length, get_or};
 ghost use Rattle.policy.specs.declared.Policy.{Policy};
 ghost use Rattle.graph.specs.Through.{GraphOf, Rows, own_edges, leaving, entering, with_target, edge_row, edge_rows, AreStates, join_row, join_rows, states_on_cycles, cycle_states, between};

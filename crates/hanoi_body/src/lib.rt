@@ -8,7 +8,7 @@ ghost use Rattle.hanoi_body.specs.Body.{ReadsBody};
 use hanoi_tokens::{Taken, Wanted};
 
 // The set of the marks in braces.
-#[derive(Drop)]
+#[derive(Clone, Copy)]
 struct Marks {
     pub at: usize,
     pub marks: u32,
@@ -16,7 +16,7 @@ struct Marks {
 }
 
 // An edge: its target, and the set of its marks.
-#[derive(Drop)]
+#[derive(Clone, Copy)]
 struct Step {
     pub at: usize,
     pub target: u32,
@@ -25,7 +25,7 @@ struct Step {
 }
 
 // Edges by number, and 0 past them. Read up to a place; or the text stops being one of the subset there.
-#[derive(Drop)]
+#[derive(Clone, Copy)]
 pub struct Body {
     pub at: usize,
     pub target: [u8; 64],

@@ -5,7 +5,7 @@ ghost use Rattle.hanoi_formula.specs.Formula.{unmarked_at, mark_lanes, ReadsMark
 
 use hanoi_tokens::Wanted;
 
-#[derive(Drop)]
+#[derive(Clone, Copy)]
 pub struct Mark {
     pub at: usize,
     pub mark: u32,
@@ -13,7 +13,7 @@ pub struct Mark {
 }
 
 // Where an operand ends, with the lanes in which it holds and whether it bars bytes of names; or a parenthesis that opens.
-#[derive(Drop)]
+#[derive(Clone, Copy)]
 pub enum Operand {
     Opens(usize),
     Value(usize, u64, bool),
@@ -21,7 +21,7 @@ pub enum Operand {
 }
 
 // What follows an operand.
-#[derive(Drop)]
+#[derive(Clone, Copy)]
 pub enum Sign {
     And(usize),
     Or(usize),
@@ -31,7 +31,7 @@ pub enum Sign {
 }
 
 // The lanes in which the formula holds.
-#[derive(Drop)]
+#[derive(Clone, Copy)]
 pub struct Valued {
     pub at: usize,
     pub value: u64,

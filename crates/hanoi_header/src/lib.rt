@@ -9,7 +9,7 @@ ghost use Rattle.hanoi_header.specs.Header.{Offered, ReadsField, ReadsVersion, u
 use hanoi_tokens::{Number, Taken, Wanted};
 
 // What the header says, read up to the formula; or the text stops being one of the subset at `at`.
-#[derive(Drop)]
+#[derive(Clone, Copy)]
 pub struct Header {
     pub at: usize,
     pub states: u32,
@@ -20,7 +20,7 @@ pub struct Header {
 }
 
 // The header up to the number of names.
-#[derive(Drop)]
+#[derive(Clone, Copy)]
 struct Counts {
     at: usize,
     states: u32,
@@ -30,7 +30,7 @@ struct Counts {
 }
 
 // Where some names stand in the text, each from its start on and before its end.
-#[derive(Drop)]
+#[derive(Clone, Copy)]
 struct Spans {
     starts: [usize; 3],
     ends: [usize; 3],

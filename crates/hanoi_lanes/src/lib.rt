@@ -5,7 +5,7 @@ ghost use Rattle.masks.specs.Masks.{has};
 ghost use Rattle.hanoi_lanes.specs.Lanes.{count_at, CountsUp, CountsDown, Starts, TellsOperand, TellsAnd, TellsOr, TellsOpens, TellsCloses};
 
 // The value so far; the lanes in which what is read counts; and of the others those that pass by the rest of a conjunction, where the others pass by that of a disjunction.
-#[derive(Drop)]
+#[derive(Clone, Copy)]
 pub struct Lanes {
     pub value: u64,
     pub reading: u64,

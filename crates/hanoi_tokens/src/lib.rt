@@ -5,14 +5,14 @@ ghost use Rattle.hanoi.specs.Prefixes.{prefix_of};
 ghost use Rattle.hanoi_tokens.specs.Tokens.{Skips, Begins, Spells, ReadsWord, Within, takes_by, ends_by, stopped_at, unnamed_at, ReadsDigits, ReadsNumber, ReadsName};
 
 // Read up to a place; or the text stops being one of the subset there.
-#[derive(Drop)]
+#[derive(Clone, Copy)]
 pub struct Taken {
     pub at: usize,
     pub ok: bool,
 }
 
 // The first byte of a token.
-#[derive(Drop)]
+#[derive(Clone, Copy)]
 pub struct Begun {
     pub at: usize,
     pub byte: u8,
@@ -20,14 +20,14 @@ pub struct Begun {
 }
 
 // A number below another, one from 1 to 2^31 - 1, or one alone.
-#[derive(Drop)]
+#[derive(Clone, Copy)]
 pub enum Wanted {
     Below(u32),
     Positive,
     Exactly(u32),
 }
 
-#[derive(Drop)]
+#[derive(Clone, Copy)]
 pub struct Number {
     pub at: usize,
     pub value: u32,
@@ -35,7 +35,7 @@ pub struct Number {
 }
 
 // The bytes of a name, from `at` on and before `end`, where its closing quote is.
-#[derive(Drop)]
+#[derive(Clone, Copy)]
 pub struct Name {
     pub at: usize,
     pub end: usize,

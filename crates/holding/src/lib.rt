@@ -1,12 +1,14 @@
 // What a player still holds of the states that it won, after some were lost: a state is let go where the player's letter, or a row of the other player's,
 // leads out of those that are held. What is held need not be solved again.
 // A game is four tables, and the walk reads the letters and writes the order and the marks, so a function that walks has nine parameters.
+#![tactic(auto)]
+
 ghost use Rattle.std.specs.Prelude.{◌≡◌, ℕ, ◌+◌, ◌*◌, ◌≤◌, ◌<◌, false, length, get_or};
 ghost use Rattle.attracting.specs.Attracting.{Rows};
 ghost use Rattle.holding.specs.Holding.{Shut, SetIf, Firm, Sifted, Released};
 
 // Who holds, in a game with so many letters: at a level, a player (the plant is true), the states with this mark.
-#[derive(Drop)]
+#[derive(Clone, Copy)]
 pub struct Hold {
     pub letters: usize,
     pub level: u8,

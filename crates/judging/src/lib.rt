@@ -7,14 +7,14 @@ use policy::Policy;
 use recurrence::Search;
 
 // The colours that recur and whether their set is in the family; or document 01's number.
-#[derive(Drop)]
+#[derive(Clone, Copy)]
 pub enum PolicyVerdict {
     Judged(u8, bool),
     Refused(u8),
 }
 
 // The least priority that recurs; or document 01's number.
-#[derive(Drop)]
+#[derive(Clone, Copy)]
 pub enum RowsVerdict {
     Least(u8),
     Refused(u8),
@@ -34,7 +34,7 @@ fn in_range(letters: u8, word: &[u8]) -> bool
 }
 
 // What a run over rows has come to: its state, the least priority met (255 of none), and whether it read a row whose target is no state.
-#[derive(Drop)]
+#[derive(Clone, Copy)]
 struct Seen {
     pub state: usize,
     pub least: u8,
@@ -163,7 +163,7 @@ pub fn judge_rows(
 }
 
 // What a policy's run has come to: its state, and the colours met.
-#[derive(Drop)]
+#[derive(Clone, Copy)]
 struct Coloured {
     pub state: usize,
     pub colours: u8,

@@ -13,28 +13,28 @@ ghost use Rattle.looks.specs.Spans.{upper};
 ghost use Rattle.listing.specs.Listing.{Hued, PartsOf, union_to, OnCycles, Settled, Listed, lacks_room, Outcome};
 
 // How many masks each list holds.
-#[derive(Drop)]
+#[derive(Clone, Copy)]
 pub struct Counts {
     pub accepting: usize,
     pub rejecting: usize,
 }
 
 // The same, and whether the listing is whole.
-#[derive(Drop)]
+#[derive(Clone, Copy)]
 pub struct Listing {
     pub counts: Counts,
     pub whole: bool,
 }
 
 // How many masks a list holds, and edges that have the cycles of a set.
-#[derive(Drop)]
+#[derive(Clone, Copy)]
 struct Cycles {
     count: usize,
     edges: u64,
 }
 
 // The lists after some sets: those below `left` are left.
-#[derive(Drop)]
+#[derive(Clone, Copy)]
 struct Step {
     counts: Counts,
     left: u8,

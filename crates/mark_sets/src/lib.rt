@@ -1,10 +1,12 @@
 // Colours for mark sets (document 02, S-4): each different mark set of the edges is a colour, numbered by first appearance.
+#![tactic(auto)]
+
 ghost use Rattle.std.specs.Prelude.{ℕ, ◌≤◌, ◌<◌, ◌≡◌, List, [], ◌∷◌, ◌++◌, eqb, length, take};
 ghost use Rattle.lists.specs.Lists.{position};
 ghost use Rattle.mark_sets.specs.MarkSets.{Coloured};
 
 // The colour of each edge, and the mark set of each colour. A count of 9 says that there are more than 8 different mark sets, and then the rest says nothing.
-#[derive(Drop)]
+#[derive(Clone, Copy)]
 pub struct Colouring {
     pub colour: [u8; 64],
     pub sets: [u32; 8],

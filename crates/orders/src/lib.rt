@@ -1,4 +1,6 @@
 // Sets of states as the first places of a table of their numbers, and the marks of states.
+#![tactic(auto)]
+
 ghost use Rattle.std.specs.Prelude.{◌≡◌, ◌||◌, eqb, ℕ, ◌+◌, ◌≤◌, ◌<◌, length, get_or};
 ghost use Rattle.orders.specs.Orders.{Kept, Gathered, Painted, Numbered};
 

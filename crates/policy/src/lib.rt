@@ -1,13 +1,15 @@
 // A policy: a deterministic Muller automaton with 1 to 16 states, 1 to 8 letters, 1 to 8 colours and at most 64 edges.
 // Edge number = state times letters plus letter. Entries past the last edge are 0. family[s] says whether the colour set s is in the family. The quiet edges, a set, have no
 // colour, and a recorded colour of 0.
+#![tactic(auto)]
+
 ghost use Rattle.std.specs.Prelude.{◌≡◌, ◌<◌, ◌≤◌, true, cond, replicate};
 ghost use Rattle.masks.specs.Masks.{has};
 ghost use Rattle.policy.specs.ByColour.{by_colour, table_edges, table_colours};
 ghost use Rattle.policy.specs.Making.{counted, shape_of, from_parts};
 ghost use Rattle.policy.specs.Policies.{accepting, counts_fit, edges, legal, legal_counts, legal_edges, legal_family, legal_graph, legal_quiet};
 
-#[derive(Drop)]
+#[derive(Clone, Copy)]
 pub struct Policy {
     pub states: u8,
     pub letters: u8,
@@ -20,7 +22,7 @@ pub struct Policy {
 }
 
 // A policy's counts, and the state begun in.
-#[derive(Drop)]
+#[derive(Clone, Copy)]
 pub struct Shape {
     pub states: u8,
     pub letters: u8,

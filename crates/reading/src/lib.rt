@@ -1,11 +1,13 @@
 // Reading a policy from command bytes: each command is asked document 01's questions in order, and then taken into the draft.
+#![tactic(auto)]
+
 ghost use Rattle.std.specs.Prelude.{◌≡◌, true, ◌+◌, ◌-◌, ◌*◌, ◌<◌, ◌≤◌, ◌^◌, length};
 ghost use Rattle.policy.specs.Policies.{edge_of};
 ghost use Rattle.policy.specs.Making.{counted};
 ghost use Rattle.reading.specs.Reading.{Bounded, HandsBack, ReadsPolicy, all_given, command_at, command_known, complete_at_end, first_time, in_place, operand_count, operands_there, refusal_of, within_limits};
 
 // A command with its operands.
-#[derive(Drop)]
+#[derive(Clone, Copy)]
 pub enum Command {
     End,
     // states, letters, colours, initial state
@@ -19,13 +21,13 @@ pub enum Command {
 }
 
 // The policy so far, and the set of the edges given so far.
-#[derive(Drop)]
+#[derive(Clone, Copy)]
 pub struct Draft {
     pub policy: policy::Policy,
     pub given: u64,
 }
 
-#[derive(Drop)]
+#[derive(Clone, Copy)]
 pub enum Outcome {
     // The offset just past the end command.
     Read(usize),
@@ -34,7 +36,7 @@ pub enum Outcome {
 }
 
 // The policy is all zero after a refusal.
-#[derive(Drop)]
+#[derive(Clone, Copy)]
 pub struct Answer {
     pub outcome: Outcome,
     pub policy: policy::Policy,

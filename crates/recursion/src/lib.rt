@@ -1,6 +1,8 @@
 // The winners of the game of row tables, and letters that win: Zielonka's recursion over the priorities, in place. The table of winners holds marks on the way,
 // and an order of the states has those of the arena in front. A game is four tables, and its states are walked by the order, the marks and the letters, so a
 // function that hands on all of them has nine parameters or more.
+#![tactic(auto)]
+
 ghost use Rattle.std.specs.Prelude.{◌≡◌, ◌≢◌, ℕ, ◌+◌, ◌*◌, ◌≤◌, ◌<◌, length, get_or};
 ghost use Rattle.games.specs.Games.{serves};
 ghost use Rattle.games.proofs.Regions.{Arena};
@@ -12,7 +14,7 @@ use attracting::Task;
 use holding::Hold;
 
 // A level of the recursion, in a game with so many letters.
-#[derive(Drop)]
+#[derive(Clone, Copy)]
 pub struct Level {
     pub letters: usize,
     pub at: u8,

@@ -11,14 +11,14 @@ ghost use Rattle.listing.specs.Listing.{PartsOf};
 ghost use Rattle.roots.specs.Roots.{Space, TreeGrown, RootsWritten, TreesGrown};
 
 // The number after a tree, and whether the space was too short for listing its candidates.
-#[derive(Drop)]
+#[derive(Clone, Copy)]
 struct Grown {
     next: usize,
     short: bool,
 }
 
 // How far the trees are: the number after them, the root of the last one, and whether all are written or one does not fit.
-#[derive(Drop)]
+#[derive(Clone, Copy)]
 pub struct Progress {
     pub next: usize,
     pub after: u64,

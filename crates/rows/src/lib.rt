@@ -19,7 +19,7 @@ fn byte(x: u8) -> usize
 }
 
 // The places from low up to high.
-#[derive(Drop)]
+#[derive(Clone, Copy)]
 struct Span {
     low: usize,
     high: usize,
@@ -38,7 +38,7 @@ fn states_over(starts: &[usize; 17], v: usize) -> Span
 
 // Where an edge meets the branch of a leaf: whether it does; the deepest node that has it; the child of that node that leads to the leaf, or
 // the node itself where it is the leaf; the node's priority.
-#[derive(Drop)]
+#[derive(Clone, Copy)]
 struct Meeting {
     met: bool,
     node: usize,
@@ -84,7 +84,7 @@ fn climb(
 }
 
 // The row of an edge from every leaf from `from` up to `to`; and the place where the last search ended.
-#[derive(Drop)]
+#[derive(Clone, Copy)]
 struct Shared {
     from: usize,
     to: usize,

@@ -3,13 +3,13 @@ ghost use Rattle.std.specs.Prelude.{◌≡◌};
 ghost use Rattle.running.specs.Running.{states_of, ReadsLetter};
 
 // A run of the built automaton: a value that holds its present state.
-#[derive(Drop)]
+#[derive(Clone, Copy)]
 pub struct Run {
     pub state: u16,
 }
 
 // What reading a letter gives: the moved run and the priority met, or document 01's number and the run as it was.
-#[derive(Drop)]
+#[derive(Clone, Copy)]
 pub enum Reading {
     Moved(Run, u8),
     Refused(u8, Run),

@@ -1,4 +1,6 @@
 // The search in an ascending run of a table: steps of doubling width from a hint, then halving. Inner layer: the run ascends.
+#![tactic(auto)]
+
 ghost use Rattle.std.specs.Prelude.{◌≤◌, length};
 ghost use Rattle.search.specs.LowerBound.{AscendsIn, LowerBound, Narrowed};
 
@@ -21,7 +23,7 @@ fn halve(entries: &[u16], low: usize, high: usize, x: usize) -> usize
 }
 
 // The places from low up to high.
-#[derive(Drop)]
+#[derive(Clone, Copy)]
 struct Range {
     low: usize,
     high: usize,

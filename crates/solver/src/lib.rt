@@ -1,6 +1,8 @@
 // The game of row tables, solved: the winner of each state, and letters that win. Scratch for the order of the states comes in three sizes. A call that calls
 // itself keeps the longest table out of its own frame, so that few states take little space.
 // A game is four tables, and the answer is two, so the functions have eight parameters.
+#![tactic(auto)]
+
 ghost use Rattle.std.specs.Prelude.{◌≡◌, cond, ℕ, ◌+◌, ◌*◌, ◌≤◌, ◌<◌, length, get_or};
 ghost use Rattle.attracting.specs.Attracting.{Rows};
 ghost use Rattle.solver.specs.Answers.{Fills, Finished, Answers};

@@ -106,7 +106,7 @@ fn fill_sources(sources: &mut [u8], from: usize, to: usize, v: usize)
 }
 
 // Whether the built states fit, and how many there are.
-#[derive(Drop)]
+#[derive(Clone, Copy)]
 pub struct Counted {
     pub fits: bool,
     pub count: usize,

@@ -2,11 +2,7 @@
 use native.Mathlib.Omega.{arith}
 use mathlib.Core.Path.{sym}
 use Rattle.colour_sets.proofs.Counting.{size-ones}
-use Rattle.colour_sets.proofs.members.Statement.{statement}
-use Rattle.colour_sets.proofs.members.Tie as tie
+use Rattle.colour_sets.proofs.members.Goals as goal
 
-returns : tie.Need-returns
+pub returns : goal.returns
 returns c = sym (size-ones c.args.s (omega arith))
-
-pub members-spec : {M : Type 1} → statement M
-members-spec = tie.close (tie.spec returns)
