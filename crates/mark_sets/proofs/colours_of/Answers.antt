@@ -13,19 +13,17 @@ loop-e-init c = (omega arith, omega arith, coloured-none)
 pub with_edge-seen-requires : goal.with_edge-seen-requires
 with_edge-seen-requires c = (omega arith, omega arith)
 
--- the edge of this turn is coloured with those before
-turned : (c : goal.After-with_edge-seen) → Coloured (take (c.loop-e.e + 1) c.args.t1) c.with_edge-seen.result
-turned c =
-    let d = c.before.before in
-    coloured-turn d.args.t1 d.loop-e.e _ _ (omega arith) c.with_edge-seen.ensures d.loop-e.invariant.2
-
 pub returns-then-seen-gt8 : goal.returns-then-seen-gt8
 returns-then-seen-gt8 c =
-    let d = c.before.before.before.before in
-    coloured-many _ (d.loop-e.e + 1) d.args.edges _ (omega arith) c.if-seen-gt8.true (turned c.before.before)
+    let turned : Coloured (take (c.loop-e.e + 1) c.args.marks) c.with_edge-seen.result =
+        coloured-turn c.args.marks c.loop-e.e _ _ (omega arith) c.with_edge-seen.ensures c.loop-e.invariant.2 in
+    coloured-many _ (c.loop-e.e + 1) c.args.edges _ (omega arith) c.if-seen-gt8.true (turned)
 
 pub loop-e-preserved : goal.loop-e-preserved
-loop-e-preserved c = (omega arith, omega arith, turned c.before.before)
+loop-e-preserved c =
+    let turned : Coloured (take (c.loop-e.e + 1) c.args.marks) c.with_edge-seen.result =
+        coloured-turn c.args.marks c.loop-e.e _ _ (omega arith) c.with_edge-seen.ensures c.loop-e.invariant.2 in
+    (omega arith, omega arith, turned)
 
 pub returns : goal.returns
-returns c = subst (λ (n : ℕ). Coloured (take n c.args.t1) c.loop-e.seen) (le_antisymm c.loop-e.invariant.0 c.loop-e-test.false) c.loop-e.invariant.2
+returns c = subst (λ (n : ℕ). Coloured (take n c.args.marks) c.loop-e.seen) (le_antisymm c.loop-e.invariant.0 c.loop-e-test.false) c.loop-e.invariant.2

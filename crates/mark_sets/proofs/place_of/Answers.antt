@@ -14,7 +14,7 @@ loop-c-init c = (omega arith, refl)
 pub returns-then-sets-c : goal.returns-then-sets-c
 returns-then-sets-c c =
     let s = c.args in
-    (omega arith, place_here s.t1 s.x s.count c.loop-c.c (omega arith) (omega arith) c.if-sets-c.true c.loop-c.invariant.1)
+    (omega arith, place_here s.sets s.x s.count c.loop-c.c (omega arith) (omega arith) c.if-sets-c.true c.loop-c.invariant.1)
 
 pub loop-c-preserved : goal.loop-c-preserved
 loop-c-preserved c = (omega arith, place-passed _ _ _ (omega arith) c.if-sets-c.false c.loop-c.invariant.1)
