@@ -24,6 +24,7 @@ module _ (p : Policy) where
   path_join es u (e ∷ w) v w' z a b = (a.0, a.1, path_join es (target_of p e) w v w' z a.2 b)
 
   pub path-mem : (es : List ℕ) (u : ℕ) (w : List ℕ) (v : ℕ) → Path p es u w v → (e : ℕ) → Memᴰ e w → Memᴰ e es
+  path-mem es u [] v a e x'' = elim x'' [ ]
   path-mem es u (f ∷ w) v a e (Memᴰ.head k) = Memᴰ.cast k a.1
   path-mem es u (f ∷ w) v a e (Memᴰ.tail m) = path-mem es (target_of p f) w v a.2 e m
 
@@ -37,10 +38,12 @@ module _ (p : Policy) where
 
   -- a path cut at one of its edges
   pub path-after : (es : List ℕ) (u : ℕ) (w : List ℕ) (v : ℕ) → Path p es u w v → (e : ℕ) → Memᴰ e w → (b : List ℕ) × Path p es (target_of p e) b v
+  path-after es u [] v a e x'' = elim x'' [ ]
   path-after es u (f ∷ w) v a e (Memᴰ.head k) = (w, rw k a.2)
   path-after es u (f ∷ w) v a e (Memᴰ.tail m) = path-after es (target_of p f) w v a.2 e m
 
   pub path-before : (es : List ℕ) (u : ℕ) (w : List ℕ) (v : ℕ) → Path p es u w v → (e : ℕ) → Memᴰ e w → (b : List ℕ) × Path p es u b (source p e)
+  path-before es u [] v a e x'' = elim x'' [ ]
   path-before es u (f ∷ w) v a e (Memᴰ.head k) = ([], rw k (sym a.0))
   path-before es u (f ∷ w) v a e (Memᴰ.tail m) = let r = path-before es (target_of p f) w v a.2 e m in (f ∷ r.0, (a.0, a.1, r.1))
 
@@ -98,6 +101,7 @@ module _ (p : Policy) where
 
   pub spread-adds : (es : List ℕ) (s e : ℕ) → Memᴰ e es → has s (source p e) ≡ true → has (spread p es s) (target_of p e) ≡ true
   unfolding spread
+  spread-adds [] s e x'' t = elim x'' [ ]
   spread-adds (f ∷ es) s e (Memᴰ.head k) t = rw (← k, t) (insert-adds (spread p es s) (target_of p e))
   spread-adds (f ∷ es) s e (Memᴰ.tail m) t = go (has s (source p f)) (spread-adds es s e m t)
     where

@@ -1,0 +1,6 @@
+use Rattle.recursion.proofs.Steps.{hold-is}
+use borrow.Author.Rules.{rules}
+use Rattle.recursion.proofs.hold_of.Goals as goal
+
+pub returns : goal.returns
+returns c = hold-is _ _ _ _ _ c.is_odd.ensures

@@ -1,0 +1,6 @@
+use Rattle.recursion.proofs.Steps.{lost-is}
+use borrow.Author.Rules.{rules}
+use Rattle.recursion.proofs.lost_task.Goals as goal
+
+pub returns : goal.returns
+returns c = lost-is _ _ _ _ _ c.is_odd-plant.ensures c.won_mark.ensures c.won_mark-2.ensures

@@ -1,0 +1,6 @@
+use Rattle.recursion.proofs.Steps.{task-plant}
+use borrow.Author.Rules.{rules}
+use Rattle.recursion.proofs.rows_task.Goals as goal
+
+pub returns : goal.returns
+returns c = task-plant _ _ _ _ _ _ _ _ _ c.is_odd.ensures
