@@ -4,6 +4,8 @@ use native.Mathlib.Nat.{le_antisymm}
 use native.Mathlib.Omega.{arith}
 use Rattle.graph.specs.Through.{edge_row}
 use Rattle.graph.proofs.CodeLaws.{edge-row-none, edge-row-more, edge-row-few}
+use mathlib.Core.Path.{◌∙◌, ap}
+use Rattle.graph.specs.Through.{with_target}
 use Rattle.graph.proofs.edge_row.Goals as goal
 
 pub overflow_mul-first : goal.overflow_mul-first
@@ -20,7 +22,14 @@ with_target-row-requires c =
     (omega (arith, c.requires.0), c.requires.1 (c.args.v * c.args.letters + c.loop-a.a) (omega arith))
 
 pub loop-a-preserved : goal.loop-a-preserved
-loop-a-preserved c = (omega arith, cc (edge-row-more _ _ _ _ _))
+loop-a-preserved c =
+    let a = c.args in
+    let at = c.loop-a in (
+      omega arith,
+      c.with_target-row.ensures
+      ∙ ap (λ (r : ℕ). with_target a.t.now a.m r (a.v * a.letters + at.a)) at.invariant.1
+      ∙ sym (edge-row-more a.t.now a.letters a.m a.v at.a),
+    )
 
 pub overflow_cast-result : goal.overflow_cast-result
 overflow_cast-result c =

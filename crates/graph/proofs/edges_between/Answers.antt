@@ -7,6 +7,7 @@ use borrow.Author.Rules.{rules}
 use Rattle.graph.specs.Through.{union, between}
 use Rattle.graph.proofs.OnCycle.{union-none, union-in, union-out}
 use Rattle.graph.proofs.edges_between.Goals as goal
+use Rattle.graph.proofs.edges_between.Goals.{then-has, else-has}
 
 pub loop-v-init : goal.loop-v-init
 loop-v-init c = (omega arith, sym (union-none _ _), sym (union-none _ _))
@@ -17,8 +18,14 @@ loop-v-preserved c =
     let a = c.args in
     let is = c.has.ensures in (
       omega arith,
-      ⊎_elim (λ w. cc (at.invariant.1, union-in a.out.now a.s at.v (sym is ∙ w.0.taken))) (λ w. cc (at.invariant.1, union-out a.out.now a.s at.v (sym is ∙ w.0.left))) c.if-has.branch,
-      ⊎_elim (λ w. cc (at.invariant.2, union-in a.into.now a.s at.v (sym is ∙ w.0.taken))) (λ w. cc (at.invariant.2, union-out a.into.now a.s at.v (sym is ∙ w.0.left))) c.if-has.branch,
+      elim c.if-has.branch [
+        then-has w ↦ cc (w.a-is, at.invariant.1, union-in a.out.now a.s at.v (sym is ∙ w.if-has.true))
+      | else-has w ↦ cc (w.a-is, at.invariant.1, union-out a.out.now a.s at.v (sym is ∙ w.if-has.false))
+      ],
+      elim c.if-has.branch [
+        then-has w ↦ cc (w.b-is, at.invariant.2, union-in a.into.now a.s at.v (sym is ∙ w.if-has.true))
+      | else-has w ↦ cc (w.b-is, at.invariant.2, union-out a.into.now a.s at.v (sym is ∙ w.if-has.false))
+      ],
     )
 
 pub returns : goal.returns
