@@ -23,6 +23,7 @@ pub data Carries (f : Formula) : At → Type 0 where
 
 module _ (f : Formula) where
   only : {x : w.Word} {a : At} {c : Choice At} → Memᴰ c (on x a ∷ []) → Carries f a → Carries f c.next
+  only {a = a} {c = c} (Memᴰ.tail x6) k = elim x6 [ ]
   only (Memᴰ.head e) k = subst (λ (y : Choice At). Carries f y.next) (sym e) k
 
   document-formula : (h : Head) (rs : List (List Edge)) → (document_of h f rs).formula ≡ f

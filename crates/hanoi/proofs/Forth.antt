@@ -48,6 +48,7 @@ module _ {A : Type 0} where
   -- the word of a choice is found
   pub found : (cs : List (Choice A)) (c : Choice A) → Memᴰ c cs → distinct cs ≡ true → begin_word (first_of c) cs ≡ word_on c.word (tail_of (spelling c.word)) c.next
   unfolding begin_word
+  found [] c x'' h = elim x'' [ ]
   found (d ∷ cs) c (Memᴰ.head e) h =
       subst (λ (x : Choice A). begin_word (first_of x) (d ∷ cs) ≡ word_on x.word (tail_of (spelling x.word)) x.next) (sym e) (rw (≡eqb (first_of d) (first_of d) refl) refl)
   found (d ∷ cs) c (Memᴰ.tail m) h =
@@ -221,7 +222,7 @@ module _ {A : Type 0} (offers : A → Offer A) where
         let a₁ : Bool = all white x.gap in
         let a₂ : Bool = not (is_empty x.gap && stick (first_or 0 (bytes_of x.token))) in
         let a₃ = and_l (a₁ && a₂) (apart (sticks x.token) ss) a in
-        let r = forth ss last (token-read e) g (and_r (a₁ && a₂) (apart (sticks x.token) ss) a) w in
+        let r = forth {stick = sticks x.token} ss last (token-read e) g (and_r (a₁ && a₂) (apart (sticks x.token) ss) a) w in
         let q : Spot A = run offers (between false s) (bytes_of x.token) in
         let z : (x.gap ++ (bytes_of x.token ++ written ss)) ++ last ≡ (x.gap ++ bytes_of x.token) ++ (written ss ++ last) = simp append_assoc in
         let m : run offers p ((x.gap ++ (bytes_of x.token ++ written ss)) ++ last) ≡ run offers q (written ss ++ last) =

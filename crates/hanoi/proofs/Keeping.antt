@@ -166,12 +166,14 @@ row-sound h f rs r c s m = step (test (eqb (length r) (2 ^ length h.names))) m
     later e (inl t) n = cast (rw t at n)
       where
         cast : Memᴰ c (on w.State (state_number h f (rs ++ (r ∷ []))) ∷ []) → Sound c.next
+        cast (Memᴰ.tail x6) = elim x6 [ ]
         cast (Memᴰ.head q) =
             subst (λ (x : Choice At). Sound x.next) (sym q)
             (record { head_is = s.rows_is.head_is; formed_is = s.rows_is.formed_is; rows_are = row_lawful h f rs r s e; more_is = omega (arith, i, lt-true (length rs + 1) h.states t) })
     later e (inr t) n = cast (rw t at n)
       where
         cast : Memᴰ c (on w.End (finished (document_of h f (rs ++ (r ∷ [])))) ∷ []) → Sound c.next
+        cast (Memᴰ.tail x6) = elim x6 [ ]
         cast (Memᴰ.head q) =
             let g = s.rows_is.head_is in
             let ns = g.names_are in
@@ -229,6 +231,7 @@ edge-sound h f rs r n s x t = step (test (eqb (length r) (2 ^ length h.names))) 
 
 -- ---- each step keeps it
 only_next : {x : Word} {a : At} {c : Choice At} → Memᴰ c (on x a ∷ []) → Sound a → Sound c.next
+only_next {a = a} {c = c} (Memᴰ.tail x6) s = elim x6 [ ]
 only_next (Memᴰ.head e) s = subst (λ (y : Choice At). Sound y.next) (sym e) s
 
 head-next : {c e : Choice At} → c ≡ e → Sound e.next → Sound c.next
@@ -240,6 +243,7 @@ marks-sound h hs o c s m = step (test (ltb 0 h.sets)) m
   where
     both-marks : 0 < h.sets → Memᴰ c (on w.Inf (opening h hs o true) ∷ on w.Fin (opening h hs o false) ∷ []) → Sound c.next
     both-marks p (Memᴰ.head e) = head-next e (s, p)
+    both-marks p (Memᴰ.tail (Memᴰ.tail x8)) = elim x8 [ ]
     both-marks p (Memᴰ.tail (Memᴰ.head e)) = head-next e (s, p)
 
     step : (ltb 0 h.sets ≡ true) ⊎ (ltb 0 h.sets ≡ false) → Memᴰ c (cond (ltb 0 h.sets) (on w.Inf (opening h hs o true) ∷ on w.Fin (opening h hs o false) ∷ []) []) → Sound c.next

@@ -107,6 +107,7 @@ mark-tokens false m = refl
 
 -- ---- each step prints its token
 only_one : {x : Word} {a : At} {c : Choice At} → Memᴰ c (on x a ∷ []) → c ≡ on x a
+only_one {a = a} {c = c} (Memᴰ.tail x5) = elim x5 [ ]
 only_one (Memᴰ.head e) = e
 
 abbrev Prints : At → Token → At → Type 0
@@ -141,6 +142,9 @@ unfolding row_next printed
 row-choice h f rs r c m = step (row_over h r) (ltb (length rs + 1) h.states) m
   where
     step : (x y : Bool) → Memᴰ c (cond x (cond y (on w.State (state_number h f (rs ++ (r ∷ []))) ∷ []) (on w.End (finished (document_of h f (rs ++ (r ∷ [])))) ∷ [])) []) → printed c.next ≡ row_start h f rs r ++ (word c.word ∷ [])
+    step false y x = elim x [ ]
+    step true true (Memᴰ.tail x) = elim x [ ]
+    step true false (Memᴰ.tail x) = elim x [ ]
     step true true (Memᴰ.head e) =
         subst (λ (c : Choice At). printed c.next ≡ row_start h f rs r ++ (word c.word ∷ [])) (sym e) (ap (λ (l : List Token). l ++ (word w.State ∷ [])) (row-printed h f rs r))
     step true false (Memᴰ.head e) =
@@ -204,6 +208,7 @@ word-printed (operand h hs o) c (Memᴰ.tail (Memᴰ.tail (Memᴰ.tail m))) = ma
 
     marks : (x : Bool) → Memᴰ c (cond x (on w.Inf (opening h hs o true) ∷ on w.Fin (opening h hs o false) ∷ []) []) → Good (operand h hs o) c
     marks true (Memᴰ.head e) = good-cast (operand h hs o) c _ e refl
+    marks true (Memᴰ.tail (Memᴰ.tail x19)) = elim x19 [ ]
     marks true (Memᴰ.tail (Memᴰ.head e)) = good-cast (operand h hs o) c _ e refl
     marks false k = no-choice k
 word-printed (opening h hs o b) c m = good-cast (opening h hs o b) c _ (only_one m) refl

@@ -2,7 +2,6 @@
 // laws alone, with the types that the code above shares with them.
 #![tactic(auto)]
 
-
 #[derive(Clone, Copy)]
 pub enum Outcome {
     Read,
