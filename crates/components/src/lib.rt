@@ -1,4 +1,6 @@
 // The largest cycles inside an edge set, one for each strongly connected component that has an edge, by their lowest states.
+#![tactic(auto)]
+
 ghost use Rattle.std.specs.Prelude.{◌≡◌, length};
 ghost use Rattle.policy.specs.declared.Policy.{Policy};
 ghost use Rattle.graph.specs.Through.{GraphOf, EndsOf};
