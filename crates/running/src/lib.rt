@@ -1,4 +1,6 @@
 // Running over the rows of a built automaton: one letter at a time, with questions 8, 11, 12 and 13 asked in order.
+#![tactic(auto)]
+
 ghost use Rattle.std.specs.Prelude.{◌≡◌};
 ghost use Rattle.running.specs.Running.{states_of, ReadsLetter};
 
