@@ -1,4 +1,6 @@
 // Reading the tokens of a text (document 02, S-4), each from a place in the text on. What a function promises is promised of whatever place the reader of documents is at.
+#![tactic(auto)]
+
 ghost use Rattle.std.specs.Prelude.{◌≡◌, true, ◌-◌, ◌≤◌, ◌<◌, length};
 ghost use Rattle.hanoi.specs.Texts.{white, digit, goes_on};
 ghost use Rattle.hanoi.specs.Prefixes.{prefix_of};

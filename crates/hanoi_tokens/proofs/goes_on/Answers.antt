@@ -1,0 +1,8 @@
+use mathlib.Core.Path.{refl}
+use borrow.Author.Rules.{rules}
+use Rattle.hanoi.specs.Texts.{goes_on}
+use Rattle.hanoi_tokens.proofs.goes_on.Goals as goal
+
+pub returns : goal.returns
+unfolding goes_on
+returns c = rw c.is_digit.ensures refl

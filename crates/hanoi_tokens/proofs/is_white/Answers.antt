@@ -1,0 +1,7 @@
+use borrow.Author.Rules.{rules}
+use Rattle.hanoi.specs.Texts.{white}
+use Rattle.hanoi_tokens.proofs.is_white.Goals as goal
+
+pub returns : goal.returns
+unfolding white
+returns c = search rules

@@ -1,0 +1,20 @@
+use Prim.Native.Nat.{◌-◌}
+use native.Mathlib.Omega.{arith}
+use mathlib.Core.Path.{sym, ◌∙◌}
+use lib.ListN.{length}
+use borrow.Author.Rules.{rules}
+use Rattle.lists.proofs.Bools.{not-true, unnot}
+use Rattle.hanoi_tokens.proofs.Tokens.{Skipped, skipped-none, skipped-more, skipped-all}
+use Rattle.hanoi_tokens.proofs.skip_white.Goals as goal
+
+pub loop-i-init : goal.loop-i-init
+loop-i-init c = skipped-none _ _ c.requires
+
+pub returns-then-not-is_white : goal.returns-then-not-is_white
+returns-then-not-is_white c = skipped-all _ _ _ c.loop-i.invariant (λ h. sym c.is_white.ensures ∙ c.if-not-is_white.true)
+
+pub loop-i-preserved : goal.loop-i-preserved
+loop-i-preserved c = skipped-more _ _ _ c.loop-i.invariant c.loop-i-test.true (sym c.is_white.ensures ∙ c.if-not-is_white.false)
+
+pub returns : goal.returns
+returns c = skipped-all _ _ _ c.loop-i.invariant (λ h. absurd (omega (arith, h)))
