@@ -1,5 +1,7 @@
 // The value of a formula in 64 lanes at once, told from left to right: bit s of each word is lane s. How many parentheses deeper a lane is than where its passing by began is counted in
 // binary over planes: bit s of plane k is binary digit k of lane s.
+#![tactic(auto)]
+
 ghost use Rattle.std.specs.Prelude.{◌≡◌, ◌&&◌, ℕ, ◌<◌, ltb};
 ghost use Rattle.masks.specs.Masks.{has};
 ghost use Rattle.hanoi_lanes.specs.Lanes.{count_at, CountsUp, CountsDown, Starts, TellsOperand, TellsAnd, TellsOr, TellsOpens, TellsCloses};

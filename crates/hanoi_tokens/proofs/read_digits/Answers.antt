@@ -57,10 +57,10 @@ pub takes-requires-in-loop-i : goal.takes-requires-in-loop-i
 takes-requires-in-loop-i c = c.loop-i.invariant.0
 
 pub returns-then-not-takes-2 : goal.returns-then-not-takes-2
-returns-then-not-takes-2 c = rw c.stopped-then-not-takes-2.ensures (digits-over _ _ _ c.loop-i.invariant.0 _ _ c.loop-i.invariant.1 _ c.loop-i-test.true (sym c.is_digit-in-loop-i.ensures ∙ c.if-not-is_digit-2.false) (omega (arith, c.if-n-eq0.false)) (rw c.value_of.ensures.0 refl) (sym c.takes-in-loop-i.ensures ∙ c.if-not-takes-2.true))
+returns-then-not-takes-2 c = rw c.stopped-then-not-takes-2.ensures (digits-over _ _ _ c.loop-i.invariant.0 _ _ c.loop-i.invariant.1 _ c.loop-i-test.true (sym c.is_digit-in-loop-i.ensures ∙ c.if-not-is_digit-2.false) (omega arith) (rw c.value_of.ensures.0 refl) (sym c.takes-in-loop-i.ensures ∙ c.if-not-takes-2.true))
 
 pub loop-i-preserved : goal.loop-i-preserved
-loop-i-preserved c = (c.loop-i.invariant.0, digits-on _ _ _ c.loop-i.invariant.0 _ _ c.loop-i.invariant.1 _ c.loop-i-test.true (sym c.is_digit-in-loop-i.ensures ∙ c.if-not-is_digit-2.false) (omega (arith, c.if-n-eq0.false)) (rw c.value_of.ensures.0 refl) (sym c.takes-in-loop-i.ensures ∙ c.if-not-takes-2.false))
+loop-i-preserved c = (c.loop-i.invariant.0, digits-on _ _ _ c.loop-i.invariant.0 _ _ c.loop-i.invariant.1 _ c.loop-i-test.true (sym c.is_digit-in-loop-i.ensures ∙ c.if-not-is_digit-2.false) (omega arith) (rw c.value_of.ensures.0 refl) (sym c.takes-in-loop-i.ensures ∙ c.if-not-takes-2.false))
 
 pub returns : goal.returns
 returns c = rw c.stopped-2.ensures (digits-break _ _ _ c.loop-i.invariant.0 _ _ c.loop-i.invariant.1 c.loop-i-test.false)
