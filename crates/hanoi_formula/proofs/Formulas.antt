@@ -18,7 +18,7 @@ use Rattle.masks.specs.Masks.{has}
 use Rattle.hanoi_lanes.specs.declared.Lanes.{Lanes}
 use Rattle.hanoi_lanes.specs.Lanes.{depth_of, Shows, Starts, TellsOperand, TellsAnd, TellsOr, TellsOpens, TellsCloses}
 use Rattle.hanoi_lanes.proofs.Counts.{count_none}
-use Rattle.hanoi_tokens.specs.Moves.{Moves, Stops}
+use Rattle.hanoi_tokens.specs.Moves.{Moves}
 use Rattle.hanoi_tokens.proofs.Moves.{stay, moves-on, moves-stops}
 use Rattle.hanoi_formula.specs.declared.Operand.TheVariants as operands
 use Rattle.hanoi_formula.specs.declared.Sign.TheVariants as signs

@@ -1,5 +1,7 @@
 // Reading the acceptance formula of a text, and its value for 64 sets of marks at once, a lane for each, where the marks of the set recur and no others: one pass from left to right, with
 // no stack.
+#![tactic(auto)]
+
 ghost use Rattle.std.specs.Prelude.{◌≡◌, ◌≤◌, ◌<◌, length};
 ghost use Rattle.hanoi_formula.specs.Formula.{unmarked_at, mark_lanes, ReadsMark, ReadsMarked, ReadsOperand, ReadsSign, ReadsFormula};
 
