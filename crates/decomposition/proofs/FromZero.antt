@@ -26,7 +26,7 @@ use Rattle.policy.specs.Policies as Policies
 use Rattle.forest.specs.Forest.{Node, forest, node, from_zero}
 use Rattle.forest.specs.Laws.{parent_at, root_at}
 use Rattle.forest.specs.Numbering.{plain_priority}
-use Rattle.forest.proofs.Columns.{masks_long, parents_long, mask_at}
+use Rattle.forest.proofs.Columns.{masks_long, parents_long, mask-at}
 use Rattle.decomposition.specs.FromZero.{plain_priorities, some_accepting}
 use Rattle.decomposition.specs.NodeTables.{NodeColumns}
 use Rattle.decomposition.proofs.Plain.{plain-root, plain-child, length-plain, plain_at, numbers, plain-small, parent_is, is-root, is-child, parent_before, same-tree}
@@ -177,7 +177,7 @@ module _ {p : Policy} (lawful : legal p ≡ true) {masks parents r₀ r : List �
       is-a-root = is-root p lawful few w.parents_are n here q
 
       verdict : y ≡ cond (node (forest p) n).accepted 0 1
-      verdict = e ∙ ap (λ (b : Bool). cond b 0 1) (ap (Policies.accepting p) (mask_at p n here w.masks_are) ∙ sym ((numbers p lawful).accepted_root n here is-a-root))
+      verdict = e ∙ ap (λ (b : Bool). cond b 0 1) (ap (Policies.accepting p) (mask-at p n here w.masks_are) ∙ sym ((numbers p lawful).accepted_root n here is-a-root))
 
       plain : {x : ℕ} → x ≡ y → x ≡ plain_priority (node (forest p) n)
       plain ex = ex ∙ verdict ∙ sym (plain-root (node (forest p) n) is-a-root)

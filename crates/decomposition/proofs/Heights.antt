@@ -17,7 +17,7 @@ use Rattle.policy.specs.Policies.{legal}
 use Rattle.forest.specs.Forest.{Node, forest, node, from_zero, transient_priority, node_priorities_of}
 use Rattle.forest.specs.Numbering.{plain_priority}
 use Rattle.forest.proofs.Priorities.{plain-kept, plain-rejecting}
-use Rattle.forest.proofs.Numbering.{forest-some, level-le, from_zero, lower, bottom-rejects, transient-is}
+use Rattle.forest.proofs.Numbering.{forest-some, level-le, from-zero, lower, bottom-rejects, transient-is}
 use Rattle.forest.proofs.Columns.{mapped_in, mapped-from}
 use Rattle.decomposition.specs.FromZero.{plain_priorities, some_accepting}
 use Rattle.decomposition.proofs.Plain.{plain-same, node_in, node_of}
@@ -85,7 +85,7 @@ module _ (p : Policy) where
 
         go : (from_zero p ≡ true) ⊎ (from_zero p ≡ false) → eqb (greatest (node_heights p) % 2) 1 ≡ from_zero p
         go (inl t) =
-            let n = from_zero p lawful t in
+            let n = from-zero p lawful t in
             let m = heights-mem in
             let odd : greatest (node_heights p) % 2 ≡ 1 = omega (arith, heights-le n.0 n.1, accepting-height (node (forest p) n.0) n.3, n.2, m.2, height-le (node (forest p) m.0), level-le p lawful m.0 m.1) in
             ≡eqb (greatest (node_heights p) % 2) 1 odd ∙ sym t
@@ -108,7 +108,7 @@ module _ (p : Policy) where
     )
       where
         go : (from_zero p ≡ true) ⊎ (from_zero p ≡ false) → from_zero p ≡ false
-        go (inl t) = let n = from_zero p lawful t in absurd (true≢false (sym n.3 ∙ h n.0 n.1))
+        go (inl t) = let n = from-zero p lawful t in absurd (true≢false (sym n.3 ∙ h n.0 n.1))
         go (inr f) = f
 
 -- ---- what comes of it

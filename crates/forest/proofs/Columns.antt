@@ -54,9 +54,9 @@ module _ (p : Policy) where
     node_priorities_long c = omega (arith, c.long, length-node-priorities)
 
     module _ (n : ℕ) (h : n < length (forest p)) where
-      pub mask_at : Column (node_masks p) t → get_or t n 0 ≡ mask_at (forest p) n
+      pub mask-at : Column (node_masks p) t → get_or t n 0 ≡ mask_at (forest p) n
       unfolding node_masks node
-      mask_at c = column-at (λ (x : Node). x.mask) (forest p) c (record { mask = 0; parent = 0; level = 0; accepted = false }) n h
+      mask-at c = column-at (λ (x : Node). x.mask) (forest p) c (record { mask = 0; parent = 0; level = 0; accepted = false }) n h
 
       pub parent-at : Column (node_parents p) t → get_or t n 0 ≡ parent_at (forest p) n
       unfolding node_parents node

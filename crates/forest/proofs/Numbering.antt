@@ -122,8 +122,8 @@ module _ (p : Policy) (lawful : legal p ≡ true) where
           let x = node (forest p) d.0 in
           some-any (λ (x : Node). deep x && x.accepted) (forest p) x (member d.0 d.1) (both (deep x) x.accepted (≡eqb x.level (greatest_level p) d.2) d.3)
 
-  pub from_zero : from_zero p ≡ true → Bottom true
-  from_zero = begin.0
+  pub from-zero : from_zero p ≡ true → Bottom true
+  from-zero = begin.0
 
   zero-from : (n : ℕ) → n < length (forest p) → (node (forest p) n).level ≡ greatest_level p → (node (forest p) n).accepted ≡ true → from_zero p ≡ true
   zero-from n l e a = begin.1 (n, l, e, a)
@@ -174,7 +174,7 @@ module _ (p : Policy) (lawful : legal p ≡ true) where
     where
       go : (from_zero p ≡ true) ⊎ (from_zero p ≡ false) → transient_priority p ≡ cond (from_zero p) 0 1
       go (inl t) =
-          let n = from_zero t in
+          let n = from-zero t in
           let r = above n.0 n.1 0 (omega arith) in
           rw t (omega (arith, transient-le r.0 r.1, priority-by r.0 true true (r.3 ∙ n.3) t, r.2))
       go (inr f) =
@@ -266,7 +266,7 @@ module _ (p : Policy) (lawful : legal p ≡ true) where
     where
       to : from_zero p ≡ true → AcceptingMost p (forest p)
       to t =
-          let n = from_zero t in
+          let n = from-zero t in
           let r = chain-top (forest p) laws.parent_lt laws.level_up n.0 n.1 in
           record {
             root = r.0;

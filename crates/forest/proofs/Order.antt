@@ -103,6 +103,7 @@ length-place m (y ∷ l) = go (before m y) (length-place m l)
 -- ---- a list put in order
 pub order-mem : (l : List ℕ) (x : ℕ) → Memᴰ x (in_order l) → Memᴰ x l
 unfolding in_order
+order-mem [] x k = elim k [ ]
 order-mem (m ∷ l) x k = go (place-mem m (in_order l) x k) (order-mem l x)
   where
     go : (x ≡ m) ⊎ Memᴰ x (in_order l) → (Memᴰ x (in_order l) → Memᴰ x l) → Memᴰ x (m ∷ l)
@@ -111,6 +112,7 @@ order-mem (m ∷ l) x k = go (place-mem m (in_order l) x k) (order-mem l x)
 
 pub mem-order : (l : List ℕ) (x : ℕ) → Memᴰ x l → Memᴰ x (in_order l)
 unfolding in_order
+mem-order [] x x3 = elim x3 [ ]
 mem-order (m ∷ l) x (Memᴰ.head e) = mem-place m (in_order l) x (Memᴰ.head e)
 mem-order (m ∷ l) x (Memᴰ.tail k) = mem-place m (in_order l) x (Memᴰ.tail (mem-order l x k))
 

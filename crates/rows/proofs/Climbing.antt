@@ -20,7 +20,7 @@ use Rattle.forest.specs.Forest.{Node, forest, priority, transient_priority, node
 use Rattle.forest.specs.Laws.{ForestLaws, mask_at, parent_at, root_at}
 use Rattle.forest.proofs.Chains.{chain-self, chain-le, chain-lt, chain-parent, chain-trans, chain-linear, chain-top}
 use Rattle.forest.proofs.Forest.{forest-laws}
-use Rattle.forest.proofs.Columns.{masks_long, parents_long, node_priorities_long, mask_at, parent-at, node-priority-at}
+use Rattle.forest.proofs.Columns.{masks_long, parents_long, node_priorities_long, mask-at, parent-at, node-priority-at}
 use Rattle.automaton.specs.Automaton.{or_else, deepest, lead, leaves, priority_after}
 use Rattle.automaton.specs.Stages.{Nodes}
 use Rattle.automaton.proofs.Branch.{of-child, chain-inside, child-lt, child-between, lead_is, deepest-mem, deepest-under, deepest-at}
@@ -204,11 +204,11 @@ module _ (p : Policy) (masks parents node_priorities : List ℕ) (e l : ℕ) (a 
     pub walk_up : (up : ℕ) → up ≡ get_or parents n 0 → has (get_or masks n 0) e ≡ false → Climbing p e l up n
     walk_up up u f =
         subst (λ (x : ℕ). Climbing p e l x n) (sym (u ∙ parent-at p n at-node a.0.1.parents_are))
-        (climb-up p a.0.0 a.0.1.few e a.1.0 l good n c k h (subst (λ (m : ℕ). has m e ≡ false) (mask_at p n at-node a.0.1.masks_are) f))
+        (climb-up p a.0.0 a.0.1.few e a.1.0 l good n c k h (subst (λ (m : ℕ). has m e ≡ false) (mask-at p n at-node a.0.1.masks_are) f))
 
     pub walk-less : (up : ℕ) → up ≡ get_or parents n 0 → left up < left n
     walk-less up u = subst (λ (x : ℕ). left x < left n) (sym (u ∙ parent-at p n at-node a.0.1.parents_are)) (climb-less p a.0.0 a.0.1.few e a.1.0 l good n c k h)
 
     pub walk-met : has (get_or masks n 0) e ≡ true → Met p e l true n c (get_or node_priorities n 0)
     walk-met t =
-        subst (Met p e l true n c) (sym (node-priority-at p n at-node a.0.1.node_priorities_are)) (climb-met p a.0.0 a.0.1.few e a.1.0 l good n c k h (subst (λ (m : ℕ). has m e ≡ true) (mask_at p n at-node a.0.1.masks_are) t))
+        subst (Met p e l true n c) (sym (node-priority-at p n at-node a.0.1.node_priorities_are)) (climb-met p a.0.0 a.0.1.few e a.1.0 l good n c k h (subst (λ (m : ℕ). has m e ≡ true) (mask-at p n at-node a.0.1.masks_are) t))

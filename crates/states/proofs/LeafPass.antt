@@ -30,7 +30,7 @@ use Rattle.graph.proofs.OnCycle.{own-contains}
 use Rattle.forest.specs.Forest.{Node, forest, chain, child_of, node_masks}
 use Rattle.forest.specs.Laws.{ForestLaws, mask_at}
 use Rattle.forest.proofs.Chains.{chain-lt}
-use Rattle.forest.proofs.Columns.{mask_at}
+use Rattle.forest.proofs.Columns.{mask-at}
 use Rattle.forest.proofs.Forest.{forest-laws}
 use Rattle.automaton.specs.Automaton.{is_leaf}
 use Rattle.automaton.specs.Stages.{end_of, node_ends}
@@ -189,7 +189,7 @@ module _ {p : Policy} {v : ℕ} {masks ends : List ℕ} {count own : ℕ} (g : G
   contains-at : (n : ℕ) → n < count → (b : Bool) → not (eqb (bit_and (get_or masks n 0) own) 0) ≡ b → contains p v (mask_at (forest p) n) ≡ b
   contains-at n l b e =
       sym (own-contains p g.is_legal v (mask_at (forest p) n) g.state)
-      ∙ (rw (g.own_is, mask_at p n (omega (arith, g.counted)) g.masks_are) at e)
+      ∙ (rw (g.own_is, mask-at p n (omega (arith, g.counted)) g.masks_are) at e)
 
   pub end-few : (n : ℕ) → n < count → get_or ends n 0 ≤ 65535
   end-few n l = let m : n < length (forest p) = omega (arith, g.counted) in omega (arith, end-at p n m g.ends_are, end-le p (forest p) laws n m, g.few)
