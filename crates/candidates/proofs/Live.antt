@@ -285,6 +285,8 @@ module _ (p : Policy) (lawful : legal p ≡ true) where
           none z ne = coloured-none (colours_of p) c other same (listed z) (λ u k e. ne (ap (colours_of p) (sym (only (lowest_is p w z) k)) ∙ e))
             where
               only : (d : Bool) {u : ℕ} → Memᴰ u (cond d (z ∷ []) []) → u ≡ z
+              only false {u = u} x'' = elim x'' [ ]
+              only true {u = u} (mathlib.Core.List.Memᴰ.tail x7) = elim x7 [ ]
               only true (Memᴰ.head e) = e
 
           equal : x ≡ y → with_cycles (colours_of p) c other same (listed x) ≡ with_cycles (colours_of p) c other same (listed y)

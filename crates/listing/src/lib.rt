@@ -1,5 +1,7 @@
 // The candidates of a root, listed by verdict: colour set by colour set, by falling mask, the wanted cycles inside the root. Beside the lists of accepting and of rejecting masks
 // stand their colour sets, accepted and rejected.
+#![tactic(auto)]
+
 ghost use Rattle.std.specs.Prelude.{◌≡◌, ◌⊎◌, true, false, cond, ℕ, ◌+◌, ◌-◌, ◌<◌, ◌≤◌, eqb, length, get_or, take};
 ghost use mathlib.Core.List.{List, map, Memᴰ};
 ghost use Rattle.policy.specs.declared.Policy.{Policy};

@@ -1,5 +1,7 @@
 // Looks at the lists of a root, and at a set of its colours: whether anything with these colours can be listed, and among which edges it is looked for. Inner layer: beside a list of
 // masks stand their colours. What only saves searches is undecided: where an answer leaves sets out, what holds of them is promised, and to leave out fewer would do.
+#![tactic(auto)]
+
 ghost use Rattle.std.specs.Prelude.{◌≡◌, ◌⊎◌, true, false, cond, ℕ, ◌≤◌, ◌<◌, length, get_or};
 ghost use mathlib.Core.List.{Memᴰ};
 ghost use Rattle.lists.specs.Bools.{differs};
