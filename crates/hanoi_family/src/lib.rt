@@ -1,4 +1,6 @@
 // The family of a text: for each non-empty set of the colours whether its formula holds of the union of their mark sets. The formula is read once for each 64 sets.
+#![tactic(auto)]
+
 ghost use Rattle.std.specs.Prelude.{ℕ, ◌+◌, ◌-◌, ◌*◌, ◌/◌, ◌≤◌, ◌<◌, ◌^◌, ◌≡◌, length, get_or};
 ghost use Rattle.masks.specs.Masks.{has};
 ghost use Rattle.mark_sets.specs.MarkSets.{union_at};
