@@ -1,5 +1,7 @@
 // Comparing two policies over one graph, by pairs of colour sets: c of p's colours and d of q's. All cycles with exactly these colours have one verdict in p and one in q;
 // where the two differ, the largest cycles of the edges with these colours tell whether there is such a cycle. The edges of each policy are taken by colour once.
+#![tactic(auto)]
+
 ghost use Rattle.std.specs.Prelude.{◌≡◌, true, ◌≤◌, ◌^◌, length};
 ghost use Rattle.policy.specs.Policies.{legal};
 ghost use Rattle.policy.specs.declared.Policy.{Policy};
