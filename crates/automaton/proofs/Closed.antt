@@ -48,6 +48,7 @@ module _ (ns : List Node) (p : Policy) where
 
   visited-in : (es : List ℕ) (l : ℕ) → Live es l → (x : ℕ) → Memᴰ x (visited es l) → x < length ns
   unfolding visited
+  visited-in [] l lv x x4 = elim x4 [ ]
   visited-in (e ∷ es) l lv x (Memᴰ.head k) = rw k lv.1.node_range
   visited-in (e ∷ es) l lv x (Memᴰ.tail k) = visited-in es (leaf_after ns p e l) lv.2 x k
 
@@ -58,16 +59,19 @@ module _ (ns : List Node) (p : Policy) where
 
   visited-met : (es : List ℕ) (l : ℕ) → Live es l → (x : ℕ) → Memᴰ x (visited es l) → Memᴰ (priority p (node ns x)) (met_run ns p es l)
   unfolding visited met_run
+  visited-met [] l lv x x4 = elim x4 [ ]
   visited-met (e ∷ es) l lv x (Memᴰ.head k) = Memᴰ.head (ap (λ (y : ℕ). priority p (node ns y)) k ∙ sym (met-is e l lv.0))
   visited-met (e ∷ es) l lv x (Memᴰ.tail k) = Memᴰ.tail (visited-met es (leaf_after ns p e l) lv.2 x k)
 
   met-visited : (es : List ℕ) (l : ℕ) → Live es l → (k : ℕ) → Memᴰ k (met_run ns p es l) → (x : ℕ) × Memᴰ x (visited es l) × (k ≡ priority p (node ns x))
   unfolding visited met_run
+  met-visited [] l lv k x'' = elim x'' [ ]
   met-visited (e ∷ es) l lv k (Memᴰ.head q) = (deepest ns e l, Memᴰ.head refl, q ∙ met-is e l lv.0)
   met-visited (e ∷ es) l lv k (Memᴰ.tail q) = let r = met-visited es (leaf_after ns p e l) lv.2 k q in (r.0, Memᴰ.tail r.1, r.2)
 
 -- the target of an edge of a closed path is the source of one
 onward : (p : Policy) (v w : ℕ) (es : List ℕ) → Path p (below (edges p)) v es w → (e : ℕ) → Memᴰ e es → (target_of p e ≡ w) ⊎ ((f : ℕ) × Memᴰ f es × (source p f ≡ target_of p e))
+onward p v w [] a e x'' = elim x'' [ ]
 onward p v w (x ∷ []) a e (Memᴰ.head k) = inl (ap (target_of p) k ∙ a.2)
 onward p v w (x ∷ []) a e (Memᴰ.tail k) = absurd (Memᴰ.not-nil k)
 onward p v w (x ∷ y ∷ es) a e (Memᴰ.head k) = inr (y, Memᴰ.tail (Memᴰ.head refl), a.2.0 ∙ ap (target_of p) (sym k))
@@ -113,6 +117,7 @@ module _ (p : Policy) (ns : List Node) (laws : ForestLaws p ns) where
   -- once it is met, the run is below it
   settle : (n : ℕ) (es : List ℕ) (l : ℕ) → Live ns p es l → ((x : ℕ) → Memᴰ x (visited ns p es l) → (node ns n).level ≤ (node ns x).level) → Memᴰ n (visited ns p es l) → Memᴰ n (chain ns (leaf_run ns p es l))
   unfolding leaf_run visited
+  settle n [] l lv low k = elim k [ ]
   settle n (e ∷ es) l lv low k = go (Memᴰ.cases_cons k) (settle n es (leaf_after ns p e l) lv.2 (λ x k. low x (Memᴰ.tail k)))
     where
       go : (n ≡ deepest ns e l) ⊎ Memᴰ n (visited ns p es (leaf_after ns p e l)) → (Memᴰ n (visited ns p es (leaf_after ns p e l)) → Memᴰ n (chain ns (leaf_run ns p es (leaf_after ns p e l)))) → Memᴰ n (chain ns (leaf_run ns p es (leaf_after ns p e l)))

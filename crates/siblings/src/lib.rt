@@ -1,5 +1,7 @@
 // Siblings among the masks of a list that need not be in order: the next root, and the children of a node, by their positions in the list. No mask is 0, so 0
 // stands for none. This is an inner layer: its callers lend lists without a mask twice.
+#![tactic(auto)]
+
 ghost use Rattle.std.specs.Prelude.{◌≡◌, ◌≢◌, ℕ, ◌<◌, ◌≤◌, length, get_or};
 ghost use mathlib.Core.List.{Memᴰ};
 ghost use Rattle.lists.specs.Lists.{Distinct};
