@@ -1,4 +1,6 @@
 // Reading the header of a text (document 02, S-4): all that stands before the formula.
+#![tactic(auto)]
+
 ghost use Rattle.std.specs.Prelude.{◌≡◌, not, ◌≤◌, ◌<◌, length};
 ghost use Rattle.lists.specs.Lists.{any};
 ghost use Rattle.hanoi.specs.Documents.{same_bytes};
