@@ -34,6 +34,7 @@ unfolding least_of
 least-with l k least e = omega (arith, least-append l (k ∷ []), least-cons k [], least-top l)
 
 pub least-le : (l : List ℕ) (k : ℕ) → Memᴰ k l → least_of l ≤ k
+least-le [] k x' = elim x' [ ]
 least-le (x ∷ l) k (Memᴰ.head e) = omega (arith, least-cons x l)
 least-le (x ∷ l) k (Memᴰ.tail m) = omega (arith, least-cons x l, least-le l k m)
 

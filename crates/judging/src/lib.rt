@@ -1,4 +1,6 @@
 // Judging a stem and a loop repeated without end, on a policy and on the rows of a built automaton. A round is one reading of the loop.
+#![tactic(auto)]
+
 ghost use Rattle.std.specs.Prelude.{◌≡◌, true, ◌||◌, [], ◌<◌, min};
 ghost use Rattle.judging.specs.Judging.{in_range, recurring_colours, ever_dangling, least_recurring, JudgesPolicy, JudgesRows};
 ghost use Rattle.judging.specs.Rounds.{OverRows, OverEdges, run_of, seen_step, seen_after, coloured_step, coloured_after};
