@@ -132,6 +132,7 @@ module _ (b : List ℕ) where
       offsets = offsets_most n b (next_offset b at) (draft_after d (command_at b at))
 
       go : (x : Bool) → goes_on at d ≡ x → (Memᴰ o offsets → is_shape (command_at b o) ≡ false) → Memᴰ o (cond x (at ∷ offsets) []) → is_shape (command_at b o) ≡ false
+      go false t ih x5 = elim x5 [ ]
       go true t ih (Memᴰ.head e) = ap (λ (x : ℕ). is_shape (command_at b x)) e ∙ later-plain at d h t
       go true t ih (Memᴰ.tail m) = ih m
 
@@ -159,6 +160,7 @@ module _ (b : List ℕ) where
 
         go : (x : Bool) → (Memᴰ o offsets → command_at b o ≡ Quiet v a t → is_quiet (stop true).draft.policy (edge_of (stop true).draft.policy v a) ≡ true)
             → Memᴰ o (cond x (at ∷ offsets) []) → command_at b o ≡ Quiet v a t → is_quiet (stop x).draft.policy (edge_of (stop x).draft.policy v a) ≡ true
+        go false ih x4 q = elim x4 [ ]
         go true ih (Memᴰ.head e) q = head (sym (ap (command_at b) e) ∙ q)
         go true ih (Memᴰ.tail m) q = ih m q
 

@@ -1,0 +1,16 @@
+-- `reading::edge_of` meets its contract: the product of two bytes fits.
+-- Assumes nothing.
+use native.Mathlib.Omega.{arith}
+use Rattle.lists.proofs.Numbers.{product_lt}
+use Rattle.policy.specs.Policies.{edge_of}
+use Rattle.reading.proofs.edge_of.Goals as goal
+
+pub overflow_mul-result : goal.overflow_mul-result
+overflow_mul-result c = omega (arith, product_lt c.wide.ensures.1 c.wide-2.ensures.1)
+
+pub overflow_add-result : goal.overflow_add-result
+overflow_add-result c = omega (arith, product_lt c.wide.ensures.1 c.wide-2.ensures.1)
+
+pub returns : goal.returns
+unfolding edge_of
+returns c = rw (c.wide.ensures.0, c.wide-2.ensures.0, c.wide-3.ensures.0)
