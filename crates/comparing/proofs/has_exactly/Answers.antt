@@ -3,7 +3,6 @@ use mathlib.Core.Path.{sym, ap, ◌∙◌}
 use mathlib.Core.Bool.{Bool, ◌&&◌}
 use Prim.Native.Nat.{ℕ}
 use lib.Dec.{eqb}
-use borrow.Author.Rules.{rules}
 use Rattle.lists.proofs.Bools.{≡eqb, neqb}
 use Rattle.policy.specs.ByColour.{table_colours}
 use Rattle.comparing.specs.Pairs.{exactly_by}

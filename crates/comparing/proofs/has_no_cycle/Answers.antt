@@ -1,12 +1,10 @@
-use Prim.Native.Nat.{ℕ, ◌-◌, ◌≤◌, ◌<◌}
+use Prim.Native.Nat.{ℕ, ◌≤◌, ◌<◌}
 use native.Mathlib.Nat.{le_antisymm}
 use native.Mathlib.Omega.{arith}
 use lib.Bits.{bit_and}
-use lib.ListN.{get_or}
 use mathlib.Core.Path.{◌≡◌, refl, sym, ap, ap₂, ◌∙◌}
 use mathlib.Core.Logic.{◌⊎◌, inl, inr, ⊎_elim}
 use mathlib.Core.Bool.{Bool, true, false, not, ◌&&◌, true≢false}
-use borrow.Author.Rules.{rules}
 use Rattle.lists.specs.Lists.{all, below}
 use Rattle.lists.proofs.AnyAll.{all_more, all-not}
 use Rattle.lists.proofs.Bools.{and_l}
@@ -16,10 +14,11 @@ use Rattle.policy.specs.declared.Policy.{Policy}
 use Rattle.policy.proofs.Laws.{legal-counts}
 use Rattle.graph.specs.Through.{states_on_cycles}
 use Rattle.graph.proofs.OnCycle.{on_is, on-own}
-use Rattle.comparing.specs.Pairs.{ColourTables, Searchable, pair_edges, no_cycle_at, no_cycle}
+use Rattle.comparing.specs.Pairs.{ColourTables, pair_edges, no_cycle_at, no_cycle}
 use Rattle.comparing.proofs.Answers.{none-off, some-here, none_here, none-there}
 use Rattle.comparing.proofs.Searches.{pair-edges-by, exactly-by}
 use Rattle.comparing.proofs.has_no_cycle.Goals as goal
+use Rattle.comparing.proofs.has_no_cycle.Goals.{then-has+else-has_exactly, else-has}
 
 -- a state is gone, or was not left
 unless : (a b : Bool) → a && not b ≡ false → (a ≡ false) ⊎ (b ≡ true)
@@ -36,14 +35,14 @@ reach_all-requires c = ((c.requires.0.0, c.requires.0.2.graph), c.requires.1)
 pub states_on_cycles-left-requires : goal.states_on_cycles-left-requires
 states_on_cycles-left-requires c =
     let few : c.args.states ≤ 16 =
-        let g = c.requires.0.2.graph in omega (arith, g.states_are, (legal-counts c.requires.0.0 g.lawful).states_few) in
+    let g = c.requires.0.2.graph in omega (arith, g.states_are, (legal-counts c.requires.0.0 g.lawful).states_few) in
     few
 
 pub loop-v-init : goal.loop-v-init
 loop-v-init c =
     let whole : let a = c.args in (p q : Policy) → ColourTables p q a.t.now a.u.now → c.both-m.result ≡ pair_edges p q a.c a.d =
-        λ p q k. let a = c.args in
-        c.both-m.ensures ∙ ap₂ bit_and c.edges_in.ensures c.edges_in-2.ensures ∙ pair-edges-by p q a.t.now a.u.now k a.c a.d in
+    λ p q k. let a = c.args in
+    c.both-m.ensures ∙ ap₂ bit_and c.edges_in.ensures c.edges_in-2.ensures ∙ pair-edges-by p q a.t.now a.u.now k a.c a.d in
     let a = c.args in (
       omega arith,
       λ w h. on-own _ _ w (sym (ap (λ (s : ℕ). has s w) c.states_on_cycles-left.ensures) ∙ h),
@@ -58,31 +57,31 @@ loop-v-init c =
 pub has-requires : goal.has-requires
 has-requires c =
     let few : c.args.states ≤ 16 =
-        let g = c.requires.0.2.graph in omega (arith, g.states_are, (legal-counts c.requires.0.0 g.lawful).states_few) in
+    let g = c.requires.0.2.graph in omega (arith, g.states_are, (legal-counts c.requires.0.0 g.lawful).states_few) in
     let state : c.loop-v.v < 16 =
-        omega (arith, few, c.loop-v-test.true) in
+    omega (arith, few, c.loop-v-test.true) in
     omega (arith, state)
 
 pub cycle_states-s-requires : goal.cycle_states-s-requires
 cycle_states-s-requires c =
     let few : c.args.states ≤ 16 =
-        let g = c.requires.0.2.graph in omega (arith, g.states_are, (legal-counts c.requires.0.0 g.lawful).states_few) in
+    let g = c.requires.0.2.graph in omega (arith, g.states_are, (legal-counts c.requires.0.0 g.lawful).states_few) in
     let state : c.loop-v.v < 16 =
-        omega (arith, few, c.loop-v-test.true) in
+    omega (arith, few, c.loop-v-test.true) in
     state
 
 pub edges_between-x-requires : goal.edges_between-x-requires
 edges_between-x-requires c =
     let few : c.args.states ≤ 16 =
-        let g = c.requires.0.2.graph in omega (arith, g.states_are, (legal-counts c.requires.0.0 g.lawful).states_few) in
+    let g = c.requires.0.2.graph in omega (arith, g.states_are, (legal-counts c.requires.0.0 g.lawful).states_few) in
     few
 
 pub returns-then-has_exactly : goal.returns-then-has_exactly
 unfolding no_cycle
 returns-then-has_exactly c =
     let whole : let a = c.args in (p q : Policy) → ColourTables p q a.t.now a.u.now → c.both-m.result ≡ pair_edges p q a.c a.d =
-        λ p q k. let a = c.args in
-        c.both-m.ensures ∙ ap₂ bit_and c.edges_in.ensures c.edges_in-2.ensures ∙ pair-edges-by p q a.t.now a.u.now k a.c a.d in
+    λ p q k. let a = c.args in
+    c.both-m.ensures ∙ ap₂ bit_and c.edges_in.ensures c.edges_in-2.ensures ∙ pair-edges-by p q a.t.now a.u.now k a.c a.d in
     let a = c.args in
     let at = c.loop-v in
     let on = at.invariant.1 at.v (sym c.has.ensures ∙ c.if-has.true) in (
@@ -97,29 +96,35 @@ returns-then-has_exactly c =
 pub loop-v-preserved : goal.loop-v-preserved
 loop-v-preserved c =
     let whole : let a = c.args in (p q : Policy) → ColourTables p q a.t.now a.u.now → c.both-m.result ≡ pair_edges p q a.c a.d =
-        λ p q k. let a = c.args in
-        c.both-m.ensures ∙ ap₂ bit_and c.edges_in.ensures c.edges_in-2.ensures ∙ pair-edges-by p q a.t.now a.u.now k a.c a.d in
+    λ p q k. let a = c.args in
+    c.both-m.ensures ∙ ap₂ bit_and c.edges_in.ensures c.edges_in-2.ensures ∙ pair-edges-by p q a.t.now a.u.now k a.c a.d in
     let a = c.args in
     let at = c.loop-v in (
       omega arith,
-      λ u t. ⊎_elim (λ w. at.invariant.1 u (and_l (has at.left u) (not (has w.2.result u)) (sym (gone at.left w.2.result u (w.7 ∙ w.6.ensures)) ∙ t))) (λ w. at.invariant.1 u (sym (ap (λ (x : ℕ). has x u) w.1) ∙ t)) c.if-has.branch,
+      λ u t.
+          elim c.if-has.branch [
+            | then-has+else-has_exactly w ↦
+                let s = w.cycle_states-s.result in
+                at.invariant.1 u (and_l (has at.left u) (not (has s u)) (sym (gone at.left s u (w.left-is ∙ w.without-left.ensures)) ∙ t))
+            | else-has w ↦ at.invariant.1 u (sym (ap (λ (x : ℕ). has x u) w.left-is) ∙ t)
+          ],
       λ p q k.
           let l : at.v < p.states = omega (arith, k.graph.states_are, c.loop-v-test.true) in
           let so_far = at.invariant.2 p q k in
-          ⊎_elim
-          (λ w.
-          let on = at.invariant.1 at.v (sym c.has.ensures ∙ w.0.taken) in
-          let its = whole p q k.tables in
-          let is = c.reach_all.ensures.0 p k.graph in
-          let miss = sym (w.4.ensures ∙ exactly-by p q a.t.now a.u.now k.tables a.c a.d _) ∙ w.5.left in
-          let here = none_here p q a.c a.d _ at.v k.graph.lawful its is l on a.out.now a.into.now k.ends _ _ w.2.ensures _ k.graph.states_are w.3.ensures miss in
-          let there = none-there p q a.c a.d _ at.v k.graph.lawful its is l on a.out.now a.into.now k.ends _ _ w.2.ensures _ k.graph.states_are w.3.ensures here in
-          (all_more (no_cycle_at p q a.c a.d) at.v so_far.0 here, λ u lu t. ⊎_elim (so_far.1 u lu) (there u) (unless (has at.left u) (has w.2.result u) (sym (gone at.left w.2.result u (w.7 ∙ w.6.ensures)) ∙ t))))
-          (λ w. (
-            all_more (no_cycle_at p q a.c a.d) at.v so_far.0 (so_far.1 at.v l (sym c.has.ensures ∙ w.0.left)),
-            λ u lu t. so_far.1 u lu (sym (ap (λ (x : ℕ). has x u) w.1) ∙ t),
-          ))
-          c.if-has.branch,
+          elim c.if-has.branch [
+            | then-has+else-has_exactly w ↦
+                let on = at.invariant.1 at.v (sym c.has.ensures ∙ w.if-has.true) in
+                let its = whole p q k.tables in
+                let is = c.reach_all.ensures.0 p k.graph in
+                let s = w.cycle_states-s in
+                let x = w.edges_between-x in
+                let miss = sym (w.has_exactly.ensures ∙ exactly-by p q a.t.now a.u.now k.tables a.c a.d _) ∙ w.if-has_exactly.false in
+                let here = none_here p q a.c a.d _ at.v k.graph.lawful its is l on a.out.now a.into.now k.ends _ _ s.ensures _ k.graph.states_are x.ensures miss in
+                let there = none-there p q a.c a.d _ at.v k.graph.lawful its is l on a.out.now a.into.now k.ends _ _ s.ensures _ k.graph.states_are x.ensures here in
+                (all_more (no_cycle_at p q a.c a.d) at.v so_far.0 here, λ u lu t. ⊎_elim (so_far.1 u lu) (there u) (unless (has at.left u) (has s.result u) (sym (gone at.left s.result u (w.left-is ∙ w.without-left.ensures)) ∙ t)))
+            | else-has w ↦
+                (all_more (no_cycle_at p q a.c a.d) at.v so_far.0 (so_far.1 at.v l (sym c.has.ensures ∙ w.if-has.false)), λ u lu t. so_far.1 u lu (sym (ap (λ (x : ℕ). has x u) w.left-is) ∙ t))
+          ],
     )
 
 pub returns : goal.returns

@@ -1,25 +1,12 @@
 -- `has_no_cycle` meets its contract: no state passed has such a cycle through it, nor one that is not left. Assumes nothing.
 use Prim.Native.Nat.{ℕ, ◌-◌, ◌≤◌, ◌<◌}
-use native.Mathlib.Nat.{le_antisymm}
-use native.Mathlib.Omega.{arith}
-use lib.Bits.{bit_and}
 use lib.ListN.{get_or}
-use mathlib.Core.Path.{◌≡◌, refl, sym, ap, ap₂, ◌∙◌}
-use mathlib.Core.Logic.{◌⊎◌, inl, inr, ⊎_elim}
-use mathlib.Core.Bool.{Bool, true, false, not, ◌&&◌, true≢false}
-use borrow.Author.Rules.{rules}
+use mathlib.Core.Path.{◌≡◌}
+use mathlib.Core.Bool.{true, false}
 use Rattle.lists.specs.Lists.{all, below}
-use Rattle.lists.proofs.AnyAll.{all_more, all-not}
-use Rattle.lists.proofs.Bools.{and_l}
-use Rattle.masks.specs.Masks.{has, minus}
-use Rattle.masks.proofs.Bits.{has-minus}
+use Rattle.masks.specs.Masks.{has}
 use Rattle.policy.specs.declared.Policy.{Policy}
-use Rattle.policy.proofs.Laws.{legal-counts}
-use Rattle.graph.specs.Through.{states_on_cycles}
-use Rattle.graph.proofs.OnCycle.{on_is, on-own}
-use Rattle.comparing.specs.Pairs.{ColourTables, Searchable, pair_edges, no_cycle_at, no_cycle}
-use Rattle.comparing.proofs.Answers.{none-off, some-here, none_here, none-there}
-use Rattle.comparing.proofs.Searches.{pair-edges-by, exactly-by}
+use Rattle.comparing.specs.Pairs.{Searchable, no_cycle_at}
 use Rattle.comparing.proofs.has_no_cycle.Given as goal
 
 abbrev pub invariant-loop-v : goal.invariant-loop-v

@@ -1,5 +1,4 @@
 -- `has_same_graph` meets its contract. Assumes nothing.
-use borrow.Author.Rules.{rules}
 use borrow.Author.Tests.{eq-eqb, ne_eqb}
 use Rattle.graph.proofs.SameGraph.{same-graph-is}
 use Rattle.comparing.proofs.has_same_graph.Goals as goal

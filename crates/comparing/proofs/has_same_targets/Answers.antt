@@ -1,9 +1,7 @@
-use Prim.Native.Nat.{◌-◌, ◌≤◌, ◌<◌}
+use Prim.Native.Nat.{◌<◌}
 use native.Mathlib.Nat.{le_antisymm}
 use native.Mathlib.Omega.{arith}
-use mathlib.Core.Path.{◌≡◌, refl, sym, ap, ◌∙◌}
-use mathlib.Core.Bool.{true}
-use borrow.Author.Rules.{rules}
+use mathlib.Core.Path.{refl, sym, ap, ◌∙◌}
 use Rattle.lists.specs.Lists.{all, below}
 use Rattle.lists.proofs.AnyAll.{all_more, all-not}
 use Rattle.policy.specs.Policies.{edges}
@@ -18,19 +16,19 @@ loop-e-init c = (omega arith, refl)
 pub bounds-heads-e : goal.bounds-heads-e
 bounds-heads-e c =
     let within : c.loop-e.e < edges c.args.p =
-        omega (arith, c.edges-n.ensures, c.loop-e-test.true) in
+    omega (arith, c.edges-n.ensures, c.loop-e-test.true) in
     omega (arith, within, edges_le c.args.p c.requires.0)
 
 pub bounds-others-e : goal.bounds-others-e
 bounds-others-e c =
     let within : c.loop-e.e < edges c.args.p =
-        omega (arith, c.edges-n.ensures, c.loop-e-test.true) in
+    omega (arith, c.edges-n.ensures, c.loop-e-test.true) in
     omega (arith, within, edges_le c.args.p c.requires.0)
 
 pub returns-then-heads-e : goal.returns-then-heads-e
 returns-then-heads-e c =
     let within : c.loop-e.e < edges c.args.p =
-        omega (arith, c.edges-n.ensures, c.loop-e-test.true) in
+    omega (arith, c.edges-n.ensures, c.loop-e-test.true) in
     let a = c.args in
     let e = c.loop-e.e in
     sym (sym (targets_by a.heads.now a.others.now a.p a.q c.requires.1 c.requires.2) ∙ all-not (same_head a.heads.now a.others.now) (edges a.p) e (within) (head-other a.heads.now a.others.now e c.if-heads-e.true))

@@ -1,7 +1,6 @@
 -- `needs_search` meets its contract. Assumes nothing.
 use mathlib.Core.Path.{sym, ap, ◌∙◌}
 use lib.Bits.{bit_and}
-use borrow.Author.Rules.{rules}
 use Rattle.comparing.specs.Pairs.{exactly_by}
 use Rattle.comparing.proofs.Searches.{by_one, by_two}
 use Rattle.comparing.proofs.needs_search.Goals as goal

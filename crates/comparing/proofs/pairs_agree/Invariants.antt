@@ -1,22 +1,11 @@
 -- `pairs_agree` meets its contract: each set passed agrees with all of the other side. Assumes nothing.
-use Prim.Native.Nat.{ℕ, ◌-◌, ◌≤◌, ◌<◌, ◌^◌}
-use native.Mathlib.Nat.{le_antisymm}
-use native.Mathlib.Omega.{arith}
-use mathlib.Core.Path.{◌≡◌, refl, sym, ap, ap₂, ◌∙◌}
-use mathlib.Core.Bool.{Bool, true, false}
-use mathlib.Core.List.{List}
-use lib.ListN.{length, get_or, length-replicate}
-use borrow.Author.Rules.{rules}
-use borrow.Author.Tests.{not-true, not-false}
+use Prim.Native.Nat.{◌-◌, ◌≤◌}
+use mathlib.Core.Path.{◌≡◌}
+use mathlib.Core.Bool.{true}
+use lib.ListN.{length}
 use Rattle.lists.specs.Lists.{all, below}
-use Rattle.lists.proofs.AnyAll.{all_more, all-not}
-use Rattle.lists.proofs.Numbers.{set-byte}
 use Rattle.policy.specs.declared.Policy.{Policy}
-use Rattle.policy.specs.Policies.{edges, in_family}
-use Rattle.policy.proofs.Laws.{legal-counts}
-use Rattle.graph.specs.Through.{GraphOf, entering}
-use Rattle.graph.proofs.CodeLaws.{Fits, graph-fits}
-use Rattle.comparing.specs.Pairs.{Searchable, Asked, set_agrees, pairs_agree}
+use Rattle.comparing.specs.Pairs.{Searchable, set_agrees}
 use Rattle.comparing.proofs.pairs_agree.Given as goal
 
 abbrev pub invariant-loop-c : goal.invariant-loop-c

@@ -1,6 +1,5 @@
 -- `sets` meets its contract. Assumes nothing.
 use native.Mathlib.Omega.{arith}
-use borrow.Author.Rules.{rules}
 use Rattle.masks.proofs.Bits.{shl_one}
 use Rattle.comparing.proofs.sets.Goals as goal
 
