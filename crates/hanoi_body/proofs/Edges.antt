@@ -14,7 +14,7 @@ use Rattle.masks.proofs.SetOf.{set-append}
 use Rattle.hanoi.specs.Texts.{white, digit}
 use Rattle.hanoi.specs.Documents.{Formula, Edge, plain, marked}
 use Rattle.hanoi.specs.Meaning.{mark_set}
-use Rattle.hanoi.specs.Offers.{below, takes_name, between, dead, word_on, begin_word, begin, byte_at, step_byte}
+use Rattle.hanoi.specs.Offers.{takes_name, between, dead, word_on, begin_word, begin, byte_at, step_byte}
 use Rattle.hanoi.specs.Reader.{Head, At, edges, target, braces, row_over, edge_next, row_next, offers}
 use Rattle.hanoi_tokens.specs.declared.Begun.{Begun}
 use Rattle.hanoi_tokens.specs.declared.Number.{Number}

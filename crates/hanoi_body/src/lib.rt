@@ -1,5 +1,7 @@
 // Reading what stands behind --BODY-- (document 02, S-4): for each state its number and an edge for each letter, a target and optionally marks in braces, and the end. What a function promises is
 // promised of whatever place the reader of documents is at.
+#![tactic(auto)]
+
 ghost use Rattle.std.specs.Prelude.{◌≡◌, true, ◌+◌, ◌*◌, ◌≤◌, ◌<◌, length};
 ghost use Rattle.hanoi_body.specs.Edges.{stopped_at, ReadsMarks, ReadsEdge};
 ghost use Rattle.hanoi_body.specs.Rows.{ReadsState, WithEdge, ReadsRow, ReadsEnd};
