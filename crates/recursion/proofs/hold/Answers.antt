@@ -1,20 +1,19 @@
 use Rattle.recursion.proofs.Steps.{held_asks, holds, hold-rows, paint-asks-twice, front-asks, le_trans, marks-few, marks-few-more}
 use lib.ListN.{length}
 use native.Mathlib.Omega.{arith}
-use borrow.Author.Rules.{rules}
 use Rattle.recursion.proofs.hold.Goals as goal
 
 pub hold_of-requires : goal.hold_of-requires
 hold_of-requires c = c.requires.small
 
 pub release-freed-requires : goal.release-freed-requires
-release-freed-requires c = record { rows = hold-rows _ _ _ _ _ _ _ _ c.hold_of.ensures c.requires.rows; long = c.requires.long; order = c.requires.arena; }
+release-freed-requires c = record { rows = hold-rows _ _ _ _ _ _ _ _ c.hold_of.ensures c.requires.rows; long = c.requires.long; order = c.requires.arena }
 
 pub held_task-k-requires : goal.held_task-k-requires
 held_task-k-requires c = c.requires.small
 
 pub attract-again-requires : goal.attract-again-requires
-attract-again-requires c = let q = held_asks _ _ _ _ _ _ _ c.requires.small _ _ _ _ _ _ _ _ _ c.held_task-k.ensures c.hold_of.ensures c.requires.rows c.release-freed.ensures c.requires.arena.0 c.requires.arena.1 c.requires.by_index in record { rows = q.0; apart = q.1; long = (omega (arith, c.release-freed.ensures.long, c.requires.long.0), c.requires.long.1); order = q.2; }
+attract-again-requires c = let q = held_asks _ _ _ _ _ _ _ c.requires.small _ _ _ _ _ _ _ _ _ c.held_task-k.ensures c.hold_of.ensures c.requires.rows c.release-freed.ensures c.requires.arena.0 c.requires.arena.1 c.requires.by_index in record { rows = q.0; apart = q.1; long = (omega (arith, c.release-freed.ensures.long, c.requires.long.0), c.requires.long.1); order = q.2 }
 
 pub won_mark-own-requires : goal.won_mark-own-requires
 won_mark-own-requires c = omega (arith, c.requires.small)

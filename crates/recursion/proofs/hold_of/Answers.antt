@@ -1,5 +1,4 @@
 use Rattle.recursion.proofs.Steps.{hold-is}
-use borrow.Author.Rules.{rules}
 use Rattle.recursion.proofs.hold_of.Goals as goal
 
 pub returns : goal.returns

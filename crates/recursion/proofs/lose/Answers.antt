@@ -1,14 +1,13 @@
 use Rattle.recursion.proofs.Steps.{lost-asks, loses, paint-asks, front-asks, marks-few}
 use lib.ListN.{length}
 use native.Mathlib.Omega.{arith}
-use borrow.Author.Rules.{rules}
 use Rattle.recursion.proofs.lose.Goals as goal
 
 pub lost_task-k-requires : goal.lost_task-k-requires
 lost_task-k-requires c = c.requires.small
 
 pub attract-rest-requires : goal.attract-rest-requires
-attract-rest-requires c = let q = lost-asks _ _ _ _ _ _ _ c.requires.small _ c.args.marks.now _ _ c.lost_task-k.ensures c.requires.rows c.requires.lists in record { rows = q.0; apart = q.1; long = c.requires.long; order = q.2; }
+attract-rest-requires c = let q = lost-asks _ _ _ _ _ _ _ c.requires.small _ c.args.marks.now _ _ c.lost_task-k.ensures c.requires.rows c.requires.lists in record { rows = q.0; apart = q.1; long = c.requires.long; order = q.2 }
 
 pub won_mark-theirs-requires : goal.won_mark-theirs-requires
 won_mark-theirs-requires c = omega (arith, c.requires.small)

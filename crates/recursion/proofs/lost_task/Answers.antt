@@ -1,5 +1,4 @@
 use Rattle.recursion.proofs.Steps.{lost-is}
-use borrow.Author.Rules.{rules}
 use Rattle.recursion.proofs.lost_task.Goals as goal
 
 pub returns : goal.returns

@@ -1,5 +1,4 @@
 use Rattle.recursion.proofs.Steps.{task-plant}
-use borrow.Author.Rules.{rules}
 use Rattle.recursion.proofs.rows_task.Goals as goal
 
 pub returns : goal.returns

@@ -1,5 +1,4 @@
 use Rattle.recursion.proofs.Steps.{won-true, won-false}
-use borrow.Author.Rules.{rules}
 use Rattle.recursion.proofs.won_mark.Goals as goal
 
 pub returns-then-plant : goal.returns-then-plant

@@ -1,0 +1,41 @@
+use native.Mathlib.Omega.{arith}
+use Rattle.recursion.proofs.Going.{going_start, going_end, going-lt, going-asks, going-head, going-arena, going-listed, going-turning, going_less, going_more}
+use Rattle.recursion.proofs.Steps.{marks-few}
+use Rattle.recursion.proofs.+solve.Goals as goal
+
+pub loop-left-init : goal.loop-left-init
+loop-left-init t c = going_start _ _ _ _ _ _ _ _ _ _ _ c.requires.levels.0 c.requires.arena.0 c.requires.arena.1 c.requires.lists
+
+pub attract-rest-requires-clause-order : goal.attract-rest-requires-clause-order
+attract-rest-requires-clause-order t c = (going-asks _ _ _ _ _ _ _ _ _ _ _ _ _ _ _ c.loop-left.invariant _ c.rows_task.ensures c.requires.rows).2
+
+pub solve-requires : goal.solve-requires
+solve-requires t c =
+    let x = c.loop-left.invariant in
+    let lt = going-lt _ _ _ _ _ _ _ _ _ _ _ _ _ _ _ c.loop-left.invariant c.loop-left-test.true c.requires.levels.1 in
+    let few = c.requires.long in
+    let so_far = c.attract-rest.ensures.0.so_far in (
+      omega (arith, lt, c.decreases),
+      (
+        c.requires.rows,
+        (
+          (omega (arith, lt), c.requires.levels.1),
+          (
+            (marks-few few.0 x.level.marks_long so_far.marks_long, marks-few few.1 x.level.choices_long so_far.choices_long),
+            ((going-head _ _ _ _ _ _ _ _ _ _ _ _ _ _ _ c.loop-left.invariant _ _ _ _ _ c.rows_task.ensures c.attract-rest.ensures, going-arena _ _ _ _ _ _ _ _ _ _ _ _ _ _ _ c.loop-left.invariant _ _ _ _ _ c.rows_task.ensures c.attract-rest.ensures), going-listed _ _ _ _ _ _ _ _ _ _ _ _ _ _ _ c.loop-left.invariant _ _ _ _ _ c.rows_task.ensures c.attract-rest.ensures),
+          ),
+        ),
+      ),
+    )
+
+pub turn-left-requires-clause-turning : goal.turn-left-requires-clause-turning
+turn-left-requires-clause-turning t c = going-turning _ _ _ _ _ _ _ _ _ _ _ _ _ _ _ c.loop-left.invariant _ _ _ _ _ c.rows_task.ensures c.attract-rest.ensures c.requires.rows _ _ _ c.solve.ensures
+
+pub loop-left-smaller : goal.loop-left-smaller
+loop-left-smaller t c = going_less _ _ _ _ _ _ _ _ _ _ _ _ _ _ _ c.loop-left.invariant _ _ _ _ _ c.rows_task.ensures c.attract-rest.ensures c.requires.rows _ _ _ c.solve.ensures _ _ _ _ c.turn-left.ensures c.loop-left-test.true
+
+pub loop-left-preserved : goal.loop-left-preserved
+loop-left-preserved t c = going_more _ _ _ _ _ _ _ _ _ _ _ _ _ _ _ c.loop-left.invariant _ _ _ _ _ c.rows_task.ensures c.attract-rest.ensures c.requires.rows _ _ _ c.solve.ensures _ _ _ _ c.turn-left.ensures c.loop-left-test.true
+
+pub returns : goal.returns
+returns t c = going_end _ _ _ _ _ _ _ _ _ _ _ _ _ _ _ c.loop-left-test.false c.loop-left.invariant
