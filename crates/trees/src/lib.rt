@@ -1,4 +1,6 @@
 // The trees of the forest, grown in the node tables. The children of a mask are looked for once: where its tree stands in the tables already, it is copied.
+#![tactic(auto)]
+
 ghost use Rattle.std.specs.Prelude.{◌≡◌, cond, ℕ, ◌+◌, ◌-◌, ◌*◌, ◌<◌, ◌≤◌, length, get_or, set};
 ghost use mathlib.Core.List.{◌++◌, Memᴰ};
 ghost use Rattle.std.proofs.lemmas.List.Edits.{sets};
