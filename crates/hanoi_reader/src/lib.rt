@@ -1,4 +1,6 @@
 // Reading a policy from a text of the Hanoi Omega-Automata format, version 1 (document 02, S-4): one pass over the text, and one over its formula for each 64 sets of the colours.
+#![tactic(auto)]
+
 ghost use Rattle.std.specs.Prelude.{◌≡◌, ◌&&◌, ◌*◌, ◌≤◌, ◌^◌, leb};
 ghost use Rattle.hanoi.specs.Answers.{refused, Answers};
 ghost use Rattle.hanoi.specs.Reading.{hanoi_of};
