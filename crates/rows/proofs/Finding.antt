@@ -78,7 +78,7 @@ module _ (p : Policy) (ok : legal p ≡ true) (ls : List ℕ) (col : Column (sta
     some : (z : ℕ) × Memᴰ z (leaves (forest p) p w)
     some =
         let y = leaf-under p (forest p) (forest-laws p ok) w (deepest (forest p) e l) g.node_range g.node_target in
-        (y.0, of-leaf (forest p) p w y.0 y.1.in_range y.1.is_IsLeaf)
+        (y.0, of-leaf (forest p) p w y.0 y.1.in_range y.1.is-leaf)
 
     -- a state over the target below a child after the one that leads to l
     target-next : (r : ℕ) → child ≢ at → LowerBound ls (first_over p (target_of p e)) (first_over p (target_of p e + 1)) (end_of (forest p) child) r

@@ -12,7 +12,7 @@ use Rattle.lists.proofs.Bools.{test, neqb, not-true}
 use Rattle.masks.specs.Masks.{has}
 use Rattle.policy.specs.declared.Policy.{Policy}
 use Rattle.policy.specs.Policies.{target_of}
-use Rattle.forest.specs.Forest.{Node, forest, priority, chain, child_of, in_root}
+use Rattle.forest.specs.Forest.{Node, forest, chain, child_of, in_root}
 use Rattle.forest.specs.Laws.{ForestLaws, mask_at}
 use Rattle.forest.proofs.Chains.{chain-le, chain-lt}
 use Rattle.forest.proofs.Forest.{forest-laws}

@@ -1,5 +1,7 @@
 // The rows of the automaton, edge by edge: the walk up from a leaf to the deepest node with an edge, a search among the states over the edge's target, and the
 // leaves that share what was found.
+#![tactic(auto)]
+
 ghost use Rattle.std.specs.Prelude.{◌≡◌, true, ◌+◌, ◌*◌, ◌≤◌, ◌<◌, length, get_or};
 ghost use mathlib.Core.List.{Memᴰ};
 ghost use Rattle.tables.specs.Tables.{padded, Column};
