@@ -1,5 +1,7 @@
 // The columns of masks and parents: the trees of the forest, grown with space of the size that a policy needs. For a policy stand its parts, as for growing: its counts, the
 // targets of its edges, the edges that leave and enter each state, those of each colour, and its family.
+#![tactic(auto)]
+
 ghost use Rattle.std.specs.Prelude.{◌≡◌, true, List, ℕ, length};
 ghost use Rattle.policy.specs.declared.Policy.{Policy};
 ghost use Rattle.policy.specs.Policies.{legal};

@@ -1,6 +1,8 @@
 // The trees of the roots, one after the other: the candidates of each root are listed and its tree is grown, as far as the space that is lent does. For a policy stand its parts,
 // lent, since it would be copied: the numbers of its states and letters, the targets of its edges (`heads`), the edges that leave and enter each state (`out`, `into`), those of
 // each colour (`by`) and its family. So there are many parameters: the parts of the policy, the space and the tables.
+#![tactic(auto)]
+
 ghost use Rattle.std.specs.Prelude.{◌≡◌, ℕ, ◌≤◌, length};
 ghost use mathlib.Core.List.{List, Memᴰ};
 ghost use Rattle.tables.specs.Tables.{places};
