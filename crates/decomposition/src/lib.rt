@@ -1,5 +1,7 @@
 // The alternating cycle decomposition of a policy: the node tables, with the nodes of the forest, tree by tree, and their priorities.
 // Beside a policy stand its arrays, lent: `heads` are the targets of its edges, `colours` their colours; `by` has the edges of each colour.
+#![tactic(auto)]
+
 ghost use Rattle.std.specs.Prelude.{◌≡◌, true, false, cond, ◌+◌, ◌-◌, ◌*◌, ◌≤◌, max, length, take};
 ghost use Rattle.policy.specs.Policies.{accepting, legal};
 ghost use Rattle.policy.specs.ByColour.{by_colour};

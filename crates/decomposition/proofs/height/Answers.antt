@@ -1,0 +1,7 @@
+-- `decomposition::height` meets its contract. Assumes nothing.
+use mathlib.Core.Path.{refl}
+use borrow.Author.Rules.{rules}
+use Rattle.decomposition.proofs.height.Goals as goal
+
+pub returns : goal.returns
+returns c = refl
