@@ -1,4 +1,4 @@
-// The functions of the static library, for C and for Rust (include/wulfrenda.h). A policy crosses the boundary as a record of 452 bytes (crate records), lent with its length;
+// The functions of the static library, for C and for Rust (include/wulfrenda.h); the crate wulfrenda_c exports them. A policy crosses the boundary as a record of 452 bytes (crate records), lent with its length;
 // bytes of another length are no policy's, and refused with 7. Each function that can refuse returns document 01's number, 0 where nothing was refused, and writes what else it answers
 // into places that the caller lends. The seven tables are seven parameters: each crosses as a pointer and a length.
 ghost use Rattle.std.specs.Prelude.{◌≡◌, cond};
@@ -21,16 +21,14 @@ use judging::{PolicyVerdict, RowsVerdict};
 use running::{Reading, Run};
 
 // The archive's version: major times 1,000,000 plus minor times 1,000 plus patch. The header's WULFRENDA_VERSION says which one a caller was built for.
-#[unsafe(no_mangle)]
-pub extern "C" fn wulfrenda_version() -> u32
+pub fn wulfrenda_version() -> u32
     ensures { result ≡ version }
 {
     4000000
 }
 
 // The colour set at a position of the fixed order.
-#[unsafe(no_mangle)]
-pub extern "C" fn wulfrenda_colour_set(position: u8) -> u8
+pub fn wulfrenda_colour_set(position: u8) -> u8
     ensures { result ≡ set_at position }
 {
     colour_sets::set_at(position)
@@ -38,8 +36,7 @@ pub extern "C" fn wulfrenda_colour_set(position: u8) -> u8
 
 // The record of the policy that the command bytes give, and where what follows the end command begins; after a refused reading a record of zeros, and the offset of the refused
 // command. The record's length is asked first: another one is 7, the record as it was, the offset 0.
-#[unsafe(no_mangle)]
-pub extern "C" fn wulfrenda_read(bytes: &[u8], packed: &mut [u8], offset: &mut usize) -> u8
+pub fn wulfrenda_read(bytes: &[u8], packed: &mut [u8], offset: &mut usize) -> u8
     ensures number { result ≡ ask (is_record packed.old) 7 (read_number_of (reading_of bytes.now).outcome) }
     ensures policy { packed.new ≡ cond (is_record packed.old) (record_of (reading_of bytes.now).policy) packed.old }
     ensures offset { offset.new ≡ cond (is_record packed.old) (offset_of (reading_of bytes.now).outcome) 0 }
@@ -59,8 +56,7 @@ pub extern "C" fn wulfrenda_read(bytes: &[u8], packed: &mut [u8], offset: &mut u
 
 // The record of the policy of a text of the Hanoi format; after a refused reading a record of zeros, and beside 18 the length of the longest beginning that some text of the subset
 // shares. The record's length is asked first: another one is 7, the record as it was, the length 0. The last clause says what the answer means, by documents alone.
-#[unsafe(no_mangle)]
-pub extern "C" fn wulfrenda_read_hanoi(text: &[u8], packed: &mut [u8], shared: &mut usize) -> u8
+pub fn wulfrenda_read_hanoi(text: &[u8], packed: &mut [u8], shared: &mut usize) -> u8
     ensures number { result ≡ ask (is_record packed.old) 7 (text_number_of (hanoi_of text.now).outcome) }
     ensures policy { packed.new ≡ cond (is_record packed.old) (record_of (hanoi_of text.now).policy) packed.old }
     ensures shared { shared.new ≡ cond (is_record packed.old) (shared_of (hanoi_of text.now).outcome) 0 }
@@ -80,8 +76,7 @@ pub extern "C" fn wulfrenda_read_hanoi(text: &[u8], packed: &mut [u8], shared: &
 }
 
 // The forest and the automaton in the seven tables; the numbers of nodes and states, and the start, in counts.
-#[unsafe(no_mangle)]
-pub extern "C" fn wulfrenda_translate(
+pub fn wulfrenda_translate(
     packed: &[u8],
     masks: &mut [u64],
     parents: &mut [u16],
@@ -115,8 +110,7 @@ pub extern "C" fn wulfrenda_translate(
 
 // The two in one: the command bytes are read, and the policy that they give is translated. What was read is legal, so question 7 is not asked again; after a refused reading the policy
 // is all zero, and translating an illegal policy leaves the tables as they are and counts nothing. The offset is 0 after a refused translation.
-#[unsafe(no_mangle)]
-pub extern "C" fn wulfrenda_translate_bytes(
+pub fn wulfrenda_translate_bytes(
     bytes: &[u8],
     masks: &mut [u64],
     parents: &mut [u16],
@@ -163,8 +157,7 @@ pub extern "C" fn wulfrenda_translate_bytes(
 }
 
 // The supervisor's game of a policy, for the owners of its states: the translation as above; the winner of each built state, and a letter at each that its owner wins.
-#[unsafe(no_mangle)]
-pub extern "C" fn wulfrenda_solve(
+pub fn wulfrenda_solve(
     packed: &[u8],
     owners: &[u8],
     masks: &mut [u64],
@@ -201,8 +194,7 @@ pub extern "C" fn wulfrenda_solve(
 }
 
 // The same from command bytes, read as by wulfrenda_translate_bytes.
-#[unsafe(no_mangle)]
-pub extern "C" fn wulfrenda_solve_bytes(
+pub fn wulfrenda_solve_bytes(
     bytes: &[u8],
     owners: &[u8],
     masks: &mut [u64],
@@ -242,8 +234,7 @@ pub extern "C" fn wulfrenda_solve_bytes(
 }
 
 // A letter more: the state moves, or stays after a refusal; the priority is that met, or 0 after a refusal.
-#[unsafe(no_mangle)]
-pub extern "C" fn wulfrenda_run(
+pub fn wulfrenda_run(
     letters: u8,
     targets: &[u16],
     priorities: &[u8],
@@ -251,9 +242,9 @@ pub extern "C" fn wulfrenda_run(
     letter: u8,
     priority: &mut u8,
 ) -> u8
-    ensures number { result ≡ run_number_of (run_reading_of letters targets.now priorities.now (record { state = state.entry.now }) letter) }
-    ensures state { state.exit.now ≡ (run_after (run_reading_of letters targets.now priorities.now (record { state = state.entry.now }) letter)).state }
-    ensures priority { priority.new ≡ priority_of (run_reading_of letters targets.now priorities.now (record { state = state.entry.now }) letter) }
+    ensures number { result ≡ run_number_of (run_reading_of letters targets.now priorities.now (record { state = state.old }) letter) }
+    ensures state { state.new ≡ (run_after (run_reading_of letters targets.now priorities.now (record { state = state.old }) letter)).state }
+    ensures priority { priority.new ≡ priority_of (run_reading_of letters targets.now priorities.now (record { state = state.old }) letter) }
 {
     let run = Run { state: *state };
     let x = run.read(letter, letters, targets, priorities);
@@ -272,8 +263,7 @@ pub extern "C" fn wulfrenda_run(
 }
 
 // The colours that recur on a policy from a state over the stem and then the loop without end, and whether their set is in the family.
-#[unsafe(no_mangle)]
-pub extern "C" fn wulfrenda_judge_policy(
+pub fn wulfrenda_judge_policy(
     packed: &[u8],
     state: u8,
     stem: &[u8],
@@ -302,8 +292,7 @@ pub extern "C" fn wulfrenda_judge_policy(
 }
 
 // The least priority that recurs over rows from a state over the stem and then the loop without end.
-#[unsafe(no_mangle)]
-pub extern "C" fn wulfrenda_judge_rows(
+pub fn wulfrenda_judge_rows(
     letters: u8,
     targets: &[u16],
     priorities: &[u8],
@@ -329,8 +318,7 @@ pub extern "C" fn wulfrenda_judge_rows(
 }
 
 // Whether every cycle has the same verdict in both policies.
-#[unsafe(no_mangle)]
-pub extern "C" fn wulfrenda_compare(first: &[u8], second: &[u8], same: &mut u8) -> u8
+pub fn wulfrenda_compare(first: &[u8], second: &[u8], same: &mut u8) -> u8
     ensures number { result ≡ compare_number_of (comparison (policy_of first.now) (policy_of second.now)) }
     ensures same { same.new ≡ flag (same_of (comparison (policy_of first.now) (policy_of second.now))) }
 {
