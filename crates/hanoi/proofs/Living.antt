@@ -8,7 +8,7 @@ use mathlib.Core.List.{List, [], ◌∷◌, ◌++◌, append_assoc, append-nil, 
 use lib.Dec.{eqb, ltb}
 use lib.ListN.{length, replicate, length-append, length-replicate}
 use Rattle.lists.proofs.Bools.{test, and_l, and_r, both, ≡eqb}
-use Rattle.hanoi.specs.Texts.{white, digit, goes_on, spelling, open_ended, Token, word, decimal, quotable_in, quotable, none}
+use Rattle.hanoi.specs.Texts.{white, digit, goes_on, spelling, open_ended, Token, decimal, quotable_in, quotable, none}
 use Rattle.hanoi.specs.Words.{Word}
 use Rattle.hanoi.specs.Offers.{Choice, Numbers, no_number, below, exactly, Names, no_name, new_name, Offer, starts_with, takes, ends, takes_name, is_new, numbered, named, Leads, by_word, by_number, by_name, Spot, between, in_word, digits, in_name, dead, tail_of, word_on, begin_word, begin, byte_at, step_byte, run}
 use Rattle.hanoi.proofs.Digits.{starts-all, starts-rest}

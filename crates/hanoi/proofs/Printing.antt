@@ -1,5 +1,5 @@
 -- What the reader has read is what its state prints: told back, the tokens of the document so far.
-use Prim.Native.Nat.{ℕ, zero, suc, ◌+◌, ◌-◌}
+use Prim.Native.Nat.{ℕ, zero, suc, ◌+◌}
 use native.Mathlib.Omega.{arith}
 use mathlib.Core.Path.{◌≡◌, refl, sym, ap, ap₂, ◌∙◌, subst}
 use mathlib.Core.Bool.{Bool, true, false, cond, false≢true}
@@ -12,7 +12,6 @@ use Rattle.lists.proofs.Bools.{eqb≡}
 use Rattle.hanoi.specs.Texts.{Token, word, number, quoted}
 use Rattle.hanoi.specs.Words.{Word}
 use Rattle.hanoi.specs.Words as w
-use Rattle.hanoi.specs.Documents as d
 use Rattle.hanoi.specs.Documents.{Formula, truth, group, Edge, plain, marked, formula_tokens, edge_tokens, row_tokens, tokens_of}
 use Rattle.hanoi.specs.Offers.{Choice, no_number, below, takes, ends, takes_name, numbered, named, Leads, by_word, by_number, by_name, Goes, stop, go}
 use Rattle.hanoi.specs.Reader.{Hole, fresh, or_else, and_also, or_and, Level, alone, beside, Head, At, hoa, v1, states_word, states_number, start_word, start_number, ap_word, ap_number, naming, sets_number, operand, opening, mark, closing, after, body, state_number, edges, target, braces, finished, plug, whole, and_then, marking, document_of, on, row_over, edge_next, row_next, marks_next, close, names_next, offers}

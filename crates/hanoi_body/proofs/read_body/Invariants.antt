@@ -1,3 +1,4 @@
+-- `read_body` meets its contract: the states before i are read. Assumes nothing.
 use Prim.Native.Nat.{◌-◌}
 use Rattle.hanoi_body.proofs.States.{Reading}
 use Rattle.hanoi_body.proofs.read_body.Given as goal

@@ -1,3 +1,4 @@
+-- `read_edge` meets its contract: a target, then marks in braces or none. Assumes nothing.
 use native.Mathlib.Omega.{arith}
 use Rattle.lists.proofs.Bools.{not-true, unnot}
 use Rattle.hanoi_body.proofs.Edges.{edge_none, edge-breaks, edge-plain, edge-unmarked, edge-marked}

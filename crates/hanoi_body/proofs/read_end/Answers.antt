@@ -1,3 +1,4 @@
+-- `read_end` meets its contract: the last word, then white space alone. Assumes nothing.
 use mathlib.Core.Path.{refl}
 use Rattle.lists.proofs.Bools.{not-true, unnot}
 use Rattle.hanoi_body.proofs.Rows.{end-within, end-no-word, end-other, end_read}

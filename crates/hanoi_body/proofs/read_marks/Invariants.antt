@@ -1,3 +1,4 @@
+-- `read_marks` meets its contract: `marks` holds the marks read so far. Assumes nothing.
 use Prim.Native.Nat.{◌-◌}
 use lib.ListN.{length}
 use Rattle.hanoi_body.proofs.Edges.{Marking}

@@ -1,3 +1,4 @@
+-- `read_row` meets its contract: the edges of the letters before a are read. Assumes nothing.
 use Prim.Native.Nat.{◌-◌}
 use Rattle.hanoi_body.proofs.Rows.{Rowing}
 use Rattle.hanoi_body.proofs.read_row.Given as goal

@@ -1,3 +1,4 @@
+-- `read_state` meets its contract: the word, the number, and the first byte behind them. Assumes nothing.
 use mathlib.Core.Path.{refl}
 use Rattle.lists.proofs.Bools.{not-true, unnot}
 use Rattle.hanoi_body.proofs.Rows.{state-within, state-no-word, state-no-number, state-read}

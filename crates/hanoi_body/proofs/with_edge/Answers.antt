@@ -1,3 +1,4 @@
+-- `with_edge` meets its contract: the two tables are set at the edge's number, which they have room for. Assumes nothing.
 use native.Mathlib.Omega.{arith}
 use mathlib.Core.Path.{refl, sym, ◌∙◌}
 use mathlib.Core.Bool.{true≢false}

@@ -1,3 +1,4 @@
+-- `coloured` meets its contract: by the table below colour 6, and by the word's number from there on. Assumes nothing.
 use native.Mathlib.Omega.{arith}
 use mathlib.Core.Path.{sym, ◌∙◌}
 use Rattle.hanoi_family.proofs.Words.{table, low-has, high-has}

@@ -1,3 +1,4 @@
+-- `family_of` meets its contract: the sets up to s are filled in, and `word` is that of s. Assumes nothing.
 use Prim.Native.Nat.{◌+◌, ◌-◌, ◌/◌, ◌≤◌, ◌^◌}
 use mathlib.Core.Path.{◌≡◌}
 use Rattle.hanoi_family.specs.Family.{IsFamily, IsWord}

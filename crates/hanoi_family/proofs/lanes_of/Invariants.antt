@@ -1,3 +1,4 @@
+-- `lanes_of` meets its contract: the marks below m are filled in. Assumes nothing.
 use Prim.Native.Nat.{◌-◌, ◌≤◌}
 use mathlib.Core.Path.{◌≡◌}
 use lib.ListN.{length}

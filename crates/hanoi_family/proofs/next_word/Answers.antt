@@ -1,3 +1,4 @@
+-- `next_word` meets its contract: the next set is in the same word, or a new word begins with it. Assumes nothing.
 use Rattle.hanoi_family.proofs.Families.{same_word}
 use Rattle.hanoi_family.proofs.next_word.Goals as goal
 

@@ -1,3 +1,4 @@
+-- `sets_with` meets its contract: the colours below c are collected. Assumes nothing.
 use Prim.Native.Nat.{◌-◌, ◌≤◌}
 use Rattle.hanoi_family.proofs.Words.{Collected}
 use Rattle.hanoi_family.proofs.sets_with.Given as goal

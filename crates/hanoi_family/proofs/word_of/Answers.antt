@@ -1,3 +1,4 @@
+-- `word_of` meets its contract: the formula's value in the lanes of the word's sets. Assumes nothing.
 use Rattle.hanoi_family.proofs.Families.{word-is}
 use Rattle.hanoi_family.proofs.word_of.Goals as goal
 

@@ -1,3 +1,4 @@
+-- `mark_lanes` meets its contract: the lanes at the mark, or those without them. Assumes nothing.
 use mathlib.Core.Path.{refl}
 use Rattle.hanoi_formula.proofs.mark_lanes.Goals as goal
 

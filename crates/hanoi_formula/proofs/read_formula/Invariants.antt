@@ -1,3 +1,4 @@
+-- `read_formula` meets its contract: an operand or a sign comes next, and each lane shows what is told so far. Assumes nothing.
 use Prim.Native.Nat.{◌-◌}
 use lib.ListN.{length}
 use Rattle.hanoi_formula.proofs.Formulas.{Going}

@@ -1,3 +1,4 @@
+-- `read_mark` meets its contract: an opening parenthesis, a number and a closing one. Assumes nothing.
 use native.Mathlib.Omega.{arith}
 use Rattle.lists.proofs.Bools.{not-true, unnot}
 use Rattle.hanoi_formula.proofs.Marks.{opened-within, unopened, numbered_within, unnumbered, marked}

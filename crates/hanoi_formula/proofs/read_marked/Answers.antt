@@ -1,3 +1,4 @@
+-- `read_marked` meets its contract: the rest of the word, then the mark. Assumes nothing.
 use Rattle.lists.proofs.Bools.{not-true, unnot}
 use Rattle.hanoi_formula.proofs.Marks.{unspelled, spelled-within, spelled-marked}
 use Rattle.hanoi_formula.proofs.read_marked.Goals as goal

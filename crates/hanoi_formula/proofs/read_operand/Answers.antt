@@ -1,3 +1,4 @@
+-- `read_operand` meets its contract: each byte leads where the reader of documents goes. Assumes nothing.
 use Prim.Native.Nat.{◌<◌}
 use native.Mathlib.Omega.{arith}
 use lib.ListN.{length}

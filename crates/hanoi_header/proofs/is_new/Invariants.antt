@@ -1,3 +1,4 @@
+-- `is_new` meets its contract: none of the names before i is alike. Assumes nothing.
 use Prim.Native.Nat.{◌-◌}
 use Rattle.hanoi_header.proofs.Names.{Unlike}
 use Rattle.hanoi_header.proofs.is_new.Given as goal

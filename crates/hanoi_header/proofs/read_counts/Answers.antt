@@ -1,3 +1,4 @@
+-- `read_counts` meets its contract: version, states, start and number of names, one behind the other. Assumes nothing.
 use native.Mathlib.Omega.{arith}
 use Rattle.lists.proofs.Bools.{not-true, unnot}
 use Rattle.hanoi_header.proofs.Reading.{offered-states, offered-start, offered-ap, counts-version, within-version, counts-states, within-states, states-below, counts_start, within-start, counts-names, counts_all}

@@ -1,3 +1,4 @@
+-- `read_field` meets its contract: a word, then a number. Assumes nothing.
 use Rattle.lists.proofs.Bools.{not-true, unnot}
 use Rattle.hanoi_header.proofs.Reading.{field-within, field-stopped, field-all}
 use Rattle.hanoi_header.proofs.read_field.Goals as goal

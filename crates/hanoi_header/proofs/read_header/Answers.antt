@@ -1,3 +1,4 @@
+-- `read_header` meets its contract: counts, names and number of acceptance sets, one behind the other. Assumes nothing.
 use native.Mathlib.Omega.{arith}
 use Rattle.lists.proofs.Bools.{not-true, unnot}
 use Rattle.hanoi_header.proofs.Reading.{offered-acceptance, header-counts, within-counts, header-names, within-names, header-sets, header-all}

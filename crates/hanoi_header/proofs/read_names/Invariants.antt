@@ -1,3 +1,4 @@
+-- `read_names` meets its contract: the names read so far are new and stand in the text. Assumes nothing.
 use Prim.Native.Nat.{◌-◌}
 use Rattle.hanoi_header.proofs.Names.{Naming}
 use Rattle.hanoi_header.proofs.read_names.Given as goal

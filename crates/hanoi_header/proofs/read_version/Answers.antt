@@ -1,3 +1,4 @@
+-- `read_version` meets its contract: one word, then the other. Assumes nothing.
 use Rattle.lists.proofs.Bools.{not-true, unnot}
 use Rattle.hanoi_header.proofs.Reading.{version-within, version-stopped, version-all}
 use Rattle.hanoi_header.proofs.read_version.Goals as goal

@@ -1,3 +1,4 @@
+-- `same_bytes` meets its contract: the bytes before i are those before j. Assumes nothing.
 use Prim.Native.Nat.{◌-◌}
 use Rattle.hanoi_header.proofs.Bytes.{Comparing}
 use Rattle.hanoi_header.proofs.same_bytes.Given as goal

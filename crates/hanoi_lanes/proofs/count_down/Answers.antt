@@ -1,8 +1,6 @@
-use Prim.Native.Nat.{◌-◌}
 use native.Mathlib.Omega.{arith}
-use lib.ListN.{length, length-set}
-use borrow.Author.Rules.{rules}
-use Rattle.hanoi_lanes.proofs.Counts.{Falling, falling-first, falling-more, falling-stop, falling-end}
+use lib.ListN.{length-set}
+use Rattle.hanoi_lanes.proofs.Counts.{falling-first, falling-more, falling-stop, falling-end}
 use Rattle.hanoi_lanes.proofs.count_down.Goals as goal
 
 pub loop-k-init : goal.loop-k-init

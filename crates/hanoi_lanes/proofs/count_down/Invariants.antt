@@ -1,8 +1,7 @@
+-- `count_down` meets its contract: what is still borrowed is to be taken at plane k. Assumes nothing.
 use Prim.Native.Nat.{◌-◌}
-use native.Mathlib.Omega.{arith}
-use lib.ListN.{length, length-set}
-use borrow.Author.Rules.{rules}
-use Rattle.hanoi_lanes.proofs.Counts.{Falling, falling-first, falling-more, falling-stop, falling-end}
+use lib.ListN.{length}
+use Rattle.hanoi_lanes.proofs.Counts.{Falling}
 use Rattle.hanoi_lanes.proofs.count_down.Given as goal
 
 abbrev pub invariant-loop-k : goal.invariant-loop-k

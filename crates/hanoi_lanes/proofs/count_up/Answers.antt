@@ -1,8 +1,6 @@
-use Prim.Native.Nat.{◌-◌}
 use native.Mathlib.Omega.{arith}
-use lib.ListN.{length, length-set}
-use borrow.Author.Rules.{rules}
-use Rattle.hanoi_lanes.proofs.Counts.{Rising, rising-first, rising-more, rising-stop, rising-end}
+use lib.ListN.{length-set}
+use Rattle.hanoi_lanes.proofs.Counts.{rising-first, rising-more, rising-stop, rising-end}
 use Rattle.hanoi_lanes.proofs.count_up.Goals as goal
 
 pub loop-k-init : goal.loop-k-init

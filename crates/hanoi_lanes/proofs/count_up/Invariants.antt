@@ -1,8 +1,7 @@
+-- `count_up` meets its contract: what is still carried is to be added at plane k. Assumes nothing.
 use Prim.Native.Nat.{◌-◌}
-use native.Mathlib.Omega.{arith}
-use lib.ListN.{length, length-set}
-use borrow.Author.Rules.{rules}
-use Rattle.hanoi_lanes.proofs.Counts.{Rising, rising-first, rising-more, rising-stop, rising-end}
+use lib.ListN.{length}
+use Rattle.hanoi_lanes.proofs.Counts.{Rising}
 use Rattle.hanoi_lanes.proofs.count_up.Given as goal
 
 abbrev pub invariant-loop-k : goal.invariant-loop-k

@@ -1,9 +1,6 @@
-use Prim.Native.Nat.{◌-◌}
 use native.Mathlib.Omega.{arith}
-use mathlib.Core.Path.{◌≡◌, refl}
-use lib.ListN.{length}
-use borrow.Author.Rules.{rules}
-use Rattle.hanoi_lanes.proofs.Counts.{Joining, joining-first, joining-more, joining-end, joining-none}
+use mathlib.Core.Path.{refl}
+use Rattle.hanoi_lanes.proofs.Counts.{joining-first, joining-more, joining-end, joining-none}
 use Rattle.hanoi_lanes.proofs.counting.Goals as goal
 
 pub returns-then-lanes-eq0 : goal.returns-then-lanes-eq0

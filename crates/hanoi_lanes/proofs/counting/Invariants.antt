@@ -1,9 +1,8 @@
+-- `counting` meets its contract: the lanes of the planes before k are joined. Assumes nothing.
 use Prim.Native.Nat.{◌-◌}
-use native.Mathlib.Omega.{arith}
-use mathlib.Core.Path.{◌≡◌, refl}
+use mathlib.Core.Path.{◌≡◌}
 use lib.ListN.{length}
-use borrow.Author.Rules.{rules}
-use Rattle.hanoi_lanes.proofs.Counts.{Joining, joining-first, joining-more, joining-end, joining-none}
+use Rattle.hanoi_lanes.proofs.Counts.{Joining}
 use Rattle.hanoi_lanes.proofs.counting.Given as goal
 
 abbrev pub invariant-loop-k : goal.invariant-loop-k

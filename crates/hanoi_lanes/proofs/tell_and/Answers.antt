@@ -1,4 +1,4 @@
-use borrow.Author.Rules.{rules}
+-- `tell_and` meets its contract: lane by lane. Assumes nothing.
 use Rattle.hanoi_lanes.proofs.Tells.{tells-and}
 use Rattle.hanoi_lanes.proofs.tell_and.Goals as goal
 

@@ -1,4 +1,4 @@
-use borrow.Author.Rules.{rules}
+-- `tell_closes` meets its contract: lane by lane, with one less in the lanes that count. Assumes nothing.
 use Rattle.hanoi_lanes.proofs.Tells.{tells-closes}
 use Rattle.hanoi_lanes.proofs.tell_closes.Goals as goal
 

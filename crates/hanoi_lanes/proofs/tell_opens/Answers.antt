@@ -1,4 +1,4 @@
-use borrow.Author.Rules.{rules}
+-- `tell_opens` meets its contract: lane by lane, with one more in the lanes that pass by. Assumes nothing.
 use Rattle.hanoi_lanes.proofs.Tells.{tells-opens}
 use Rattle.hanoi_lanes.proofs.tell_opens.Goals as goal
 

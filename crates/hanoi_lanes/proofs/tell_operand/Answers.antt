@@ -1,4 +1,4 @@
-use borrow.Author.Rules.{rules}
+-- `tell_operand` meets its contract: lane by lane. Assumes nothing.
 use Rattle.hanoi_lanes.proofs.Tells.{tells-operand}
 use Rattle.hanoi_lanes.proofs.tell_operand.Goals as goal
 

@@ -1,4 +1,4 @@
-use borrow.Author.Rules.{rules}
+-- `tell_or` meets its contract: lane by lane. Assumes nothing.
 use Rattle.hanoi_lanes.proofs.Tells.{tells-or}
 use Rattle.hanoi_lanes.proofs.tell_or.Goals as goal
 

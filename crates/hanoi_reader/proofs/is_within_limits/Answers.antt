@@ -1,3 +1,4 @@
+-- `is_within_limits` meets its contract: by cases of the number of states. Assumes nothing.
 use native.Mathlib.Omega.{arith}
 use Rattle.hanoi_reader.proofs.Reading.{limits-over, limits-within, limits-product}
 use Rattle.hanoi_reader.proofs.is_within_limits.Goals as goal

@@ -1,3 +1,4 @@
+-- `letters_of` meets its contract: the shift loses no bit. Assumes nothing.
 use Prim.Native.Nat.{ℕ, ◌^◌, ◌≤◌}
 use native.Mathlib.Omega.{arith}
 use native.Mathlib.Nat.{one-mul}

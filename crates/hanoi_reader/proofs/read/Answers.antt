@@ -1,3 +1,4 @@
+-- `read` meets its contract: header, formula, states and colours as the reader of documents reads them, and what any answer means follows from `promised`. Assumes nothing.
 use native.Mathlib.Omega.{arith}
 use mathlib.Core.Path.{◌∙◌}
 use Rattle.lists.proofs.Bools.{not-true, unnot}

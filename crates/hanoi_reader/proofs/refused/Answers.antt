@@ -1,3 +1,4 @@
+-- `refused` meets its contract: the policy of no states is all zero. Assumes nothing.
 use mathlib.Core.Path.{ap}
 use Rattle.policy.specs.declared.Policy.{Policy}
 use Rattle.policy.specs.Making.{zero_policy}

@@ -1,5 +1,5 @@
+-- `ends` meets its contract: by cases of what is wanted. Assumes nothing.
 use mathlib.Core.Path.{refl}
-use borrow.Author.Rules.{rules}
 use Rattle.hanoi_tokens.proofs.ends.Goals as goal
 
 pub returns-in-Exactly : goal.returns-in-Exactly

@@ -1,5 +1,5 @@
+-- `goes_on` meets its contract: its tests are those of the definition. Assumes nothing.
 use mathlib.Core.Path.{refl}
-use borrow.Author.Rules.{rules}
 use Rattle.hanoi.specs.Texts.{goes_on}
 use Rattle.hanoi_tokens.proofs.goes_on.Goals as goal
 

@@ -1,6 +1,5 @@
-use Prim.Native.Nat.{◌-◌}
 use native.Mathlib.Omega.{arith}
-use Rattle.hanoi_tokens.proofs.Numbers.{Cutting, prefix-zero, cutting-none, cutting-more, cutting-all}
+use Rattle.hanoi_tokens.proofs.Numbers.{prefix-zero, cutting-none, cutting-more, cutting-all}
 use Rattle.hanoi_tokens.proofs.is_prefix.Goals as goal
 
 pub returns-then-n-eq0 : goal.returns-then-n-eq0

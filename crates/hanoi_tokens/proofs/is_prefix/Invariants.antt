@@ -1,6 +1,5 @@
-use Prim.Native.Nat.{◌-◌}
-use native.Mathlib.Omega.{arith}
-use Rattle.hanoi_tokens.proofs.Numbers.{Cutting, prefix-zero, cutting-none, cutting-more, cutting-all}
+-- `is_prefix` meets its contract: k is cut digit by digit until it is no longer than n. Assumes nothing.
+use Rattle.hanoi_tokens.proofs.Numbers.{Cutting}
 use Rattle.hanoi_tokens.proofs.is_prefix.Given as goal
 
 abbrev pub invariant-loop-rest : goal.invariant-loop-rest

@@ -1,7 +1,7 @@
+-- `next` meets its contract: behind the white space stands the first byte of a token, a barred one, or the end. Assumes nothing.
 use native.Mathlib.Omega.{arith}
 use mathlib.Core.Path.{sym, ◌∙◌}
 use mathlib.Core.Bool.{true≢false}
-use borrow.Author.Rules.{rules}
 use Rattle.hanoi_tokens.proofs.Tokens.{begins-free, begins-barred, begins-end}
 use Rattle.hanoi_tokens.proofs.next.Goals as goal
 

@@ -1,10 +1,7 @@
+-- `read_digits` meets its contract: the digits before byte i come to n. Assumes nothing.
 use Prim.Native.Nat.{◌-◌}
-use native.Mathlib.Omega.{arith}
-use mathlib.Core.Path.{sym, refl, ◌∙◌}
 use lib.ListN.{length}
-use borrow.Author.Rules.{rules}
-use Rattle.lists.proofs.Bools.{not-true, unnot}
-use Rattle.hanoi_tokens.proofs.Numbers.{Digits, digits-first, digits-none, digits-not-first, digits-on, digits-zero, digits-over, digits-short, digits-break, digits-all}
+use Rattle.hanoi_tokens.proofs.Numbers.{Digits}
 use Rattle.hanoi_tokens.specs.Tokens.{Within}
 use Rattle.hanoi_tokens.proofs.read_digits.Given as goal
 

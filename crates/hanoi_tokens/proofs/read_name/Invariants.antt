@@ -1,9 +1,7 @@
-use Prim.Native.Nat.{◌-◌, ◌<◌}
-use native.Mathlib.Omega.{arith}
-use lib.ListN.{length, get_or}
-use borrow.Author.Rules.{rules}
-use Rattle.lists.proofs.Bools.{not-true, unnot, neqb, ≡eqb}
-use Rattle.hanoi_tokens.proofs.Names.{Quoted, unnamed-stopped, unnamed-other, quoted-none, quoted-back, quoted-plain, quoted-line, quoted-end, quoted-all}
+-- `read_name` meets its contract: the bytes before byte i are in the name, after a backslash or not. Assumes nothing.
+use Prim.Native.Nat.{◌-◌}
+use lib.ListN.{length}
+use Rattle.hanoi_tokens.proofs.Names.{Quoted}
 use Rattle.hanoi_tokens.proofs.read_name.Given as goal
 
 abbrev pub invariant-loop-i : goal.invariant-loop-i

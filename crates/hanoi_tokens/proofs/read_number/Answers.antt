@@ -1,4 +1,4 @@
-use borrow.Author.Rules.{rules}
+-- `read_number` meets its contract: a token's first byte, then digits. Assumes nothing.
 use Rattle.lists.proofs.Bools.{not-true, unnot}
 use Rattle.hanoi_tokens.proofs.Numbers.{number-stopped, number_behind}
 use Rattle.hanoi_tokens.proofs.read_number.Goals as goal

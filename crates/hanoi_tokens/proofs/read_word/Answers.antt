@@ -1,5 +1,5 @@
+-- `read_word` meets its contract: a token's first byte, then the bytes of the word. Assumes nothing.
 use native.Mathlib.Omega.{arith}
-use borrow.Author.Rules.{rules}
 use Rattle.lists.proofs.Bools.{not-true, unnot}
 use Rattle.hanoi_tokens.proofs.Moves.{reads-no}
 use Rattle.hanoi_tokens.proofs.Tokens.{word-behind}

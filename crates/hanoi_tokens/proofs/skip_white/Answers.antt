@@ -1,10 +1,6 @@
-use Prim.Native.Nat.{◌-◌}
 use native.Mathlib.Omega.{arith}
 use mathlib.Core.Path.{sym, ◌∙◌}
-use lib.ListN.{length}
-use borrow.Author.Rules.{rules}
-use Rattle.lists.proofs.Bools.{not-true, unnot}
-use Rattle.hanoi_tokens.proofs.Tokens.{Skipped, skipped-none, skipped-more, skipped-all}
+use Rattle.hanoi_tokens.proofs.Tokens.{skipped-none, skipped-more, skipped-all}
 use Rattle.hanoi_tokens.proofs.skip_white.Goals as goal
 
 pub loop-i-init : goal.loop-i-init

@@ -1,10 +1,7 @@
+-- `skip_white` meets its contract: all before byte i is white. Assumes nothing.
 use Prim.Native.Nat.{◌-◌}
-use native.Mathlib.Omega.{arith}
-use mathlib.Core.Path.{sym, ◌∙◌}
 use lib.ListN.{length}
-use borrow.Author.Rules.{rules}
-use Rattle.lists.proofs.Bools.{not-true, unnot}
-use Rattle.hanoi_tokens.proofs.Tokens.{Skipped, skipped-none, skipped-more, skipped-all}
+use Rattle.hanoi_tokens.proofs.Tokens.{Skipped}
 use Rattle.hanoi_tokens.proofs.skip_white.Given as goal
 
 abbrev pub invariant-loop-i : goal.invariant-loop-i

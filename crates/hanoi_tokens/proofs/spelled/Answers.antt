@@ -1,10 +1,7 @@
-use Prim.Native.Nat.{◌-◌}
 use native.Mathlib.Omega.{arith}
-use lib.ListN.{length}
-use borrow.Author.Rules.{rules}
 use Rattle.lists.proofs.Bools.{neqb}
 use Rattle.hanoi_tokens.proofs.Moves.{reads-yes, reads-no}
-use Rattle.hanoi_tokens.proofs.Tokens.{Spelled, spelled_none, spelled-more, spelled-other, spelled-end, spelled-whole}
+use Rattle.hanoi_tokens.proofs.Tokens.{spelled_none, spelled-more, spelled-other, spelled-end, spelled-whole}
 use Rattle.hanoi_tokens.proofs.spelled.Goals as goal
 
 pub loop-i-init : goal.loop-i-init

@@ -1,6 +1,6 @@
+-- `takes` meets its contract: by cases of what is wanted. Assumes nothing.
 use native.Mathlib.Omega.{arith}
 use mathlib.Core.Path.{refl, subst}
-use borrow.Author.Rules.{rules}
 use Rattle.hanoi.proofs.Digits.{lt_yes, lt_no}
 use Rattle.hanoi_tokens.specs.Tokens.{Within}
 use Rattle.hanoi_tokens.proofs.takes.Goals as goal

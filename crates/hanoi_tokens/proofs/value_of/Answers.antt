@@ -1,6 +1,6 @@
+-- `value_of` meets its contract: a digit is a byte from 48 to 57. Assumes nothing.
 use native.Mathlib.Omega.{arith}
 use mathlib.Core.Path.{refl}
-use borrow.Author.Rules.{rules}
 use Rattle.hanoi.proofs.Digits.{byte-digit}
 use Rattle.hanoi_tokens.proofs.value_of.Goals as goal
 
