@@ -1,7 +1,7 @@
 /*
  * Wulfrenda: Muller policies into parity automata by the alternating cycle decomposition.
  *
- * The functions of libwulfrenda.a (`rt staticlib wulfrenda` writes it to target/staticlib). Each is proved to meet its contract in
+ * The functions of libwulfrenda.a (tools/archive writes it to target/staticlib). Each is proved to meet its contract in
  * crates/wulfrenda/src/lib.rt; this file says the same in words. "The scope document" is the one that the README names.
  *
  * Of every call:

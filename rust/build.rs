@@ -13,7 +13,7 @@ fn main() {
     let archive = folder.join("libwulfrenda.a");
     println!("cargo:rerun-if-changed={}", archive.display());
     if !archive.is_file() {
-        eprintln!("{} is missing: run `rt staticlib wulfrenda` in the repository's root, or set WULFRENDA_LIB_DIR to the folder of libwulfrenda.a", archive.display());
+        eprintln!("{} is missing: run tools/archive in the repository's root, or set WULFRENDA_LIB_DIR to the folder of libwulfrenda.a", archive.display());
         process::exit(1);
     }
     println!("cargo:rustc-link-search=native={}", folder.display());

@@ -377,7 +377,7 @@ pub fn program(name: &str, bytes: &[u8]) -> String {
         .map_or_else(|| root().join("target/bin").join(name), PathBuf::from);
     assert!(
         path.is_file(),
-        "{} is missing: run `rt check {name}` in the repository's root, or set {variable} to the program's path",
+        "{} is missing: run tools/programs in the repository's root, or set {variable} to the program's path",
         path.display()
     );
     let mut child = Command::new(&path)
