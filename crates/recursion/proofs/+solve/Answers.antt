@@ -12,21 +12,15 @@ attract-rest-requires-clause-order t c = (going-asks _ _ _ _ _ _ _ _ _ _ _ _ _ _
 pub solve-requires : goal.solve-requires
 solve-requires t c =
     let x = c.loop-left.invariant in
-    let lt = going-lt _ _ _ _ _ _ _ _ _ _ _ _ _ _ _ c.loop-left.invariant c.loop-left-test.true c.requires.levels.1 in
+    let lt = going-lt _ _ _ _ _ _ _ _ _ _ _ _ _ _ _ x c.loop-left-test.true c.requires.levels.1 in
     let few = c.requires.long in
-    let so_far = c.attract-rest.ensures.0.so_far in (
-      omega (arith, lt, c.decreases),
-      (
-        c.requires.rows,
-        (
-          (omega (arith, lt), c.requires.levels.1),
-          (
-            (marks-few few.0 x.level.marks_long so_far.marks_long, marks-few few.1 x.level.choices_long so_far.choices_long),
-            ((going-head _ _ _ _ _ _ _ _ _ _ _ _ _ _ _ c.loop-left.invariant _ _ _ _ _ c.rows_task.ensures c.attract-rest.ensures, going-arena _ _ _ _ _ _ _ _ _ _ _ _ _ _ _ c.loop-left.invariant _ _ _ _ _ c.rows_task.ensures c.attract-rest.ensures), going-listed _ _ _ _ _ _ _ _ _ _ _ _ _ _ _ c.loop-left.invariant _ _ _ _ _ c.rows_task.ensures c.attract-rest.ensures),
-          ),
-        ),
-      ),
-    )
+    let so_far = c.attract-rest.ensures.0.so_far in
+    let head = going-head _ _ _ _ _ _ _ _ _ _ _ _ _ _ _ x _ _ _ _ _ c.rows_task.ensures c.attract-rest.ensures in
+    let arena = going-arena _ _ _ _ _ _ _ _ _ _ _ _ _ _ _ x _ _ _ _ _ c.rows_task.ensures c.attract-rest.ensures in
+    let listed = going-listed _ _ _ _ _ _ _ _ _ _ _ _ _ _ _ x _ _ _ _ _ c.rows_task.ensures c.attract-rest.ensures in
+    let m = marks-few few.0 x.level.marks_long so_far.marks_long in
+    let k = marks-few few.1 x.level.choices_long so_far.choices_long in
+    (omega (arith, lt, c.decreases), (c.requires.rows, ((omega (arith, lt), c.requires.levels.1), ((m, k), ((head, arena), listed)))))
 
 pub turn-left-requires-clause-turning : goal.turn-left-requires-clause-turning
 turn-left-requires-clause-turning t c = going-turning _ _ _ _ _ _ _ _ _ _ _ _ _ _ _ c.loop-left.invariant _ _ _ _ _ c.rows_task.ensures c.attract-rest.ensures c.requires.rows _ _ _ c.solve.ensures

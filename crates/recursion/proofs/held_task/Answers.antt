@@ -1,3 +1,4 @@
+-- `recursion::held_task` meets its contract: its player is the one whom the level serves. Assumes nothing.
 use Rattle.recursion.proofs.Steps.{task-plant}
 use Rattle.recursion.proofs.held_task.Goals as goal
 

@@ -1,3 +1,4 @@
+-- `recursion::hold` meets its contract: what is released, attracted and painted twice, by the laws of Steps. Assumes nothing.
 use Rattle.recursion.proofs.Steps.{held_asks, holds, hold-rows, paint-asks-twice, front-asks, le_trans, marks-few, marks-few-more}
 use lib.ListN.{length}
 use native.Mathlib.Omega.{arith}

@@ -1,3 +1,4 @@
+-- `recursion::hold_of` meets its contract: its player is the one whom the level serves. Assumes nothing.
 use Rattle.recursion.proofs.Steps.{hold-is}
 use Rattle.recursion.proofs.hold_of.Goals as goal
 

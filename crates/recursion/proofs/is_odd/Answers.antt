@@ -1,3 +1,4 @@
+-- `recursion::is_odd` meets its contract: an odd priority serves the plant. Assumes nothing.
 use Rattle.games.specs.Games.{serves}
 use borrow.Author.Rules.{rules}
 use Rattle.recursion.proofs.is_odd.Goals as goal

@@ -1,3 +1,4 @@
+-- `recursion::lose` meets its contract: what is attracted and painted twice, by the laws of Steps. Assumes nothing.
 use Rattle.recursion.proofs.Steps.{lost-asks, loses, paint-asks, front-asks, marks-few}
 use lib.ListN.{length}
 use native.Mathlib.Omega.{arith}

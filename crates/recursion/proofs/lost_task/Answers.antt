@@ -1,3 +1,4 @@
+-- `recursion::lost_task` meets its contract: its player is the other one, and its marks are the two of the next level. Assumes nothing.
 use Rattle.recursion.proofs.Steps.{lost-is}
 use Rattle.recursion.proofs.lost_task.Goals as goal
 

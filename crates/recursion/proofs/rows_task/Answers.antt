@@ -1,3 +1,4 @@
+-- `recursion::rows_task` meets its contract: its player is the one whom the level serves. Assumes nothing.
 use Rattle.recursion.proofs.Steps.{task-plant}
 use Rattle.recursion.proofs.rows_task.Goals as goal
 

@@ -1,3 +1,4 @@
+-- `recursion::turn` meets its contract: the other player has won nothing, or loses and holds, by the laws of Steps. Assumes nothing.
 use Rattle.recursion.proofs.Steps.{gather-asks, lose-asks, gathered-lists, hold-asks, none-live-yet, loses-long, turns-own, turns-lost}
 use native.Mathlib.Omega.{arith}
 use Rattle.recursion.proofs.turn.Goals as goal

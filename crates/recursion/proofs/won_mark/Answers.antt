@@ -1,3 +1,4 @@
+-- `recursion::won_mark` meets its contract: each player's mark. Assumes nothing.
 use Rattle.recursion.proofs.Steps.{won-true, won-false}
 use Rattle.recursion.proofs.won_mark.Goals as goal
 
