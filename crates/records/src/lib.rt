@@ -1,4 +1,6 @@
 // A policy as a record of 452 bytes, and back. Bytes of another length are no record. Inner layer: a place that a record is stored in is as long as one.
+#![tactic(auto)]
+
 ghost use Rattle.std.specs.Prelude.{◌≡◌, map, ◌+◌, ◌≤◌, length};
 ghost use Rattle.std.proofs.lemmas.List.Edits.{sets};
 ghost use Rattle.records.specs.Records.{flag, record_length, bytes_at, flags_at, any_quiet, quiet_at, quiet_flags, policy_of, record_of};

@@ -1,0 +1,15 @@
+use native.Mathlib.Omega.{arith}
+use mathlib.Core.Path.{refl}
+use Rattle.records.specs.Records.{bytes_at}
+use Rattle.records.proofs.Copies.{copied_none, copied_more, copied_all}
+use Rattle.records.proofs.bytes_at.Goals as goal
+
+pub loop-i-init : goal.loop-i-init
+loop-i-init c = copied_none _ _ _ _ refl
+
+pub loop-i-preserved : goal.loop-i-preserved
+loop-i-preserved c = copied_more _ _ _ _ _ _ (omega arith) refl c.loop-i.invariant
+
+pub returns : goal.returns
+unfolding bytes_at
+returns c = copied_all _ _ _ _ _ (omega arith) c.loop-i.invariant
