@@ -1,5 +1,5 @@
 -- Tests, filters and searches on lists, the greatest and the lowest number of a list. Written to be computed: a recursive call is bound by `let`, and made only where it is needed.
-use Rattle.std.specs.Prelude.{ℕ, zero, suc, ◌+◌, ◌<◌, min, max, ◌≢◌, Bool, true, false, ◌&&◌, ◌||◌, cond}
+use Rattle.std.specs.Prelude.{ℕ, zero, suc, ◌<◌, min, max, ◌≢◌, Bool, true, false, ◌&&◌, ◌||◌, cond}
 use mathlib.Core.List.{List, [], ◌∷◌, ◌++◌, Memᴰ}
 
 module _ {A : Type 0} where
