@@ -1,9 +1,8 @@
 -- `tables::clear64_past` meets its contract: the places from `from` to i hold 0, and the others what they held. Assumes nothing.
 use Prim.Native.Nat.{◌-◌}
-use native.Mathlib.Omega.{arith}
 use lib.ListN.{length}
-use mathlib.Core.Path.{◌≡◌, refl}
-use Rattle.tables.proofs.Clearing.{ClearingPast, past-none, past_more, past_all}
+use mathlib.Core.Path.{◌≡◌}
+use Rattle.tables.proofs.Clearing.{ClearingPast}
 use Rattle.tables.proofs.clear64_past.Given as goal
 
 abbrev pub invariant-loop-i : goal.invariant-loop-i

@@ -1,7 +1,5 @@
-use Prim.Native.Nat.{◌-◌}
 use native.Mathlib.Omega.{arith}
-use lib.ListN.{length}
-use Rattle.tables.proofs.Clearing.{Clearing, clearing-none, clearing-more, clearing-all}
+use Rattle.tables.proofs.Clearing.{clearing-none, clearing-more, clearing-all}
 use Rattle.tables.proofs.clear8.Goals as goal
 
 pub loop-i-init : goal.loop-i-init

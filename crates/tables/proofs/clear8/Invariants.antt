@@ -1,8 +1,7 @@
 -- `tables::clear8` meets its contract: the places before i hold 0, and the others what they held. Assumes nothing.
 use Prim.Native.Nat.{◌-◌}
-use native.Mathlib.Omega.{arith}
 use lib.ListN.{length}
-use Rattle.tables.proofs.Clearing.{Clearing, clearing-none, clearing-more, clearing-all}
+use Rattle.tables.proofs.Clearing.{Clearing}
 use Rattle.tables.proofs.clear8.Given as goal
 
 abbrev pub invariant-loop-i : goal.invariant-loop-i

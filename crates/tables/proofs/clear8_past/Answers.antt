@@ -1,8 +1,6 @@
-use Prim.Native.Nat.{◌-◌}
 use native.Mathlib.Omega.{arith}
-use lib.ListN.{length}
-use mathlib.Core.Path.{◌≡◌, refl}
-use Rattle.tables.proofs.Clearing.{ClearingPast, past-none, past_more, past_all}
+use mathlib.Core.Path.{refl}
+use Rattle.tables.proofs.Clearing.{past-none, past_more, past_all}
 use Rattle.tables.proofs.clear8_past.Goals as goal
 
 pub loop-i-init : goal.loop-i-init

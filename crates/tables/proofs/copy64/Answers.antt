@@ -1,7 +1,6 @@
-use Prim.Native.Nat.{◌-◌}
 use native.Mathlib.Omega.{arith}
 use Rattle.tables.specs.Copies.{part}
-use Rattle.tables.proofs.Copies.{Copying, copying-none, copying-long, copying-more, copying-read, copying-all, length_part}
+use Rattle.tables.proofs.Copies.{copying-none, copying-long, copying-more, copying-read, copying-all, length_part}
 use Rattle.tables.proofs.copy64.Goals as goal
 
 pub loop-j-init : goal.loop-j-init

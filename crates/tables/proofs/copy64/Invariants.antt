@@ -1,8 +1,7 @@
 -- `tables::copy64` meets its contract: the first j places are copied. Assumes nothing.
 use Prim.Native.Nat.{◌-◌}
-use native.Mathlib.Omega.{arith}
 use Rattle.tables.specs.Copies.{part}
-use Rattle.tables.proofs.Copies.{Copying, copying-none, copying-long, copying-more, copying-read, copying-all, length_part}
+use Rattle.tables.proofs.Copies.{Copying}
 use Rattle.tables.proofs.copy64.Given as goal
 
 abbrev pub invariant-loop-j : goal.invariant-loop-j

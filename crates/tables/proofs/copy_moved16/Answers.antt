@@ -4,7 +4,7 @@ use mathlib.Core.Path.{sym, ◌∙◌, ap}
 use lib.ListN.{get_or}
 use Rattle.lists.proofs.Lists.{get_or-mem}
 use Rattle.tables.specs.Copies.{part, moved}
-use Rattle.tables.proofs.Copies.{Copying, copying-none, copying-long, copying-more, copying-read, copying-all, length_part, length_moved, get_d_moved}
+use Rattle.tables.proofs.Copies.{copying-none, copying-long, copying-more, copying-read, copying-all, length_part, length_moved, get_d_moved}
 use Rattle.tables.proofs.copy_moved16.Goals as goal
 
 pub loop-j-init : goal.loop-j-init

@@ -1,11 +1,7 @@
 -- `tables::copy_moved16` meets its contract: the first j places are copied, and moved. Assumes nothing.
-use Prim.Native.Nat.{ℕ, ◌-◌, ◌+◌}
-use native.Mathlib.Omega.{arith}
-use mathlib.Core.Path.{sym, ◌∙◌, ap}
-use lib.ListN.{get_or}
-use Rattle.lists.proofs.Lists.{get_or-mem}
+use Prim.Native.Nat.{◌-◌}
 use Rattle.tables.specs.Copies.{part, moved}
-use Rattle.tables.proofs.Copies.{Copying, copying-none, copying-long, copying-more, copying-read, copying-all, length_part, length_moved, get_d_moved}
+use Rattle.tables.proofs.Copies.{Copying}
 use Rattle.tables.proofs.copy_moved16.Given as goal
 
 abbrev pub invariant-loop-j : goal.invariant-loop-j
