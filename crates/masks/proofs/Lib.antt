@@ -4,3 +4,4 @@ pub mod MaskOf
 pub mod SetOf
 pub mod Submasks
 pub mod Subsets
+pub mod LowestMember

@@ -1,7 +1,7 @@
 // Sets as bit masks: edge sets in 64 bits, colour sets in 8.
 #![tactic(auto)]
 
-ghost use Rattle.std.specs.Prelude.{◌≡◌, cond, ◌-◌, ◌<◌, ◌≤◌, ◌^◌};
+ghost use Rattle.std.specs.Prelude.{ℕ, ◌≡◌, ◌≢◌, true, false, cond, ◌-◌, ◌<◌, ◌≤◌, ◌^◌};
 ghost use Rattle.std.specs.Int.Bits.{bit_and, bit_or};
 ghost use Rattle.masks.specs.Masks.{has, insert, minus, inside, properly};
 
@@ -73,6 +73,14 @@ pub fn full(n: usize) -> u64
         return 18446744073709551615;
     }
     (1 << n) - 1
+}
+
+// The lowest member of a set that has one.
+pub fn lowest(m: u64) -> usize
+    requires { m ≢ 0 }
+    ensures { (has m result ≡ true) × (result < 64) × ((e : ℕ) → e < result → has m e ≡ false) }
+{
+    m.trailing_zeros() as usize
 }
 
 // Whether the colour set s has c.

@@ -16,9 +16,9 @@ use Rattle.lists.specs.Lists.{all}
 use Rattle.lists.proofs.Bools.{test, and_l, and_r, and-absent, and-absorb, both, or_cases, or_left, or_right, eqb≡, ≡eqb, neqb, bool-ext}
 use Rattle.lists.proofs.Lists.{get_or-map-below, all-each, each_all}
 use Rattle.masks.specs.Masks.{has, insert, minus, mask_of, inside}
-use Rattle.masks.proofs.Bits.{has-and, has-or, has-none, has-insert, has-minus, mask-ext, has-full, all-inside}
+use Rattle.masks.proofs.Bits.{has-and, has-or, has-none, has-insert, has-minus, mask-ext, has-full, all-inside, inside-antisym}
 use Rattle.masks.proofs.MaskOf.{has-mask-of, mask-of-in, mask-of-out, mask-of-some}
-use Rattle.masks.proofs.Members.{none-zero}
+use Rattle.masks.proofs.Members.{none-zero, full-lt}
 use Rattle.policy.specs.declared.Policy.{Policy}
 use Rattle.policy.specs.Policies.{edges, colour_of, is_quiet, edge_colours, colours_of, in_family, accepting, legal, full}
 use Rattle.policy.specs.ByColour.{has_colour, edges_in, by_colour_to, entry_of, by_colour, table_edges_to, table_edges, table_colours_to, table_colours}
@@ -69,10 +69,10 @@ colours-to-next t n m = rw add-one (go (eqb (bit_and m (get_or t n 0)) 0))
 
 -- ---- the bits of what they give
 -- a quiet edge, or one of an entry of c
-abbrev Among : List ℕ → ℕ → ℕ → ℕ → Type 0
+abbrev pub Among : List ℕ → ℕ → ℕ → ℕ → Type 0
 Among t n c e = (has (get_or t 8 0) e ≡ true) ⊎ ((k : ℕ) × (k < n) × (has c k ≡ true) × (has (get_or t k 0) e ≡ true))
 
-edges-to-some : (t : List ℕ) (n c e : ℕ) → has (table_edges_to t n c) e ≡ true → Among t n c e
+pub edges-to-some : (t : List ℕ) (n c e : ℕ) → has (table_edges_to t n c) e ≡ true → Among t n c e
 unfolding table_edges_to
 edges-to-some t zero c e h = inl h
 edges-to-some t (suc n) c e h = go (test (has c n)) (edges-to-some t n c e)
@@ -98,12 +98,12 @@ edges-to-up t n c e h = go (test (has c n))
     go (inl w) = rw w (has-or e (table_edges_to t n c) (get_or t n 0) ∙ or_left (has (table_edges_to t n c) e) (has (get_or t n 0) e) h)
     go (inr w) = rw w h
 
-quiet-edges-to : (t : List ℕ) (n c e : ℕ) → has (get_or t 8 0) e ≡ true → has (table_edges_to t n c) e ≡ true
+pub quiet-edges-to : (t : List ℕ) (n c e : ℕ) → has (get_or t 8 0) e ≡ true → has (table_edges_to t n c) e ≡ true
 unfolding table_edges_to
 quiet-edges-to t zero c e h = h
 quiet-edges-to t (suc n) c e h = edges-to-up t n c e (quiet-edges-to t n c e h)
 
-some-edges-to : (t : List ℕ) (n c e k : ℕ) → k < n → has c k ≡ true → has (get_or t k 0) e ≡ true → has (table_edges_to t n c) e ≡ true
+pub some-edges-to : (t : List ℕ) (n c e k : ℕ) → k < n → has c k ≡ true → has (get_or t k 0) e ≡ true → has (table_edges_to t n c) e ≡ true
 unfolding table_edges_to
 some-edges-to t zero c e k l u h = absurd (omega arith)
 some-edges-to t (suc n) c e k l u h = go (ℕ_discrete k n) (some-edges-to t n c e k)
@@ -197,12 +197,12 @@ module _ (p : Policy) where
   unfolding by_colour
   table_at c l = get_or-map-below (λ (c : ℕ). mask_of (λ e. eqb (entry_of p e) c) (edges p)) 9 c 0 l
 
-  table-some : (c e : ℕ) → c < 9 → has (get_or (by_colour p) c 0) e ≡ true → (e < edges p) × (entry_of p e ≡ c)
+  pub table-some : (c e : ℕ) → c < 9 → has (get_or (by_colour p) c 0) e ≡ true → (e < edges p) × (entry_of p e ≡ c)
   table-some c e l h =
       let r = mask-of-some (λ (e : ℕ). eqb (entry_of p e) c) (edges p) e (ap (λ (m : ℕ). has m e) (sym (table_at c l)) ∙ h) in
       (r.0, eqb≡ (entry_of p e) c r.1)
 
-  some-table : (c e : ℕ) → c < 9 → e < edges p → entry_of p e ≡ c → has (get_or (by_colour p) c 0) e ≡ true
+  pub some-table : (c e : ℕ) → c < 9 → e < edges p → entry_of p e ≡ c → has (get_or (by_colour p) c 0) e ≡ true
   some-table c e l h q = ap (λ (m : ℕ). has m e) (table_at c l) ∙ has-mask-of (λ (e : ℕ). eqb (entry_of p e) c) (edges p) e h ∙ ≡eqb (entry_of p e) c q
 
   table-long : length (by_colour p) ≡ 9
@@ -241,6 +241,11 @@ module _ (p : Policy) where
   pub edges-in-full : (c : ℕ) → inside (edges_in p c) (full p) ≡ true
   unfolding full
   edges-in-full c = all-inside (edges_in p c) (2 ^ edges p - 1) (λ e h. has-full (edges p) e (edges-in-some c e h).0)
+
+  -- all colours give all edges
+  pub edges-all : legal p ≡ true → edges_in p 255 ≡ full p
+  unfolding full
+  edges-all ok = inside-antisym (edges_in p 255) (full p) (edges-in-full 255) (all-inside (full p) (edges_in p 255) (λ e h. some-edges-in 255 e (full-lt (edges p) e h) (λ d m. has-full 8 d (omega (arith, edge-colours-lt p ok e d (full-lt (edges p) e h) m, (legal-counts p ok).colours_few)))))
 
   pub edges-in-colours : (c : ℕ) → inside (colours_of p (edges_in p c)) c ≡ true
   edges-in-colours c = all-inside (colours_of p (edges_in p c)) c (λ d t. let r = colours_some p (edges_in p c) d t in (edges-in-some c r.0 r.2).1 d r.3)

@@ -65,7 +65,7 @@ pub fn by_colour(p: Policy, colours: &[u8; 64]) -> [u64; 9]
 }
 
 // An edge set where the colour set c has colour k, and else none. By a product, since a branch could not be foretold.
-fn where_has(c: u8, k: u8, m: u64) -> u64
+pub fn where_has(c: u8, k: u8, m: u64) -> u64
     requires { k < 8 }
     ensures { result ≡ cond (has c k) m 0 }
 {
