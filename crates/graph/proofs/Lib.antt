@@ -3,6 +3,7 @@ pub mod Cycles
 pub mod Through
 pub mod Onward
 pub mod CodeLaws
+pub mod Turns
 pub mod OnCycle
 pub mod Inside
 pub mod SameGraph

@@ -7,7 +7,7 @@ use native.Mathlib.Numerals.{add-one}
 use native.Mathlib.Decide.{ℕ_discrete, dec_lt, dec_le}
 use mathlib.Core.Path.{◌≡◌, refl, sym, ap, ◌∙◌, subst}
 use mathlib.Core.Logic.{◌⊎◌, inl, inr, ◌≢◌}
-use mathlib.Core.Bool.{Bool, true, false, not, ◌&&◌, cond, true≢false, false≢true}
+use mathlib.Core.Bool.{Bool, true, false, not, ◌&&◌, ◌||◌, cond, true≢false, false≢true}
 use mathlib.Core.List.{List, [], map}
 use lib.Bits.{bit_and, bit_or, bit_xor, and_mask, xor_add_and}
 use lib.Dec.{eqb, ltb}
@@ -182,6 +182,51 @@ module _ (t : List ℕ) (s : ℕ) where
         go (yes q) ih = rw (subst (λ (z : ℕ). has s z ≡ true) q k) (has-or e (union t s n) (get_or t n 0) ∙ or_right (has (union t s n) e) (has (get_or t n 0) e) (subst (λ (z : ℕ). has (get_or t z 0) e ≡ true) q h))
         go (no q) ih = keep (has s n) (ih (omega arith) k h)
 
+pub union-empty : (t : List ℕ) (n : ℕ) → union t 0 n ≡ 0
+unfolding union
+union-empty t zero = refl
+union-empty t (suc n) = rw (has-none n) (union-empty t n)
+
+-- one turn of a loop over the members: l are those left, r those left after v, and a is gathered so far
+pub union-turn : (t : List ℕ) (a l r n v : ℕ) → v < n → has l v ≡ true → ((w : ℕ) → has r w ≡ has l w && not (eqb v w)) → bit_or (bit_or a (get_or t v 0)) (union t r n) ≡ bit_or a (union t l n)
+union-turn t a l r n v lv on is = mask-ext x y (λ e. bool-ext (has x e) (has y e) (there e) (back e))
+  where
+    z : ℕ
+    z = get_or t v 0
+
+    x : ℕ
+    x = bit_or (bit_or a z) (union t r n)
+
+    y : ℕ
+    y = bit_or a (union t l n)
+
+    there : (e : ℕ) → has x e ≡ true → has y e ≡ true
+    there e h = has-or e a (union t l n) ∙ first (or_cases (has (bit_or a z) e) (has (union t r n) e) (sym (has-or e (bit_or a z) (union t r n)) ∙ h))
+      where
+        second : (has a e ≡ true) ⊎ (has z e ≡ true) → has a e || has (union t l n) e ≡ true
+        second (inl q) = or_left (has a e) (has (union t l n) e) q
+        second (inr q) = or_right (has a e) (has (union t l n) e) (some-union t l e n v lv on q)
+
+        first : (has (bit_or a z) e ≡ true) ⊎ (has (union t r n) e ≡ true) → has a e || has (union t l n) e ≡ true
+        first (inl q) = second (or_cases (has a e) (has z e) (sym (has-or e a z) ∙ q))
+        first (inr q) =
+            let s = union-some t r e n q in
+            or_right (has a e) (has (union t l n) e) (some-union t l e n s.0 s.1 (and_l (has l s.0) (not (eqb v s.0)) (sym (is s.0) ∙ s.2)) s.3)
+
+    back : (e : ℕ) → has y e ≡ true → has x e ≡ true
+    back e h = has-or e (bit_or a z) (union t r n) ∙ go (or_cases (has a e) (has (union t l n) e) (sym (has-or e a (union t l n)) ∙ h))
+      where
+        so-far : has a e || has z e ≡ true → has (bit_or a z) e || has (union t r n) e ≡ true
+        so-far q = or_left (has (bit_or a z) e) (has (union t r n) e) (has-or e a z ∙ q)
+
+        at : (w : ℕ) → w < n → has l w ≡ true → has (get_or t w 0) e ≡ true → Dec (v ≡ w) → has (bit_or a z) e || has (union t r n) e ≡ true
+        at w lw k q (yes s) = so-far (or_right (has a e) (has z e) (subst (λ (u : ℕ). has (get_or t u 0) e ≡ true) (sym s) q))
+        at w lw k q (no s) = or_right (has (bit_or a z) e) (has (union t r n) e) (some-union t r e n w lw (is w ∙ both (has l w) (not (eqb v w)) k (ap not (neqb v w s))) q)
+
+        go : (has a e ≡ true) ⊎ (has (union t l n) e ≡ true) → has (bit_or a z) e || has (union t r n) e ≡ true
+        go (inl q) = so-far (or_left (has a e) (has z e) q)
+        go (inr q) = let s = union-some t l e n q in at s.0 s.1 s.2 s.3 (ℕ_discrete v s.0)
+
 module _ (p : Policy) (ok : legal p ≡ true) where
   targets : Targets p
   targets e l = legal-target p ok e l
@@ -334,6 +379,21 @@ module _ (p : Policy) (ok : legal p ≡ true) where
           alike = mask-ext (get_or rows w 0) (get_or rows v 0) (λ x. bool-ext (has (get_or rows w 0) x) (has (get_or rows v 0) x)
               (λ h. some-row v x state (onward-trans p m v w x a (row-some w x l h).1))
               (λ h. some-row w x l (onward-trans p m w v x b (row-some v x state h).1)))
+
+      -- a set is the same if it is inside the row of v and says of each state whether v reaches it and it reaches v
+      pub states-equal : (s : ℕ) → ((w : ℕ) → has s w ≡ true → has (get_or rows v 0) w ≡ true) → ((w : ℕ) → w < p.states → has s w ≡ (has (get_or rows v 0) w && has (get_or rows w 0) v)) → s ≡ cycle_states rows v
+      states-equal s within each = mask-ext s (cycle_states rows v) (λ w. bool-ext (has s w) (has (cycle_states rows v) w) (there w) (back w))
+        where
+          there : (w : ℕ) → has s w ≡ true → has (cycle_states rows v) w ≡ true
+          there w h =
+              let a = row-some v w state (within w h) in
+              let b = row-some w v a.0 (and_r (has (get_or rows v 0) w) (has (get_or rows w 0) v) (sym (each w a.0) ∙ h)) in
+              some-states w a.0 a.1 b.1
+
+          back : (w : ℕ) → has (cycle_states rows v) w ≡ true → has s w ≡ true
+          back w h =
+              let r = states_some w h in
+              each w r.0 ∙ both (has (get_or rows v 0) w) (has (get_or rows w 0) v) (some-row v w state r.1) (some-row w v r.0 r.2)
 
       pub states_are : (w : ℕ) → has (cycle_states rows v) w ≡ contains p w (cycle_through p m v)
       states_are w = bool-ext (has (cycle_states rows v) w) (contains p w (cycle_through p m v)) there back

@@ -3,7 +3,8 @@
 // an edge set m: row v has the states that v reaches inside m by one edge or more.
 #![tactic(auto)]
 
-ghost use Rattle.std.specs.Prelude.{◌≡◌, ◌+◌, ◌*◌, ◌<◌, ◌≤◌, length, get_or};
+ghost use Rattle.std.specs.Prelude.{ℕ, ◌≡◌, true, ◌+◌, ◌*◌, ◌<◌, ◌≤◌, length, get_or};
+ghost use Rattle.masks.specs.Masks.{has};
 ghost use Rattle.policy.specs.declared.Policy.{Policy};
 ghost use Rattle.graph.specs.Through.{GraphOf, Rows, own_edges, leaving, entering, with_target, edge_row, edge_rows, AreStates, join_row, join_rows, states_on_cycles, cycle_states, between};
 
@@ -122,6 +123,23 @@ pub fn edges_between(states: usize, out: &[u64; 16], into: &[u64; 16], m: u64, s
             a = masks::either(a, x);
             b = masks::either(b, y);
         }
+    }
+    masks::both(masks::both(a, b), m)
+}
+
+// The same, through the members of s alone: faster where they are few.
+pub fn edges_among(states: usize, out: &[u64; 16], into: &[u64; 16], m: u64, s: u64) -> u64
+    requires { (states ≤ 16) × ((v : ℕ) → has s v ≡ true → v < states) }
+    ensures { result ≡ between out.now into.now m s states }
+{
+    let mut a: u64 = 0;
+    let mut b: u64 = 0;
+    let mut left = s;
+    while left != 0 {
+        let v = masks::lowest(left);
+        a = masks::either(a, out[v]);
+        b = masks::either(b, into[v]);
+        left = masks::both(left, left - 1);
     }
     masks::both(masks::both(a, b), m)
 }
