@@ -1,0 +1,4 @@
+pub mod Full
+pub mod Roots
+pub mod Largest
+pub mod Children
