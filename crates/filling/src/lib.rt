@@ -3,6 +3,8 @@
 // Beside a policy stand its arrays, lent: `heads` are the targets of its edges, `colours` their colours.
 // Where a policy would be copied, its shape, its quiet edges and its arrays stand for it, and the contract speaks of the policy that they make.
 // Each stage reads and writes tables of the caller, so the functions have more than eight parameters.
+#![tactic(auto)]
+
 ghost use Rattle.std.specs.Prelude.{◌≡◌, true, ◌≤◌, length};
 ghost use Rattle.tables.specs.Tables.{zeros};
 ghost use Rattle.policy.specs.declared.Policy.{Policy};
@@ -54,11 +56,9 @@ fn fill_built(
     targets: &mut [u16],
     priorities: &mut [u8],
 ) -> Building
-    ghost p: { Policy }
-    requires policy { from_parts shape quiet heads.now colours.now family.now ≡ p }
-    requires nodes { (legal p ≡ true) × Nodes p masks.now parents.now node_priorities.now × (count ≡ length (forest p)) × (transient ≡ transient_priority p) }
-    requires room { Sized p sources.old leaves.old targets.old priorities.old × (count ≤ length ends.old) }
-    ensures { Builds p sources.old leaves.old targets.old priorities.old result sources.new leaves.new targets.new priorities.new }
+    requires nodes { let p : Policy = from_parts shape quiet heads.now colours.now family.now in (legal p ≡ true) × Nodes p masks.now parents.now node_priorities.now × (count ≡ length (forest p)) × (transient ≡ transient_priority p) }
+    requires room { let p : Policy = from_parts shape quiet heads.now colours.now family.now in Sized p sources.old leaves.old targets.old priorities.old × (count ≤ length ends.old) }
+    ensures { let p : Policy = from_parts shape quiet heads.now colours.now family.now in Builds p sources.old leaves.old targets.old priorities.old result sources.new leaves.new targets.new priorities.new }
 {
     let p = policy::from_parts(shape, quiet, heads, colours, family);
     ends::fill_ends(p, parents, count, ends);
