@@ -1,4 +1,6 @@
 // Translating: the questions 7 to 10, then the nodes of the forest, the built states of the parity automaton and their rows, each stage into the caller's tables.
+#![tactic(auto)]
+
 ghost use Rattle.std.specs.Prelude.{◌≡◌, true, ◌*◌, ◌≤◌, eqb};
 ghost use Rattle.policy.specs.declared.Policy.{Policy};
 ghost use Rattle.policy.specs.Making.{from_parts};
@@ -99,8 +101,10 @@ pub fn translate_legal<'a>(
     targets: &mut [u16],
     priorities: &mut [u8],
 ) -> Translation
-    requires lawful { let p : Policy = from_parts shape quiet heads.now colours.now family.now in legal p ≡ true }
-    ensures { let p : Policy = from_parts shape quiet heads.now colours.now family.now in Translates p (tables masks.old parents.old node_priorities.old sources.old leaves.old targets.old priorities.old) result (tables masks.new parents.new node_priorities.new sources.new leaves.new targets.new priorities.new) }
+    ghost p: { Policy }
+    requires policy { from_parts shape quiet heads.now colours.now family.now ≡ p }
+    requires lawful { legal p ≡ true }
+    ensures { Translates p (tables masks.old parents.old node_priorities.old sources.old leaves.old targets.old priorities.old) result (tables masks.new parents.new node_priorities.new sources.new leaves.new targets.new priorities.new) }
 {
     let p = policy::from_parts(shape, quiet, heads, colours, family);
     if !has_fitting_lengths(

@@ -160,8 +160,10 @@ pub fn solve_legal<'a>(
     winners: &mut [u8],
     letters: &mut [u8],
 ) -> Translation
-    requires lawful { let p : Policy = from_parts shape quiet heads.now colours.now family.now in legal p ≡ true }
-    ensures { let p : Policy = from_parts shape quiet heads.now colours.now family.now in Solves p owners.now (tables masks.old parents.old node_priorities.old sources.old leaves.old targets.old priorities.old) winners.old letters.old result (tables masks.new parents.new node_priorities.new sources.new leaves.new targets.new priorities.new) winners.new letters.new }
+    ghost p: { Policy }
+    requires policy { from_parts shape quiet heads.now colours.now family.now ≡ p }
+    requires lawful { legal p ≡ true }
+    ensures { Solves p owners.now (tables masks.old parents.old node_priorities.old sources.old leaves.old targets.old priorities.old) winners.old letters.old result (tables masks.new parents.new node_priorities.new sources.new leaves.new targets.new priorities.new) winners.new letters.new }
 {
     let lengths_fit = (winners.len() == sources.len()) & (letters.len() == sources.len());
     if !lengths_fit {
