@@ -1,0 +1,4 @@
+pub mod Sets
+pub mod Ends
+pub mod Fewer
+pub mod Upward
