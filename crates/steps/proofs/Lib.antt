@@ -1,0 +1,4 @@
+pub mod Table
+pub mod WordRows
+pub mod Sets
+pub mod Columns
