@@ -1,5 +1,7 @@
 // Solving the supervisor's game: a policy is translated, 16 and 17 are asked about the owners of its states, and each built state gets its winner, and a letter where its owner wins.
 // All of it stands in the caller's tables: the seven of translating, the winners and the letters. So the functions that fill them in have more than eight parameters.
+#![tactic(auto)]
+
 ghost use Rattle.std.specs.Prelude.{◌≡◌, true, length};
 ghost use Rattle.policy.specs.declared.Policy.{Policy};
 ghost use Rattle.policy.specs.Making.{from_parts};
