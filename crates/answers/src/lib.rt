@@ -1,4 +1,6 @@
 // The number of a refusal and the values beside it for each case of a reading, of commands or of a text, and of a translation, as the definitions beside the answers give them.
+#![tactic(auto)]
+
 ghost use Rattle.std.specs.Prelude.{◌≡◌, cond, eqb};
 ghost use Rattle.reading.specs.Reading.{offset_of, number_of as read_number_of};
 ghost use Rattle.hanoi.specs.Answers.{shared_of, number_of as text_number_of};
