@@ -64,7 +64,7 @@ fn is_before(list: &[u64], a: u16, b: u16) -> bool
 }
 
 // Position i, put in its place among the first `count`.
-fn insert(list: &[u64], kids: &mut [u16], count: usize, i: usize)
+pub fn insert(list: &[u64], kids: &mut [u16], count: usize, i: usize)
     requires { Positions list.now kids.old count × (count < length kids.old) × (i < length list.now) × (length list.now ≤ 65536) }
     ensures { kids.new ≡ carried list.now count i kids.old }
 {
@@ -80,7 +80,7 @@ fn insert(list: &[u64], kids: &mut [u16], count: usize, i: usize)
 }
 
 // Whether m lies inside no mask at the first `count` positions.
-fn is_outside(list: &[u64], kids: &[u16], count: usize, m: u64) -> bool
+pub fn is_outside(list: &[u64], kids: &[u16], count: usize, m: u64) -> bool
     requires { Positions list.now kids.now count }
     ensures { result ≡ outside list.now kids.now count m }
 {
