@@ -1,6 +1,8 @@
 // The two calls of the static library that solve the supervisor's game, of a record and of command bytes: the number of the refusal is returned, 0 where there is none, and what else is
 // answered stands in places that the caller lends. Only a function of the library's own crate stands in the archive under its name, so that crate hands its calls on to these.
 // A policy or its bytes, the owners, the nine tables and what is answered beside them are more than eight parameters.
+#![tactic(auto)]
+
 ghost use Rattle.builder.specs.Tables.{tables};
 ghost use Rattle.records.specs.Records.{policy_of};
 ghost use Rattle.solving_calls.specs.Calls.{SolvesRecord, SolvesBytes};
