@@ -1,4 +1,6 @@
 // The listing: a policy's forest and automaton, or the refusal, line by line on standard output.
+#![tactic(auto)]
+
 ghost use Rattle.std.specs.Prelude.{◌≤◌, length};
 
 use builder::Translation;
