@@ -1,6 +1,8 @@
 // The functions of the static library, for C and for Rust (include/wulfrenda.h); the crate wulfrenda_c exports them. A policy crosses the boundary as a record of 452 bytes (crate records), lent with its length;
 // bytes of another length are no policy's, and refused with 7. Each function that can refuse returns document 01's number, 0 where nothing was refused, and writes what else it answers
 // into places that the caller lends. The seven tables are seven parameters: each crosses as a pointer and a length.
+#![tactic(auto)]
+
 ghost use Rattle.std.specs.Prelude.{◌≡◌, cond};
 ghost use Rattle.lists.specs.Questions.{ask};
 ghost use Rattle.colour_sets.specs.Order.{set_at};
