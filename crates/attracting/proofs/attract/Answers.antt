@@ -7,7 +7,7 @@ pub loop-again-init : goal.loop-again-init
 loop-again-init c = attraction-none _ _ _ _ _ _ _ c.requires.rows c.requires.apart _ _ _ _ c.requires.order
 
 pub sweep-r-requires : goal.sweep-r-requires
-sweep-r-requires c = record { rows = c.requires.rows; apart = c.requires.apart; long = (omega (arith, c.loop-again.invariant.so_far.marks_long, c.requires.long.0), omega (arith, c.loop-again.invariant.so_far.choices_long, c.requires.long.1)); order = (omega (arith, c.loop-again.invariant.few, c.loop-again.invariant.long, c.loop-again.invariant.moved.long), c.loop-again.invariant.inside); }
+sweep-r-requires c = record { rows = c.requires.rows; apart = c.requires.apart; long = (omega (arith, c.loop-again.invariant.so_far.marks_long, c.requires.long.0), omega (arith, c.loop-again.invariant.so_far.choices_long, c.requires.long.1)); order = (omega (arith, c.loop-again.invariant.few, c.loop-again.invariant.long, c.loop-again.invariant.moved.long), c.loop-again.invariant.inside) }
 
 pub loop-again-smaller : goal.loop-again-smaller
 loop-again-smaller c = sweeps-fewer _ _ _ c.loop-again-test.true

@@ -12,7 +12,7 @@ pub bounds-order-i : goal.bounds-order-i
 bounds-order-i c = omega (arith, c.loop-i.invariant.parted.moved.long, c.requires.order.0)
 
 pub visit-gone-requires : goal.visit-gone-requires
-visit-gone-requires c = record { rows = c.requires.rows; s_in_bounds = (omega (arith, c.place-s.ensures, c.loop-i.invariant.parted.unseen c.loop-i.i (omega arith), c.requires.order.1 c.loop-i.i c.loop-i-test.true), omega (arith, c.loop-i.invariant.marks_long, c.requires.long.0), omega (arith, c.loop-i.invariant.choices_long, c.requires.long.1)); }
+visit-gone-requires c = record { rows = c.requires.rows; s_in_bounds = (omega (arith, c.place-s.ensures, c.loop-i.invariant.parted.unseen c.loop-i.i (omega arith), c.requires.order.1 c.loop-i.i c.loop-i-test.true), omega (arith, c.loop-i.invariant.marks_long, c.requires.long.0), omega (arith, c.loop-i.invariant.choices_long, c.requires.long.1)) }
 
 pub keep-w-requires : goal.keep-w-requires
 keep-w-requires c = (c.loop-i.invariant.parted.before, omega (arith, c.loop-i.invariant.parted.moved.long, c.loop-i-test.true, c.requires.order.0))

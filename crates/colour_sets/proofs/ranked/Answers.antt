@@ -25,10 +25,10 @@ loop-s-preserved c =
     let k = c.args.c in
     let t = c.members.ensures in
     elim c.if-members-c.branch [
-      then-members-c+else-left-le1 w ↦
-        (omega arith, omega arith, omega (arith, count-with k l.s (eq-eqb _ _ (sym t ∙ w.if-members-c.true))))
-    | else-members-c w ↦
-        (omega arith, omega arith, omega (arith, count-without k l.s (ne_eqb _ _ (λ z. w.if-members-c.false (t ∙ z)))))
+      | then-members-c+else-left-le1 w ↦
+          (omega arith, omega arith, omega (arith, count-with k l.s (eq-eqb _ _ (sym t ∙ w.if-members-c.true))))
+      | else-members-c w ↦
+          (omega arith, omega arith, omega (arith, count-without k l.s (ne_eqb _ _ (λ z. w.if-members-c.false (t ∙ z)))))
     ]
 
 -- all masks were passed, and so the set

@@ -21,11 +21,10 @@ pub fill_within-returns-then-grown : goal.fill_within-returns-then-grown
 fill_within-returns-then-grown t c = λ p m₀ r₀ parts f e w. (c.grow_trees-grown.ensures p m₀ r₀ parts f e w).finished c.if-grown.true
 
 pub fill_within-fill_within-requires : goal.fill_within-fill_within-requires
-fill_within-fill_within-requires t c =
-    (
-      omega (arith, c.decreases, c.grow_trees-grown.auto.accepting, c.if-accepting-lt256.true),
-      ((c.requires.policy.0, c.requires.policy.1, c.requires.policy.2, c.requires.policy.3, c.requires.policy.4, c.requires.policy.5, (c.grow_trees-grown.ensures c.requires.policy.0 c.requires.policy.1 c.requires.policy.2 c.requires.policy.3 c.requires.policy.4 c.requires.policy.5 c.requires.policy.6).unfinished c.if-grown.false), space-of 256 3328 refl refl refl refl refl (omega arith) (omega arith)),
-    )
+fill_within-fill_within-requires t c = (
+  omega (arith, c.decreases, c.grow_trees-grown.auto.accepting, c.if-accepting-lt256.true),
+  ((c.requires.policy.0, c.requires.policy.1, c.requires.policy.2, c.requires.policy.3, c.requires.policy.4, c.requires.policy.5, (c.grow_trees-grown.ensures c.requires.policy.0 c.requires.policy.1 c.requires.policy.2 c.requires.policy.3 c.requires.policy.4 c.requires.policy.5 c.requires.policy.6).unfinished c.if-grown.false), space-of 256 3328 refl refl refl refl refl (omega arith) (omega arith)),
+)
 
 pub fill_within-returns-then-accepting-lt256 : goal.fill_within-returns-then-accepting-lt256
 fill_within-returns-then-accepting-lt256 t c = λ p m₀ r₀ parts f e w. c.fill_within.ensures p m₀ r₀ parts f e ((c.grow_trees-grown.ensures p m₀ r₀ parts f e w).unfinished c.if-grown.false)

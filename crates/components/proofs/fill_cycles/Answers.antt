@@ -18,7 +18,7 @@ reach_all-requires c = ((c.requires.0.0, c.requires.0.1), c.requires.1)
 pub states_on_cycles-left-requires : goal.states_on_cycles-left-requires
 states_on_cycles-left-requires c =
     let few : c.args.states ≤ 16 =
-        let g = c.requires.0.1 in omega (arith, g.states_are, (legal-counts c.requires.0.0 g.lawful).states_few) in
+    let g = c.requires.0.1 in omega (arith, g.states_are, (legal-counts c.requires.0.0 g.lawful).states_few) in
     few
 
 pub loop-v-init : goal.loop-v-init
@@ -34,53 +34,53 @@ loop-v-init c =
 pub has-requires : goal.has-requires
 has-requires c =
     let few : c.args.states ≤ 16 =
-        let g = c.requires.0.1 in omega (arith, g.states_are, (legal-counts c.requires.0.0 g.lawful).states_few) in
+    let g = c.requires.0.1 in omega (arith, g.states_are, (legal-counts c.requires.0.0 g.lawful).states_few) in
     let state : c.loop-v.v < 16 =
-        omega (arith, few, c.loop-v-test.true) in
+    omega (arith, few, c.loop-v-test.true) in
     omega (arith, state)
 
 pub cycle_states-s-requires : goal.cycle_states-s-requires
 cycle_states-s-requires c =
     let few : c.args.states ≤ 16 =
-        let g = c.requires.0.1 in omega (arith, g.states_are, (legal-counts c.requires.0.0 g.lawful).states_few) in
+    let g = c.requires.0.1 in omega (arith, g.states_are, (legal-counts c.requires.0.0 g.lawful).states_few) in
     let state : c.loop-v.v < 16 =
-        omega (arith, few, c.loop-v-test.true) in
+    omega (arith, few, c.loop-v-test.true) in
     state
 
 pub edges_between-x-requires : goal.edges_between-x-requires
 edges_between-x-requires c =
     let few : c.args.states ≤ 16 =
-        let g = c.requires.0.1 in omega (arith, g.states_are, (legal-counts c.requires.0.0 g.lawful).states_few) in
+    let g = c.requires.0.1 in omega (arith, g.states_are, (legal-counts c.requires.0.0 g.lawful).states_few) in
     few
 
 pub offset_bounds-cycles-n : goal.offset_bounds-cycles-n
 offset_bounds-cycles-n c =
     let few : c.args.states ≤ 16 =
-        let g = c.requires.0.1 in omega (arith, g.states_are, (legal-counts c.requires.0.0 g.lawful).states_few) in
+    let g = c.requires.0.1 in omega (arith, g.states_are, (legal-counts c.requires.0.0 g.lawful).states_few) in
     let state : c.loop-v.v < 16 =
-        omega (arith, few, c.loop-v-test.true) in
+    omega (arith, few, c.loop-v-test.true) in
     let place : c.loop-v.n < 16 =
-        omega (arith, state, (c.loop-v.invariant.1 c.requires.0.0 c.requires.0.1 c.requires.0.2).at_most) in
+    omega (arith, state, (c.loop-v.invariant.1 c.requires.0.0 c.requires.0.1 c.requires.0.2).at_most) in
     omega (arith, place)
 
 pub bounds-cycles-n : goal.bounds-cycles-n
 bounds-cycles-n c =
     let few : c.args.states ≤ 16 =
-        let g = c.requires.0.1 in omega (arith, g.states_are, (legal-counts c.requires.0.0 g.lawful).states_few) in
+    let g = c.requires.0.1 in omega (arith, g.states_are, (legal-counts c.requires.0.0 g.lawful).states_few) in
     let state : c.loop-v.v < 16 =
-        omega (arith, few, c.loop-v-test.true) in
+    omega (arith, few, c.loop-v-test.true) in
     let place : c.loop-v.n < 16 =
-        omega (arith, state, (c.loop-v.invariant.1 c.requires.0.0 c.requires.0.1 c.requires.0.2).at_most) in
+    omega (arith, state, (c.loop-v.invariant.1 c.requires.0.0 c.requires.0.1 c.requires.0.2).at_most) in
     place
 
 pub overflow_add-n : goal.overflow_add-n
 overflow_add-n c =
     let few : c.args.states ≤ 16 =
-        let g = c.requires.0.1 in omega (arith, g.states_are, (legal-counts c.requires.0.0 g.lawful).states_few) in
+    let g = c.requires.0.1 in omega (arith, g.states_are, (legal-counts c.requires.0.0 g.lawful).states_few) in
     let state : c.loop-v.v < 16 =
-        omega (arith, few, c.loop-v-test.true) in
+    omega (arith, few, c.loop-v-test.true) in
     let place : c.loop-v.n < 16 =
-        omega (arith, state, (c.loop-v.invariant.1 c.requires.0.0 c.requires.0.1 c.requires.0.2).at_most) in
+    omega (arith, state, (c.loop-v.invariant.1 c.requires.0.0 c.requires.0.1 c.requires.0.2).at_most) in
     omega (arith, place)
 
 pub loop-v-preserved : goal.loop-v-preserved
@@ -95,20 +95,20 @@ loop-v-preserved c =
           let is = c.reach_all.ensures.0 p g in
           let row = ap (λ (s : ℕ). has s at.v) (is.row_is at.v l) in
           elim c.if-has.branch [
-            then-has w ↦
-              let new = sym c.has.ensures ∙ w.if-has.true in
-              let on = row ∙ left-on p g.lawful a.m f l new in
-              let s = w.cycle_states-s in
-              let x = w.edges_between-x in
-              finding-is p g.lawful a.m
-              (finding-open p g.lawful a.m f l new (on-cycle p g.lawful a.m at.v rows is l on) x.result s.result w.without-left.result
-              (x.ensures ∙ ap₂ (between a.out.now a.into.now a.m) s.ensures g.states_are ∙ between-through p g.lawful a.m at.v rows is l on a.out.now a.into.now ends)
-              (λ u. ap (λ (s : ℕ). has s u) s.ensures ∙ states_are p g.lawful a.m at.v rows is l on u) w.without-left.ensures refl)
-              w.cycles-is w.left-is w.n-is
-          | else-has w ↦
-              finding-is p g.lawful a.m
-              (finding-shut p g.lawful a.m f l (sym c.has.ensures ∙ w.if-has.false) (λ k. off-cycle p g.lawful a.m at.v rows is l (row ∙ k)))
-              w.cycles-is w.left-is w.n-is
+            | then-has w ↦
+                let new = sym c.has.ensures ∙ w.if-has.true in
+                let on = row ∙ left-on p g.lawful a.m f l new in
+                let s = w.cycle_states-s in
+                let x = w.edges_between-x in
+                finding-is p g.lawful a.m
+                (finding-open p g.lawful a.m f l new (on-cycle p g.lawful a.m at.v rows is l on) x.result s.result w.without-left.result
+                (x.ensures ∙ ap₂ (between a.out.now a.into.now a.m) s.ensures g.states_are ∙ between-through p g.lawful a.m at.v rows is l on a.out.now a.into.now ends)
+                (λ u. ap (λ (s : ℕ). has s u) s.ensures ∙ states_are p g.lawful a.m at.v rows is l on u) w.without-left.ensures refl)
+                w.cycles-is w.left-is w.n-is
+            | else-has w ↦
+                finding-is p g.lawful a.m
+                (finding-shut p g.lawful a.m f l (sym c.has.ensures ∙ w.if-has.false) (λ k. off-cycle p g.lawful a.m at.v rows is l (row ∙ k)))
+                w.cycles-is w.left-is w.n-is
           ],
     )
 

@@ -26,12 +26,12 @@ pub bounds-masks-n : goal.bounds-masks-n
 bounds-masks-n c = omega (arith, c.loop-n-test.true, (columns-long c.requires.nodes).0)
 
 pub root_priority-priority-requires : goal.root_priority-priority-requires
-root_priority-priority-requires c = record { lawful = c.requires.lawful; lent = c.requires.lent; }
+root_priority-priority-requires c = record { lawful = c.requires.lawful; lent = c.requires.lent }
 
 pub greatest_in-requires : goal.greatest_in-requires
 greatest_in-requires c =
     let written : c.loop-n.n < length c.loop-n.node_priorities =
-        from-zero-long c.requires.lawful c.requires.nodes c.loop-n.invariant c.requires.cleared.0 c.loop-n-test.true in
+    from-zero-long c.requires.lawful c.requires.nodes c.loop-n.invariant c.requires.cleared.0 c.loop-n-test.true in
     (c.loop-n.invariant.first_le, omega (arith, written))
 
 pub height-requires : goal.height-requires
@@ -40,25 +40,25 @@ height-requires c = let v = c.loop-n.invariant in (omega (arith, c.greatest_in.e
 pub overflow_cast-priority : goal.overflow_cast-priority
 overflow_cast-priority c =
     let parent-known : get_or c.args.parents.now c.loop-n.n 0 ≢ 65535 → (get_or c.args.parents.now c.loop-n.n 0 < length c.loop-n.node_priorities) × (get_or c.loop-n.node_priorities (get_or c.args.parents.now c.loop-n.n 0) 0 < 100) =
-        λ q. from-zero-parent c.requires.lawful c.requires.nodes c.loop-n.invariant c.requires.cleared.0 c.loop-n-test.true q in
+    λ q. from-zero-parent c.requires.lawful c.requires.nodes c.loop-n.invariant c.requires.cleared.0 c.loop-n-test.true q in
     omega (arith, (parent-known c.if-parent.false).0, copying-long c.loop-n.invariant.are)
 
 pub bounds-node_priorities-parent : goal.bounds-node_priorities-parent
 bounds-node_priorities-parent c =
     let parent-known : get_or c.args.parents.now c.loop-n.n 0 ≢ 65535 → (get_or c.args.parents.now c.loop-n.n 0 < length c.loop-n.node_priorities) × (get_or c.loop-n.node_priorities (get_or c.args.parents.now c.loop-n.n 0) 0 < 100) =
-        λ q. from-zero-parent c.requires.lawful c.requires.nodes c.loop-n.invariant c.requires.cleared.0 c.loop-n-test.true q in
+    λ q. from-zero-parent c.requires.lawful c.requires.nodes c.loop-n.invariant c.requires.cleared.0 c.loop-n-test.true q in
     (parent-known c.if-parent.false).0
 
 pub overflow_add-priority : goal.overflow_add-priority
 overflow_add-priority c =
     let parent-known : get_or c.args.parents.now c.loop-n.n 0 ≢ 65535 → (get_or c.args.parents.now c.loop-n.n 0 < length c.loop-n.node_priorities) × (get_or c.loop-n.node_priorities (get_or c.args.parents.now c.loop-n.n 0) 0 < 100) =
-        λ q. from-zero-parent c.requires.lawful c.requires.nodes c.loop-n.invariant c.requires.cleared.0 c.loop-n-test.true q in
+    λ q. from-zero-parent c.requires.lawful c.requires.nodes c.loop-n.invariant c.requires.cleared.0 c.loop-n-test.true q in
     omega (arith, (parent-known c.if-parent.false).1)
 
 pub bounds-node_priorities-n : goal.bounds-node_priorities-n
 bounds-node_priorities-n c =
     let written : c.loop-n.n < length c.loop-n.node_priorities =
-        from-zero-long c.requires.lawful c.requires.nodes c.loop-n.invariant c.requires.cleared.0 c.loop-n-test.true in
+    from-zero-long c.requires.lawful c.requires.nodes c.loop-n.invariant c.requires.cleared.0 c.loop-n-test.true in
     written
 
 pub overflow_step-n : goal.overflow_step-n
@@ -75,13 +75,13 @@ loop-n-preserved c =
     let nodes = c.requires.nodes in
     let room = c.requires.cleared.0 in
     elim c.if-parent.branch [
-      then-parent+then-priority-root w ↦
-        from-zero-other ok nodes v room i w.if-parent.true w.root_priority-priority.ensures w.priority-is w.if-priority-root.true
-        (w.most-is ∙ w.greater-most.ensures ∙ ap (max c.loop-n.most) (w.height.ensures ∙ ap (λ (k : ℕ). 2 * k + (3 - 3 * c.loop-n.root)) w.greatest_in.ensures))
-        w.first-is w.root-is
-    | then-parent+else-priority-root w ↦
-        from-zero-alike ok nodes v room i w.if-parent.true w.root_priority-priority.ensures w.priority-is w.if-priority-root.false w.most-is w.first-is w.root-is
-    | else-parent w ↦ from-zero-child ok nodes v room i w.if-parent.false w.priority-is w.most-is w.first-is w.root-is
+      | then-parent+then-priority-root w ↦
+          from-zero-other ok nodes v room i w.if-parent.true w.root_priority-priority.ensures w.priority-is w.if-priority-root.true
+          (w.most-is ∙ w.greater-most.ensures ∙ ap (max c.loop-n.most) (w.height.ensures ∙ ap (λ (k : ℕ). 2 * k + (3 - 3 * c.loop-n.root)) w.greatest_in.ensures))
+          w.first-is w.root-is
+      | then-parent+else-priority-root w ↦
+          from-zero-alike ok nodes v room i w.if-parent.true w.root_priority-priority.ensures w.priority-is w.if-priority-root.false w.most-is w.first-is w.root-is
+      | else-parent w ↦ from-zero-child ok nodes v room i w.if-parent.false w.priority-is w.most-is w.first-is w.root-is
     ]
 
 pub shape_of-node_priorities-then-first-eq0 : goal.shape_of-node_priorities-then-first-eq0
@@ -89,7 +89,7 @@ shape_of-node_priorities-then-first-eq0 c = copying-long c.loop-n.invariant.are
 
 pub returns-then-first-eq0 : goal.returns-then-first-eq0
 returns-then-first-eq0 c = let v = c.loop-n.invariant in
-    let h = c.loop-n-test.false in record { beginning = begins-alike c.requires.lawful c.requires.nodes v c.requires.cleared.0 h c.if-first-eq0.true refl; table = from-zero-all c.requires.lawful c.requires.nodes v c.requires.cleared.0 h c.requires.cleared.1; }
+    let h = c.loop-n-test.false in record { beginning = begins-alike c.requires.lawful c.requires.nodes v c.requires.cleared.0 h c.if-first-eq0.true refl; table = from-zero-all c.requires.lawful c.requires.nodes v c.requires.cleared.0 h c.requires.cleared.1 }
 
 pub greatest_in-requires-2 : goal.greatest_in-requires-2
 greatest_in-requires-2 c =
@@ -98,8 +98,8 @@ greatest_in-requires-2 c =
 pub height-requires-2 : goal.height-requires-2
 height-requires-2 c =
     let whole : top_from c.loop-n.first c.args.count c.loop-n.node_priorities ≡ top_from c.loop-n.first c.loop-n.n c.loop-n.node_priorities =
-        let v = c.loop-n.invariant in
-        ap (λ (k : ℕ). top_from c.loop-n.first k c.loop-n.node_priorities) (le_antisymm c.loop-n-test.false (from-zero-le c.requires.nodes v)) in
+    let v = c.loop-n.invariant in
+    ap (λ (k : ℕ). top_from c.loop-n.first k c.loop-n.node_priorities) (le_antisymm c.loop-n-test.false (from-zero-le c.requires.nodes v)) in
     let v = c.loop-n.invariant in (omega (arith, c.greatest_in-2.ensures, whole, v.top_few), v.root_few)
 
 pub shape_of-node_priorities : goal.shape_of-node_priorities
@@ -107,7 +107,7 @@ shape_of-node_priorities c = copying-long c.loop-n.invariant.are
 
 pub returns : goal.returns
 returns c = let whole : top_from c.loop-n.first c.args.count c.loop-n.node_priorities ≡ top_from c.loop-n.first c.loop-n.n c.loop-n.node_priorities =
-        let v = c.loop-n.invariant in
-        ap (λ (k : ℕ). top_from c.loop-n.first k c.loop-n.node_priorities) (le_antisymm c.loop-n-test.false (from-zero-le c.requires.nodes v)) in
+    let v = c.loop-n.invariant in
+    ap (λ (k : ℕ). top_from c.loop-n.first k c.loop-n.node_priorities) (le_antisymm c.loop-n-test.false (from-zero-le c.requires.nodes v)) in
     let h = c.loop-n-test.false in
-    let top = c.greater-top.ensures ∙ ap (max c.loop-n.most) (c.height-2.ensures ∙ ap (λ (k : ℕ). 2 * k + (3 - 3 * c.loop-n.root)) (c.greatest_in-2.ensures ∙ whole)) in record { beginning = begins-by-height c.requires.lawful c.requires.nodes c.loop-n.invariant c.requires.cleared.0 h c.if-first-eq0.false top; table = from-zero-all c.requires.lawful c.requires.nodes c.loop-n.invariant c.requires.cleared.0 h c.requires.cleared.1; }
+    let top = c.greater-top.ensures ∙ ap (max c.loop-n.most) (c.height-2.ensures ∙ ap (λ (k : ℕ). 2 * k + (3 - 3 * c.loop-n.root)) (c.greatest_in-2.ensures ∙ whole)) in record { beginning = begins-by-height c.requires.lawful c.requires.nodes c.loop-n.invariant c.requires.cleared.0 h c.if-first-eq0.false top; table = from-zero-all c.requires.lawful c.requires.nodes c.loop-n.invariant c.requires.cleared.0 h c.requires.cleared.1 }

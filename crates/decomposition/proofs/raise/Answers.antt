@@ -24,9 +24,9 @@ overflow_add-node_priorities c =
     let v = c.loop-n.invariant c.args.p (c.requires.lawful, (c.requires.nodes, c.requires.table)) in
     let k = raised-small c.args.p (c.requires.lawful, (c.requires.nodes, c.requires.table)) v.0 c.loop-n-test.true in
     elim c.if-parents-n.branch [
-      then-parents-n+then-priority-eq0 w ↦ omega (arith, k)
-    | then-parents-n+else-priority-eq0 w ↦ omega (arith, k)
-    | else-parents-n w ↦ omega (arith, k, v.1)
+      | then-parents-n+then-priority-eq0 w ↦ omega (arith, k)
+      | then-parents-n+else-priority-eq0 w ↦ omega (arith, k)
+      | else-parents-n w ↦ omega (arith, k, v.1)
     ]
 
 pub bounds-node_priorities-n-in-loop-n : goal.bounds-node_priorities-n-in-loop-n
@@ -43,11 +43,11 @@ loop-n-preserved c = λ p u.
     let v = c.loop-n.invariant p u in
     let i = c.loop-n-test.true in
     elim c.if-parents-n.branch [
-      then-parents-n+then-priority-eq0 w ↦
-        (raised-accepting p u v.0 i w.if-parents-n.true w.if-priority-eq0.true w.more-is refl, omega arith)
-    | then-parents-n+else-priority-eq0 w ↦
-        (raised-rejecting p u v.0 i w.if-parents-n.true w.if-priority-eq0.false w.more-is refl, omega arith)
-    | else-parents-n w ↦ (raised-child p u v.0 i w.if-parents-n.false w.more-is refl, omega (arith, v.1))
+      | then-parents-n+then-priority-eq0 w ↦
+          (raised-accepting p u v.0 i w.if-parents-n.true w.if-priority-eq0.true w.more-is refl, omega arith)
+      | then-parents-n+else-priority-eq0 w ↦
+          (raised-rejecting p u v.0 i w.if-parents-n.true w.if-priority-eq0.false w.more-is refl, omega arith)
+      | else-parents-n w ↦ (raised-child p u v.0 i w.if-parents-n.false w.more-is refl, omega (arith, v.1))
     ]
 
 pub shape_of-node_priorities : goal.shape_of-node_priorities

@@ -27,8 +27,8 @@ loop-a-preserved c =
     let at = c.loop-a in (
       omega arith,
       c.with_target-row.ensures
-      ∙ ap (λ (r : ℕ). with_target a.t.now a.m r (a.v * a.letters + at.a)) at.invariant.1
-      ∙ sym (edge-row-more a.t.now a.letters a.m a.v at.a),
+          ∙ ap (λ (r : ℕ). with_target a.t.now a.m r (a.v * a.letters + at.a)) at.invariant.1
+          ∙ sym (edge-row-more a.t.now a.letters a.m a.v at.a),
     )
 
 pub overflow_cast-result : goal.overflow_cast-result

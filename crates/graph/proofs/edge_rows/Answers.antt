@@ -31,7 +31,7 @@ loop-v-preserved c =
     let at = c.loop-v in (
       omega arith,
       ap₂ (λ (rows : List ℕ) (r : ℕ). set rows at.v r) at.invariant.1 c.edge_row.ensures
-      ∙ sym (edge-rows-more a.rows.now a.heads.now a.letters a.m at.v),
+          ∙ sym (edge-rows-more a.rows.now a.heads.now a.letters a.m at.v),
     )
 
 pub returns : goal.returns

@@ -19,12 +19,12 @@ loop-v-preserved c =
     let is = c.has.ensures in (
       omega arith,
       elim c.if-has.branch [
-        then-has w ↦ cc (w.a-is, at.invariant.1, union-in a.out.now a.s at.v (sym is ∙ w.if-has.true))
-      | else-has w ↦ cc (w.a-is, at.invariant.1, union-out a.out.now a.s at.v (sym is ∙ w.if-has.false))
+        | then-has w ↦ cc (w.a-is, at.invariant.1, union-in a.out.now a.s at.v (sym is ∙ w.if-has.true))
+        | else-has w ↦ cc (w.a-is, at.invariant.1, union-out a.out.now a.s at.v (sym is ∙ w.if-has.false))
       ],
       elim c.if-has.branch [
-        then-has w ↦ cc (w.b-is, at.invariant.2, union-in a.into.now a.s at.v (sym is ∙ w.if-has.true))
-      | else-has w ↦ cc (w.b-is, at.invariant.2, union-out a.into.now a.s at.v (sym is ∙ w.if-has.false))
+        | then-has w ↦ cc (w.b-is, at.invariant.2, union-in a.into.now a.s at.v (sym is ∙ w.if-has.true))
+        | else-has w ↦ cc (w.b-is, at.invariant.2, union-out a.into.now a.s at.v (sym is ∙ w.if-has.false))
       ],
     )
 

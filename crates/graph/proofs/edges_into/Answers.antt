@@ -16,19 +16,19 @@ bounds-heads-e c = omega (arith, c.requires.0)
 pub overflow_cast-v : goal.overflow_cast-v
 overflow_cast-v c =
     let few : get_or c.args.heads.now c.loop-e.e 0 < 16 =
-        c.requires.1 c.loop-e.e c.loop-e-test.true in
+    c.requires.1 c.loop-e.e c.loop-e-test.true in
     omega (arith, few)
 
 pub offset_bounds-t-v : goal.offset_bounds-t-v
 offset_bounds-t-v c =
     let few : get_or c.args.heads.now c.loop-e.e 0 < 16 =
-        c.requires.1 c.loop-e.e c.loop-e-test.true in
+    c.requires.1 c.loop-e.e c.loop-e-test.true in
     omega (arith, few)
 
 pub bounds-t-v : goal.bounds-t-v
 bounds-t-v c =
     let few : get_or c.args.heads.now c.loop-e.e 0 < 16 =
-        c.requires.1 c.loop-e.e c.loop-e-test.true in
+    c.requires.1 c.loop-e.e c.loop-e-test.true in
     omega (arith, few)
 
 pub with-requires : goal.with-requires
@@ -37,19 +37,19 @@ with-requires c = omega (arith, c.requires.0)
 pub offset_bounds-t-v-in-loop-e : goal.offset_bounds-t-v-in-loop-e
 offset_bounds-t-v-in-loop-e c =
     let few : get_or c.args.heads.now c.loop-e.e 0 < 16 =
-        c.requires.1 c.loop-e.e c.loop-e-test.true in
+    c.requires.1 c.loop-e.e c.loop-e-test.true in
     omega (arith, few)
 
 pub bounds-t-v-in-loop-e : goal.bounds-t-v-in-loop-e
 bounds-t-v-in-loop-e c =
     let few : get_or c.args.heads.now c.loop-e.e 0 < 16 =
-        c.requires.1 c.loop-e.e c.loop-e-test.true in
+    c.requires.1 c.loop-e.e c.loop-e-test.true in
     omega (arith, few)
 
 pub loop-e-preserved : goal.loop-e-preserved
 loop-e-preserved c =
     let few : get_or c.args.heads.now c.loop-e.e 0 < 16 =
-        c.requires.1 c.loop-e.e c.loop-e-test.true in
+    c.requires.1 c.loop-e.e c.loop-e-test.true in
     (omega arith, cc (entering-more c.args.heads.now c.loop-e.e (few)))
 
 pub returns : goal.returns

@@ -11,7 +11,7 @@ use Rattle.graph.proofs.reach_all.Goals as goal
 pub edge_rows-requires : goal.edge_rows-requires
 edge_rows-requires c =
     let fits : Fits c.args.states c.args.letters c.args.heads.now =
-        graph-fits c.requires.0.0 c.args.states c.args.letters c.args.heads.now c.requires.0.1 in
+    graph-fits c.requires.0.0 c.args.states c.args.letters c.args.heads.now c.requires.0.1 in
     let f = fits in (f.few, f.edges_few, f.are_states)
 
 pub loop-k-init : goal.loop-k-init
@@ -20,7 +20,7 @@ loop-k-init c = (omega arith, sym (joined-none _ _))
 pub join_rows-requires : goal.join_rows-requires
 join_rows-requires c =
     let fits : Fits c.args.states c.args.letters c.args.heads.now =
-        graph-fits c.requires.0.0 c.args.states c.args.letters c.args.heads.now c.requires.0.1 in
+    graph-fits c.requires.0.0 c.args.states c.args.letters c.args.heads.now c.requires.0.1 in
     omega (arith, (fits).few, c.loop-k-test.true)
 
 pub loop-k-preserved : goal.loop-k-preserved

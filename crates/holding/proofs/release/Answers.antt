@@ -7,7 +7,7 @@ pub loop-again-init : goal.loop-again-init
 loop-again-init c = releasing-none _ _ _ _ _ _ _ _ _ _
 
 pub sift-r-requires : goal.sift-r-requires
-sift-r-requires c = record { rows = c.requires.rows; long = (omega (arith, c.loop-again.invariant.long, c.requires.long.0), c.requires.long.1); order = (c.loop-again.invariant.few, omega (arith, c.loop-again.invariant.moved.long, c.requires.order.0), inside-moved _ _ _ _ c.loop-again.invariant.moved c.requires.order.1); }
+sift-r-requires c = record { rows = c.requires.rows; long = (omega (arith, c.loop-again.invariant.long, c.requires.long.0), c.requires.long.1); order = (c.loop-again.invariant.few, omega (arith, c.loop-again.invariant.moved.long, c.requires.order.0), inside-moved _ _ _ _ c.loop-again.invariant.moved c.requires.order.1) }
 
 pub loop-again-smaller : goal.loop-again-smaller
 loop-again-smaller c = sifts-fewer _ _ _ _ c.loop-again-test.true c.sift-r.ensures.from c.sift-r.ensures.few

@@ -11,7 +11,7 @@ pub bounds-order-i : goal.bounds-order-i
 bounds-order-i c = omega (arith, c.loop-i.invariant.parted.moved.long, c.requires.order.1)
 
 pub escapes-out-requires : goal.escapes-out-requires
-escapes-out-requires c = record { rows = c.requires.rows; s_in_bounds = (omega (arith, c.place-s.ensures, c.loop-i.invariant.parted.unseen c.loop-i.i (omega arith), c.requires.order.2 c.loop-i.i c.loop-i-test.true), omega (arith, c.loop-i.invariant.long, c.requires.long.0), c.requires.long.1); }
+escapes-out-requires c = record { rows = c.requires.rows; s_in_bounds = (omega (arith, c.place-s.ensures, c.loop-i.invariant.parted.unseen c.loop-i.i (omega arith), c.requires.order.2 c.loop-i.i c.loop-i-test.true), omega (arith, c.loop-i.invariant.long, c.requires.long.0), c.requires.long.1) }
 
 pub set_if-requires : goal.set_if-requires
 set_if-requires c = omega (arith, c.place-s.ensures, c.loop-i.invariant.parted.unseen c.loop-i.i (omega arith), c.requires.order.2 c.loop-i.i c.loop-i-test.true, c.loop-i.invariant.long, c.requires.long.0)

@@ -9,7 +9,7 @@ use Rattle.listing.proofs.Appending.{hued-more, other-colours, left_out, appende
 use Rattle.listing.proofs.append_cycle.Goals as goal
 
 pub returns-then-colours_in-c : goal.returns-then-colours_in-c
-returns-then-colours_in-c c = let a = c.args in record { masks = other-colours (table_colours a.by.now) a.c a.other.now a.hues.now c.requires.other a.same.now a.count a.x (λ e. c.if-colours_in-c.true (c.colours_in.ensures ∙ e)); hues = (c.requires.room.0, omega arith); }
+returns-then-colours_in-c c = let a = c.args in record { masks = other-colours (table_colours a.by.now) a.c a.other.now a.hues.now c.requires.other a.same.now a.count a.x (λ e. c.if-colours_in-c.true (c.colours_in.ensures ∙ e)); hues = (c.requires.room.0, omega arith) }
 
 pub slice_bounds-is_wanted-end-2 : goal.slice_bounds-is_wanted-end-2
 slice_bounds-is_wanted-end-2 c = sym (length-take-le c.args.count c.args.same.now c.requires.room.0.long)
@@ -19,7 +19,7 @@ is_wanted-requires c = omega (arith, ap length c.requires.other, length-map c.ar
 
 pub returns-then-is_wanted : goal.returns-then-is_wanted
 returns-then-is_wanted c = let a = c.args in
-    let e = sym c.colours_in.ensures ∙ c.if-colours_in-c.false in record { masks = appended (table_colours a.by.now) a.c a.other.now a.hues.now c.requires.other a.same.now a.count a.x c.requires.room.1 (sym c.is_wanted.ensures ∙ c.if-is_wanted.true) e; hues = (hued-more c.requires.room.0 a.c a.x c.requires.room.1 c.requires.room.2 e, omega arith); }
+    let e = sym c.colours_in.ensures ∙ c.if-colours_in-c.false in record { masks = appended (table_colours a.by.now) a.c a.other.now a.hues.now c.requires.other a.same.now a.count a.x c.requires.room.1 (sym c.is_wanted.ensures ∙ c.if-is_wanted.true) e; hues = (hued-more c.requires.room.0 a.c a.x c.requires.room.1 c.requires.room.2 e, omega arith) }
 
 pub returns : goal.returns
-returns c = let a = c.args in record { masks = left_out (table_colours a.by.now) a.c a.other.now a.hues.now c.requires.other a.same.now a.count a.x (sym c.is_wanted.ensures ∙ c.if-is_wanted.false) (sym c.colours_in.ensures ∙ c.if-colours_in-c.false); hues = (c.requires.room.0, omega arith); }
+returns c = let a = c.args in record { masks = left_out (table_colours a.by.now) a.c a.other.now a.hues.now c.requires.other a.same.now a.count a.x (sym c.is_wanted.ensures ∙ c.if-is_wanted.false) (sym c.colours_in.ensures ∙ c.if-colours_in-c.false); hues = (c.requires.room.0, omega arith) }

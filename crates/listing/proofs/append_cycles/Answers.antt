@@ -20,7 +20,7 @@ pub bounds-cycles-i : goal.bounds-cycles-i
 bounds-cycles-i c = omega (arith, c.requires.cycles.0, c.loop-i-test.true)
 
 pub append_cycle-next-requires : goal.append_cycle-next-requires
-append_cycle-next-requires c = record { other = c.requires.other; room = (c.loop-i.invariant.5, omega (arith, c.loop-i.invariant.1, c.loop-i.invariant.2, c.requires.room.1, c.loop-i-test.true), omega (arith, c.loop-i.invariant.1, c.loop-i.invariant.3, c.requires.room.2, c.loop-i-test.true)); }
+append_cycle-next-requires c = record { other = c.requires.other; room = (c.loop-i.invariant.5, omega (arith, c.loop-i.invariant.1, c.loop-i.invariant.2, c.requires.room.1, c.loop-i-test.true), omega (arith, c.loop-i.invariant.1, c.loop-i.invariant.3, c.requires.room.2, c.loop-i-test.true)) }
 
 pub loop-i-preserved : goal.loop-i-preserved
 loop-i-preserved c =
@@ -43,4 +43,4 @@ shape_of-own c = c.loop-i.invariant.3
 
 pub returns : goal.returns
 returns c = let a = c.args in
-    let last : c.loop-i.i ≡ a.n = omega (arith, c.loop-i.invariant.0, c.loop-i-test.false) in record { masks = c.loop-i.invariant.4 ∙ ap (λ (k : ℕ). with_cycles (table_colours a.by.now) a.c a.other.now (take a.count a.same.now) (take k a.cycles.now)) last; hues = c.loop-i.invariant.5; }
+    let last : c.loop-i.i ≡ a.n = omega (arith, c.loop-i.invariant.0, c.loop-i-test.false) in record { masks = c.loop-i.invariant.4 ∙ ap (λ (k : ℕ). with_cycles (table_colours a.by.now) a.c a.other.now (take a.count a.same.now) (take k a.cycles.now)) last; hues = c.loop-i.invariant.5 }

@@ -11,9 +11,9 @@ use Rattle.listing.proofs.edges_on_cycles.Goals as goal
 pub union_of-requires : goal.union_of-requires
 union_of-requires c =
     let found : Found c.requires.0 c.args.m (replicate 16 0) c.fill_cycles-n.new.cycles c.fill_cycles-n.result =
-        c.fill_cycles-n.ensures.0 c.requires.0 c.requires.2.graph c.requires.2.ends in
+    c.fill_cycles-n.ensures.0 c.requires.0 c.requires.2.graph c.requires.2.ends in
     let few : c.fill_cycles-n.result ≤ 16 =
-        omega (arith, (found).few, (legal-counts c.requires.0 c.requires.2.graph.lawful).states_few) in
+    omega (arith, (found).few, (legal-counts c.requires.0 c.requires.2.graph.lawful).states_few) in
     (few, (found).long)
 
 pub returns : goal.returns

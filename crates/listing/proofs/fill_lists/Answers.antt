@@ -29,7 +29,7 @@ loop-left-init c =
 pub lacks_room-requires : goal.lacks_room-requires
 lacks_room-requires c =
     let here : let a = c.args in Listed c.requires.policy.0 a.by.now a.root (c.colours_in-used.result - c.loop-left.left) c.loop-left.accepting c.loop-left.accepted c.loop-left.rejecting c.loop-left.rejected c.loop-left.live c.loop-left.listed =
-        c.loop-left.invariant.1 c.requires.policy.0 c.requires.policy.1 c.requires.policy.2 in
+    c.loop-left.invariant.1 c.requires.policy.0 c.requires.policy.1 c.requires.policy.2 in
     let l = here in (l.accepting_hued.long, l.rejecting_hued.long)
 
 pub shape_of-accepting-then-lacks_room : goal.shape_of-accepting-then-lacks_room
@@ -50,7 +50,7 @@ shape_of-live-then-lacks_room c = c.loop-left.invariant.6
 pub returns-then-lacks_room : goal.returns-then-lacks_room
 returns-then-lacks_room c =
     let used-is : (p : Policy) → let a = c.args in PartsOf p a.states a.letters a.heads.now a.out.now a.into.now a.by.now → c.colours_in-used.result ≡ colours_of p a.root =
-        λ p t. c.colours_in-used.ensures ∙ ap (λ (f : ℕ → ℕ). f c.args.root) (hue-is t) in
+    λ p t. c.colours_in-used.ensures ∙ ap (λ (f : ℕ → ℕ). f c.args.root) (hue-is t) in
     λ p t f root.
     outcome-part (c.loop-left.invariant.1 p t f) t.graph.lawful root (omega (arith, used-is p t, c.loop-left-test.true, c.loop-left.invariant.0)) (sym c.lacks_room.ensures ∙ c.if-lacks_room.true)
 
@@ -59,11 +59,11 @@ overflow_sub-left c = omega (arith, c.loop-left-test.true)
 
 pub list_next-step-requires : goal.list_next-step-requires
 list_next-step-requires c = let here : let a = c.args in Listed c.requires.policy.0 a.by.now a.root (c.colours_in-used.result - c.loop-left.left) c.loop-left.accepting c.loop-left.accepted c.loop-left.rejecting c.loop-left.rejected c.loop-left.live c.loop-left.listed =
-        c.loop-left.invariant.1 c.requires.policy.0 c.requires.policy.1 c.requires.policy.2 in
+    c.loop-left.invariant.1 c.requires.policy.0 c.requires.policy.1 c.requires.policy.2 in
     let at = c.loop-left in
     let l = here in
     let room = room-some (length at.accepting) (length at.rejecting) at.listed l.accepting_hued.long l.rejecting_hued.long (sym c.lacks_room.ensures ∙ c.if-lacks_room.false) in
-    record { policy = (c.requires.policy.0, c.requires.policy.1); accepting = (l.accepting_hued, room.0, omega (arith, room.0, at.invariant.2, at.invariant.3, c.begin-listed.auto.accepting, c.begin-listed.auto.accepted, c.requires.places.1)); rejecting = (l.rejecting_hued, room.1, omega (arith, room.1, at.invariant.4, at.invariant.5, c.begin-listed.auto.rejecting, c.begin-listed.auto.rejected, c.requires.places.3)); live = (omega (arith, c.loop-left-test.true, at.invariant.0), omega (arith, at.invariant.6, c.requires.live.0, c.colours_in-used.ensures)); }
+    record { policy = (c.requires.policy.0, c.requires.policy.1); accepting = (l.accepting_hued, room.0, omega (arith, room.0, at.invariant.2, at.invariant.3, c.begin-listed.auto.accepting, c.begin-listed.auto.accepted, c.requires.places.1)); rejecting = (l.rejecting_hued, room.1, omega (arith, room.1, at.invariant.4, at.invariant.5, c.begin-listed.auto.rejecting, c.begin-listed.auto.rejected, c.requires.places.3)); live = (omega (arith, c.loop-left-test.true, at.invariant.0), omega (arith, at.invariant.6, c.requires.live.0, c.colours_in-used.ensures)) }
 
 pub loop-left-smaller : goal.loop-left-smaller
 loop-left-smaller c = omega (arith, c.list_next-step.ensures.left, c.next_left-left.ensures.0, c.loop-left-test.true)
@@ -71,10 +71,9 @@ loop-left-smaller c = omega (arith, c.list_next-step.ensures.left, c.next_left-l
 pub loop-left-preserved : goal.loop-left-preserved
 loop-left-preserved c =
     let used-is : (p : Policy) → let a = c.args in PartsOf p a.states a.letters a.heads.now a.out.now a.into.now a.by.now → c.colours_in-used.result ≡ colours_of p a.root =
-        λ p t. c.colours_in-used.ensures ∙ ap (λ (f : ℕ → ℕ). f c.args.root) (hue-is t) in
+    λ p t. c.colours_in-used.ensures ∙ ap (λ (f : ℕ → ℕ). f c.args.root) (hue-is t) in
     let at = c.loop-left in
-    let used = c.colours_in-used.result in
-    (
+    let used = c.colours_in-used.result in (
       omega (arith, c.list_next-step.ensures.left, c.next_left-left.ensures.0, c.loop-left-test.true, at.invariant.0),
       λ p t f.
           let n : used - at.left ≡ used - 1 - (at.left - 1) = omega (arith, c.loop-left-test.true, at.invariant.0) in
@@ -105,5 +104,5 @@ shape_of-live c = c.loop-left.invariant.6
 pub returns : goal.returns
 returns c =
     let used-is : (p : Policy) → let a = c.args in PartsOf p a.states a.letters a.heads.now a.out.now a.into.now a.by.now → c.colours_in-used.result ≡ colours_of p a.root =
-        λ p t. c.colours_in-used.ensures ∙ ap (λ (f : ℕ → ℕ). f c.args.root) (hue-is t) in
+    λ p t. c.colours_in-used.ensures ∙ ap (λ (f : ℕ → ℕ). f c.args.root) (hue-is t) in
     λ p t f root. outcome-whole (c.loop-left.invariant.1 p t f) (omega (arith, used-is p t, c.loop-left-test.false))

@@ -16,13 +16,13 @@ with_edge-seen-requires c = (omega arith, omega arith)
 pub returns-then-seen-gt8 : goal.returns-then-seen-gt8
 returns-then-seen-gt8 c =
     let turned : Coloured (take (c.loop-e.e + 1) c.args.marks) c.with_edge-seen.result =
-        coloured-turn c.args.marks c.loop-e.e _ _ (omega arith) c.with_edge-seen.ensures c.loop-e.invariant.2 in
+    coloured-turn c.args.marks c.loop-e.e _ _ (omega arith) c.with_edge-seen.ensures c.loop-e.invariant.2 in
     coloured-many _ (c.loop-e.e + 1) c.args.edges _ (omega arith) c.if-seen-gt8.true (turned)
 
 pub loop-e-preserved : goal.loop-e-preserved
 loop-e-preserved c =
     let turned : Coloured (take (c.loop-e.e + 1) c.args.marks) c.with_edge-seen.result =
-        coloured-turn c.args.marks c.loop-e.e _ _ (omega arith) c.with_edge-seen.ensures c.loop-e.invariant.2 in
+    coloured-turn c.args.marks c.loop-e.e _ _ (omega arith) c.with_edge-seen.ensures c.loop-e.invariant.2 in
     (omega arith, omega arith, turned)
 
 pub returns : goal.returns

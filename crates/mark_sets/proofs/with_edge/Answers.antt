@@ -19,6 +19,6 @@ pub returns : goal.returns
 returns c l long is =
     let with : Colouring → Type 0 = λ (r : Colouring). Coloured (l ++ (c.args.x ∷ [])) (record { colour = set r.colour c.args.e c.place_of-c.result; sets = r.sets; count = r.count }) in
     elim c.if-c-count.branch [
-      then-c-count w ↦ subst with (sym w.r-is) (coloured-new l _ _ _ is c.requires.1 c.place_of-c.ensures.1 _ long c.requires.0 w.if-c-count.true c.if-c-eq8.false)
-    | else-c-count w ↦ subst with (sym w.r-is) (coloured-old l _ _ _ is c.requires.1 c.place_of-c.ensures.1 _ long c.requires.0 w.if-c-count.false)
+      | then-c-count w ↦ subst with (sym w.r-is) (coloured-new l _ _ _ is c.requires.1 c.place_of-c.ensures.1 _ long c.requires.0 w.if-c-count.true c.if-c-eq8.false)
+      | else-c-count w ↦ subst with (sym w.r-is) (coloured-old l _ _ _ is c.requires.1 c.place_of-c.ensures.1 _ long c.requires.0 w.if-c-count.false)
     ]

@@ -21,24 +21,24 @@ pub overflow_cast-c : goal.overflow_cast-c
 unfolding colour_of
 overflow_cast-c c =
     let few : get_or c.args.colours.now c.loop-e.e 0 < 8 =
-        let e = c.loop-e.e in
-        subst (λ (l : List ℕ). get_or l e 0 < 8) (sym c.requires.1) (colour-few c.args.p c.requires.0 e (omega (arith, c.edges-n.ensures, c.loop-e-test.true))) in
+    let e = c.loop-e.e in
+    subst (λ (l : List ℕ). get_or l e 0 < 8) (sym c.requires.1) (colour-few c.args.p c.requires.0 e (omega (arith, c.edges-n.ensures, c.loop-e-test.true))) in
     omega (arith, few)
 
 pub offset_bounds-t-c : goal.offset_bounds-t-c
 unfolding colour_of
 offset_bounds-t-c c =
     let few : get_or c.args.colours.now c.loop-e.e 0 < 8 =
-        let e = c.loop-e.e in
-        subst (λ (l : List ℕ). get_or l e 0 < 8) (sym c.requires.1) (colour-few c.args.p c.requires.0 e (omega (arith, c.edges-n.ensures, c.loop-e-test.true))) in
+    let e = c.loop-e.e in
+    subst (λ (l : List ℕ). get_or l e 0 < 8) (sym c.requires.1) (colour-few c.args.p c.requires.0 e (omega (arith, c.edges-n.ensures, c.loop-e-test.true))) in
     omega (arith, few)
 
 pub bounds-t-c : goal.bounds-t-c
 unfolding colour_of
 bounds-t-c c =
     let few : get_or c.args.colours.now c.loop-e.e 0 < 8 =
-        let e = c.loop-e.e in
-        subst (λ (l : List ℕ). get_or l e 0 < 8) (sym c.requires.1) (colour-few c.args.p c.requires.0 e (omega (arith, c.edges-n.ensures, c.loop-e-test.true))) in
+    let e = c.loop-e.e in
+    subst (λ (l : List ℕ). get_or l e 0 < 8) (sym c.requires.1) (colour-few c.args.p c.requires.0 e (omega (arith, c.edges-n.ensures, c.loop-e-test.true))) in
     omega (arith, few)
 
 pub with-requires : goal.with-requires
@@ -48,24 +48,24 @@ pub offset_bounds-t-c-in-loop-e : goal.offset_bounds-t-c-in-loop-e
 unfolding colour_of
 offset_bounds-t-c-in-loop-e c =
     let few : get_or c.args.colours.now c.loop-e.e 0 < 8 =
-        let e = c.loop-e.e in
-        subst (λ (l : List ℕ). get_or l e 0 < 8) (sym c.requires.1) (colour-few c.args.p c.requires.0 e (omega (arith, c.edges-n.ensures, c.loop-e-test.true))) in
+    let e = c.loop-e.e in
+    subst (λ (l : List ℕ). get_or l e 0 < 8) (sym c.requires.1) (colour-few c.args.p c.requires.0 e (omega (arith, c.edges-n.ensures, c.loop-e-test.true))) in
     omega (arith, few)
 
 pub bounds-t-c-in-loop-e : goal.bounds-t-c-in-loop-e
 unfolding colour_of
 bounds-t-c-in-loop-e c =
     let few : get_or c.args.colours.now c.loop-e.e 0 < 8 =
-        let e = c.loop-e.e in
-        subst (λ (l : List ℕ). get_or l e 0 < 8) (sym c.requires.1) (colour-few c.args.p c.requires.0 e (omega (arith, c.edges-n.ensures, c.loop-e-test.true))) in
+    let e = c.loop-e.e in
+    subst (λ (l : List ℕ). get_or l e 0 < 8) (sym c.requires.1) (colour-few c.args.p c.requires.0 e (omega (arith, c.edges-n.ensures, c.loop-e-test.true))) in
     omega (arith, few)
 
 pub loop-e-preserved : goal.loop-e-preserved
 unfolding colour_of
 loop-e-preserved c =
     let few : get_or c.args.colours.now c.loop-e.e 0 < 8 =
-        let e = c.loop-e.e in
-        subst (λ (l : List ℕ). get_or l e 0 < 8) (sym c.requires.1) (colour-few c.args.p c.requires.0 e (omega (arith, c.edges-n.ensures, c.loop-e-test.true))) in
+    let e = c.loop-e.e in
+    subst (λ (l : List ℕ). get_or l e 0 < 8) (sym c.requires.1) (colour-few c.args.p c.requires.0 e (omega (arith, c.edges-n.ensures, c.loop-e-test.true))) in
     (omega arith, cc (by-more c.args.colours.now c.loop-e.e (omega (arith, few))))
 
 pub returns : goal.returns

@@ -50,10 +50,10 @@ returns-then-m-eq0 c =
 
 pub grow_tree-grown-requires : goal.grow_tree-grown-requires
 grow_tree-grown-requires c = let here : let q = c.requires.policy in RootsWritten c.requires.policy.0 c.requires.policy.1 c.requires.policy.2 c.loop-states.masks c.loop-states.parents c.loop-states.next c.loop-states.after =
-        let q = c.requires.policy in c.loop-states.invariant.0 c.requires.policy.0 c.requires.policy.1 c.requires.policy.2 c.requires.policy.3 c.requires.policy.4 c.requires.policy.5 c.requires.policy.6 in
+    let q = c.requires.policy in c.loop-states.invariant.0 c.requires.policy.0 c.requires.policy.1 c.requires.policy.2 c.requires.policy.3 c.requires.policy.4 c.requires.policy.5 c.requires.policy.6 in
     let q = c.requires.policy in
     let v = here in
-    let l = roots-long v in record { policy = (c.requires.policy.0, c.requires.policy.3, c.requires.policy.4, root-mem c.requires.policy.3.graph.lawful c.requires.policy.5 v c.next_root-m.ensures c.if-m-eq0.false); space = space-still c.requires.space c.loop-states.invariant.1 c.loop-states.invariant.2 c.loop-states.invariant.3 c.loop-states.invariant.4 c.loop-states.invariant.5; tables = (l.1 ∙ v.one_length ∙ sym l.0, places-still _ _ l.0 v.fits); }
+    let l = roots-long v in record { policy = (c.requires.policy.0, c.requires.policy.3, c.requires.policy.4, root-mem c.requires.policy.3.graph.lawful c.requires.policy.5 v c.next_root-m.ensures c.if-m-eq0.false); space = space-still c.requires.space c.loop-states.invariant.1 c.loop-states.invariant.2 c.loop-states.invariant.3 c.loop-states.invariant.4 c.loop-states.invariant.5; tables = (l.1 ∙ v.one_length ∙ sym l.0, places-still _ _ l.0 v.fits) }
 
 pub shape_of-accepting-then-grown : goal.shape_of-accepting-then-grown
 shape_of-accepting-then-grown c = c.grow_tree-grown.auto.accepting ∙ c.loop-states.invariant.1
@@ -79,7 +79,7 @@ shape_of-parents-then-grown c = c.grow_tree-grown.auto.parents ∙ c.loop-states
 pub returns-then-grown : goal.returns-then-grown
 returns-then-grown c =
     let grown : (p : Policy) (m₀ r₀ : List ℕ) → let a = c.args in PartsOf p a.states a.letters a.heads.now a.out.now a.into.now a.by.now → a.family.now ≡ p.family → a.roots.now ≡ root_candidates p → RootsWritten p m₀ r₀ a.masks.now a.parents.now a.from.next a.from.after → TreeGrown p c.next_root-m.result c.loop-states.next (length c.loop-states.accepting) c.loop-states.masks c.loop-states.parents c.grow_tree-grown.new.masks c.grow_tree-grown.new.parents c.grow_tree-grown.result =
-        λ p m₀ r₀ t f e w. c.grow_tree-grown.ensures p t f (root-mem t.graph.lawful e (c.loop-states.invariant.0 p m₀ r₀ t f e w) c.next_root-m.ensures c.if-m-eq0.false) in
+    λ p m₀ r₀ t f e w. c.grow_tree-grown.ensures p t f (root-mem t.graph.lawful e (c.loop-states.invariant.0 p m₀ r₀ t f e w) c.next_root-m.ensures c.if-m-eq0.false) in
     λ p m₀ r₀ t f e w. let g = grown p m₀ r₀ t f e w in record {
       finished = λ z. absurd (false≢true z);
       unfinished = λ _. roots-still (c.loop-states.invariant.0 p m₀ r₀ t f e w) (g.masks_same c.if-grown.true) (g.parents_same c.if-grown.true);
@@ -110,7 +110,7 @@ shape_of-parents-then-places-next c = c.clear16.auto.t ∙ c.grow_tree-grown.aut
 pub returns-then-places-next : goal.returns-then-places-next
 returns-then-places-next c =
     let grown : (p : Policy) (m₀ r₀ : List ℕ) → let a = c.args in PartsOf p a.states a.letters a.heads.now a.out.now a.into.now a.by.now → a.family.now ≡ p.family → a.roots.now ≡ root_candidates p → RootsWritten p m₀ r₀ a.masks.now a.parents.now a.from.next a.from.after → TreeGrown p c.next_root-m.result c.loop-states.next (length c.loop-states.accepting) c.loop-states.masks c.loop-states.parents c.grow_tree-grown.new.masks c.grow_tree-grown.new.parents c.grow_tree-grown.result =
-        λ p m₀ r₀ t f e w. c.grow_tree-grown.ensures p t f (root-mem t.graph.lawful e (c.loop-states.invariant.0 p m₀ r₀ t f e w) c.next_root-m.ensures c.if-m-eq0.false) in
+    λ p m₀ r₀ t f e w. c.grow_tree-grown.ensures p t f (root-mem t.graph.lawful e (c.loop-states.invariant.0 p m₀ r₀ t f e w) c.next_root-m.ensures c.if-m-eq0.false) in
     λ p m₀ r₀ t f e w.
     let v = c.loop-states.invariant.0 p m₀ r₀ t f e w in
     let l = roots-long v in
@@ -124,17 +124,16 @@ returns-then-places-next c =
 pub loop-states-smaller : goal.loop-states-smaller
 loop-states-smaller c =
     let here : let q = c.requires.policy in RootsWritten c.requires.policy.0 c.requires.policy.1 c.requires.policy.2 c.loop-states.masks c.loop-states.parents c.loop-states.next c.loop-states.after =
-        let q = c.requires.policy in c.loop-states.invariant.0 c.requires.policy.0 c.requires.policy.1 c.requires.policy.2 c.requires.policy.3 c.requires.policy.4 c.requires.policy.5 c.requires.policy.6 in
+    let q = c.requires.policy in c.loop-states.invariant.0 c.requires.policy.0 c.requires.policy.1 c.requires.policy.2 c.requires.policy.3 c.requires.policy.4 c.requires.policy.5 c.requires.policy.6 in
     let grown : (p : Policy) (m₀ r₀ : List ℕ) → let a = c.args in PartsOf p a.states a.letters a.heads.now a.out.now a.into.now a.by.now → a.family.now ≡ p.family → a.roots.now ≡ root_candidates p → RootsWritten p m₀ r₀ a.masks.now a.parents.now a.from.next a.from.after → TreeGrown p c.next_root-m.result c.loop-states.next (length c.loop-states.accepting) c.loop-states.masks c.loop-states.parents c.grow_tree-grown.new.masks c.grow_tree-grown.new.parents c.grow_tree-grown.result =
-        λ p m₀ r₀ t f e w. c.grow_tree-grown.ensures p t f (root-mem t.graph.lawful e (c.loop-states.invariant.0 p m₀ r₀ t f e w) c.next_root-m.ensures c.if-m-eq0.false) in
+    λ p m₀ r₀ t f e w. c.grow_tree-grown.ensures p t f (root-mem t.graph.lawful e (c.loop-states.invariant.0 p m₀ r₀ t f e w) c.next_root-m.ensures c.if-m-eq0.false) in
     let q = c.requires.policy in
     omega (arith, roots-grow c.requires.policy.3.graph.lawful c.requires.policy.5 (here) c.next_root-m.ensures c.if-m-eq0.false ((grown c.requires.policy.0 c.requires.policy.1 c.requires.policy.2 c.requires.policy.3 c.requires.policy.4 c.requires.policy.5 c.requires.policy.6).written c.if-grown.false) (under c.requires.policy.6 c.places-places.ensures c.if-places-next.false), c.if-places-next.false)
 
 pub loop-states-preserved : goal.loop-states-preserved
 loop-states-preserved c =
     let grown : (p : Policy) (m₀ r₀ : List ℕ) → let a = c.args in PartsOf p a.states a.letters a.heads.now a.out.now a.into.now a.by.now → a.family.now ≡ p.family → a.roots.now ≡ root_candidates p → RootsWritten p m₀ r₀ a.masks.now a.parents.now a.from.next a.from.after → TreeGrown p c.next_root-m.result c.loop-states.next (length c.loop-states.accepting) c.loop-states.masks c.loop-states.parents c.grow_tree-grown.new.masks c.grow_tree-grown.new.parents c.grow_tree-grown.result =
-        λ p m₀ r₀ t f e w. c.grow_tree-grown.ensures p t f (root-mem t.graph.lawful e (c.loop-states.invariant.0 p m₀ r₀ t f e w) c.next_root-m.ensures c.if-m-eq0.false) in
-    (
+    λ p m₀ r₀ t f e w. c.grow_tree-grown.ensures p t f (root-mem t.graph.lawful e (c.loop-states.invariant.0 p m₀ r₀ t f e w) c.next_root-m.ensures c.if-m-eq0.false) in (
       λ p m₀ r₀ t f e w. roots-more t.graph.lawful e (c.loop-states.invariant.0 p m₀ r₀ t f e w) c.next_root-m.ensures c.if-m-eq0.false ((grown p m₀ r₀ t f e w).written c.if-grown.false) (under w c.places-places.ensures c.if-places-next.false),
       c.grow_tree-grown.auto.accepting ∙ c.loop-states.invariant.1,
       c.grow_tree-grown.auto.accepted ∙ c.loop-states.invariant.2,

@@ -25,11 +25,11 @@ pub loop-i-preserved : goal.loop-i-preserved
 loop-i-preserved c =
     let v = c.loop-i.invariant in
     elim c.if-is_kept.branch [
-      then-is_kept w ↦
-        rw (w.kids-is, w.count-is, w.insert.ensures)
-        (passing-more v c.requires.2 (omega arith) c.requires.1 (sym c.is_kept.ensures ∙ w.if-is_kept.true))
-    | else-is_kept w ↦
-        rw (w.kids-is, w.count-is) (passing-skip v c.requires.2 (omega arith) (sym c.is_kept.ensures ∙ w.if-is_kept.false))
+      | then-is_kept w ↦
+          rw (w.kids-is, w.count-is, w.insert.ensures)
+          (passing-more v c.requires.2 (omega arith) c.requires.1 (sym c.is_kept.ensures ∙ w.if-is_kept.true))
+      | else-is_kept w ↦
+          rw (w.kids-is, w.count-is) (passing-skip v c.requires.2 (omega arith) (sym c.is_kept.ensures ∙ w.if-is_kept.false))
     ]
 
 pub shape_of-kids : goal.shape_of-kids

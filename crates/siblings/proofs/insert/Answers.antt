@@ -20,16 +20,15 @@ is_before-requires c =
 
 pub loop-j-preserved : goal.loop-j-preserved
 loop-j-preserved c =
-    let l = c.args.list.now in
-    (
+    let l = c.args.list.now in (
       c.loop-j.invariant.0,
       elim c.if-is_before.branch [
-        then-is_before w ↦
-          rw (w.kids-is, w.carry-is)
-          (carrying-put l c.loop-j.invariant.1 c.loop-j-test.true c.loop-j.invariant.0 (sym c.is_before.ensures ∙ w.if-is_before.true))
-      | else-is_before w ↦
-          rw (w.kids-is, w.carry-is)
-          (carrying-past l c.loop-j.invariant.1 c.loop-j-test.true c.loop-j.invariant.0 (sym c.is_before.ensures ∙ w.if-is_before.false))
+        | then-is_before w ↦
+            rw (w.kids-is, w.carry-is)
+            (carrying-put l c.loop-j.invariant.1 c.loop-j-test.true c.loop-j.invariant.0 (sym c.is_before.ensures ∙ w.if-is_before.true))
+        | else-is_before w ↦
+            rw (w.kids-is, w.carry-is)
+            (carrying-past l c.loop-j.invariant.1 c.loop-j-test.true c.loop-j.invariant.0 (sym c.is_before.ensures ∙ w.if-is_before.false))
       ],
     )
 

@@ -6,7 +6,7 @@ use borrow.Author.Rules.{rules}
 use Rattle.wulfrenda.proofs.wulfrenda_run.Goals as goal
 
 pub returns-in-Moved : goal.returns-in-Moved
-returns-in-Moved c = let is = sym c.in-Moved.is ∙ c.read-x.ensures.answer_is in record { number = ap number_of is; state = ap (λ (x : Reading). (run_after x).state) is; priority = ap priority_of is; }
+returns-in-Moved c = let is = sym c.in-Moved.is ∙ c.read-x.ensures.answer_is in record { number = ap number_of is; state = ap (λ (x : Reading). (run_after x).state) is; priority = ap priority_of is }
 
 pub returns-in-Refused : goal.returns-in-Refused
-returns-in-Refused c = let is = sym c.in-Refused.is ∙ c.read-x.ensures.answer_is in record { number = ap number_of is; state = ap (λ (x : Reading). (run_after x).state) is; priority = ap priority_of is; }
+returns-in-Refused c = let is = sym c.in-Refused.is ∙ c.read-x.ensures.answer_is in record { number = ap number_of is; state = ap (λ (x : Reading). (run_after x).state) is; priority = ap priority_of is }

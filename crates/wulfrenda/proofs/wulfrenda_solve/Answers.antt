@@ -31,4 +31,4 @@ shape_of-letters c = c.solve_record.auto.letters
 
 pub returns : goal.returns
 returns c = let e = c.solve_record.ensures in
-    let s = e.solved in record { number = e.number_is; counts = s.counts_are; tables = s.tables_are; winners = s.winners_are; letters = s.letters_are; }
+    let s = e.solved in record { number = e.number_is; counts = s.counts_are; tables = s.tables_are; winners = s.winners_are; letters = s.letters_are }

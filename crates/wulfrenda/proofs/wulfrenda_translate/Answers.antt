@@ -29,4 +29,4 @@ shape_of-priorities c = c.translate-t.auto.priorities
 pub returns : goal.returns
 returns c = let t = same-policy c.policy_of-p.ensures c.translate-t.ensures in
     let number = c.of_translation-values.ensures.0 ∙ ap number_of t.answer_is in
-    let counts = c.of_translation-values.ensures.1 ∙ ap counts_of t.answer_is in record { number = number; counts = counts; tables = t.tables_are; }
+    let counts = c.of_translation-values.ensures.1 ∙ ap counts_of t.answer_is in record { number = number; counts = counts; tables = t.tables_are }

@@ -17,9 +17,9 @@ use Rattle.wulfrenda.proofs.wulfrenda_translate_bytes.Goals as goal
 pub returns-then-read-ne0 : goal.returns-then-read-ne0
 returns-then-read-ne0 c =
     let number_read : c.of_reading-read.result.number ≡ read_number_of (reading_of c.args.bytes.now).outcome =
-        c.of_reading-read.ensures.0 ∙ ap (λ (x : Answer). read_number_of x.outcome) c.read-answer.ensures.answer_is in
+    c.of_reading-read.ensures.0 ∙ ap (λ (x : Answer). read_number_of x.outcome) c.read-answer.ensures.answer_is in
     let offset_read : c.of_reading-read.result.offset ≡ offset_of (reading_of c.args.bytes.now).outcome =
-        c.of_reading-read.ensures.1 ∙ ap (λ (x : Answer). offset_of x.outcome) c.read-answer.ensures.answer_is in
+    c.of_reading-read.ensures.1 ∙ ap (λ (x : Answer). offset_of x.outcome) c.read-answer.ensures.answer_is in
     let a = c.args in
     let refused = c.if-read-ne0.true in
     let illegal = number-illegal a.bytes.now (λ z. refused (number_read ∙ z)) in
@@ -33,10 +33,10 @@ returns-then-read-ne0 c =
 pub translate_legal-t-requires : goal.translate_legal-t-requires
 translate_legal-t-requires c =
     let number_read : c.of_reading-read.result.number ≡ read_number_of (reading_of c.args.bytes.now).outcome =
-        c.of_reading-read.ensures.0 ∙ ap (λ (x : Answer). read_number_of x.outcome) c.read-answer.ensures.answer_is in
+    c.of_reading-read.ensures.0 ∙ ap (λ (x : Answer). read_number_of x.outcome) c.read-answer.ensures.answer_is in
     let q = c.read-answer.result.policy in
     let parts : from_parts c.shape_of.result q.quiet q.target q.colour q.family ≡ (reading_of c.args.bytes.now).policy =
-        parts_are q c.shape_of.ensures refl refl refl ∙ ap (λ (x : Answer). x.policy) c.read-answer.ensures.answer_is in
+    parts_are q c.shape_of.ensures refl refl refl ∙ ap (λ (x : Answer). x.policy) c.read-answer.ensures.answer_is in
     (refl, ap legal parts ∙ number-legal c.args.bytes.now (sym number_read ∙ c.if-read-ne0.false))
 
 pub shape_of-masks : goal.shape_of-masks
@@ -63,12 +63,12 @@ shape_of-priorities c = c.translate_legal-t.auto.priorities
 pub returns : goal.returns
 returns c =
     let number_read : c.of_reading-read.result.number ≡ read_number_of (reading_of c.args.bytes.now).outcome =
-        c.of_reading-read.ensures.0 ∙ ap (λ (x : Answer). read_number_of x.outcome) c.read-answer.ensures.answer_is in
+    c.of_reading-read.ensures.0 ∙ ap (λ (x : Answer). read_number_of x.outcome) c.read-answer.ensures.answer_is in
     let offset_read : c.of_reading-read.result.offset ≡ offset_of (reading_of c.args.bytes.now).outcome =
-        c.of_reading-read.ensures.1 ∙ ap (λ (x : Answer). offset_of x.outcome) c.read-answer.ensures.answer_is in
+    c.of_reading-read.ensures.1 ∙ ap (λ (x : Answer). offset_of x.outcome) c.read-answer.ensures.answer_is in
     let q = c.read-answer.result.policy in
     let parts : from_parts c.shape_of.result q.quiet q.target q.colour q.family ≡ (reading_of c.args.bytes.now).policy =
-        parts_are q c.shape_of.ensures refl refl refl ∙ ap (λ (x : Answer). x.policy) c.read-answer.ensures.answer_is in
+    parts_are q c.shape_of.ensures refl refl refl ∙ ap (λ (x : Answer). x.policy) c.read-answer.ensures.answer_is in
     let t = same-policy parts c.translate_legal-t.ensures in
     let zero = sym number_read ∙ c.if-read-ne0.false in
     let n = c.of_translation-values.ensures.0 ∙ ap number_of t.answer_is in
