@@ -6,7 +6,7 @@ use mathlib.Core.List.{List, [], ◌∷◌}
 use lib.Dec.{ltb}
 use lib.ListN.{length, get_or, take}
 use Rattle.lists.specs.Lists.{any, greatest, lowest}
-use denote.Ref.{Bor}
+use Rattle.std.specs.Borrow.{Bor, MutBor}
 use Rattle.masks.specs.Masks.{has, insert, inside, properly, members, submasks, set_of}
 use Rattle.tables.specs.Tables.{padded, zeros, places}
 use Rattle.policy.specs.declared.Policy.{Policy}
@@ -50,13 +50,17 @@ policy-back = policy-record B (record { targets = refl; colours = refl; sets = r
 unfoldable pub place_of : {X : Type 0} → X → Bor X
 place_of x = record { ref_ptr = (0, 0); now = x }
 
+-- a place that holds x and may be written
+unfoldable pub mut_of : {X : Type 0} → X → MutBor X
+mut_of x = record { ref_ptr = (0, 0); ghost_name = 0; now = x }
+
 unfoldable pub slices : {Rest : Type 0} → Tables → Rest → Slice × (Slice × (Slice × (Slice × (Slice × (Slice × (Slice × Rest))))))
 slices t rest =
-    (place_of t.masks, (place_of t.parents, (place_of t.node_priorities, (place_of t.sources, (place_of t.leaves, (place_of t.targets, (place_of t.priorities, rest)))))))
+    (mut_of t.masks, (mut_of t.parents, (mut_of t.node_priorities, (mut_of t.sources, (mut_of t.leaves, (mut_of t.targets, (mut_of t.priorities, rest)))))))
 
 -- ---- a call of translating for every policy and all tables
 translate-call : Policy → Tables → Call translate
-unfolding place_of slices
+unfolding place_of mut_of slices
 translate-call p t = record {
   at = record {
     lifetimes = ([], ([], ([], ([], ([], ([], ([], tt)))))));
@@ -68,30 +72,30 @@ translate-call p t = record {
 }
 
 wulfrenda-translate-call : List ℕ → Tables → Call wulfrenda_translate
-unfolding place_of slices
+unfolding place_of mut_of slices
 wulfrenda-translate-call packed t =
     let q = translation_of (policy_of packed) t in
     record {
       at = record {
         lifetimes = ([], ([], ([], ([], ([], ([], ([], ([], ([], tt)))))))));
-        given = (place_of packed, slices t (place_of (0 ∷ 0 ∷ 0 ∷ []), tt));
+        given = (place_of packed, slices t (mut_of (0 ∷ 0 ∷ 0 ∷ []), tt));
         answer = translate_number_of q;
-        left = (place_of packed, slices (tables_after (policy_of packed) t) (place_of (counts_of q), tt));
+        left = (place_of packed, slices (tables_after (policy_of packed) t) (mut_of (counts_of q), tt));
       };
       learnt = (refl, (refl, hold-same (tables_after (policy_of packed) t)));
     }
 
 wulfrenda-translate-bytes-call : List ℕ → Tables → Call wulfrenda_translate_bytes
-unfolding place_of slices
+unfolding place_of mut_of slices
 wulfrenda-translate-bytes-call bytes t =
     let a = bytes_reading_of bytes in
     let q = translation_of a.policy t in
     record {
       at = record {
         lifetimes = ([], ([], ([], ([], ([], ([], ([], ([], ([], ([], tt))))))))));
-        given = (place_of bytes, slices t (place_of (0 ∷ 0 ∷ 0 ∷ []), (place_of 0, tt)));
+        given = (place_of bytes, slices t (mut_of (0 ∷ 0 ∷ 0 ∷ []), (mut_of 0, tt)));
         answer = first_of (read_number_of a.outcome) (translate_number_of q);
-        left = (place_of bytes, slices (tables_after a.policy t) (place_of (counts_of q), (place_of (offset_after (read_number_of a.outcome) (translate_number_of q) (offset_of a.outcome)), tt)));
+        left = (place_of bytes, slices (tables_after a.policy t) (mut_of (counts_of q), (mut_of (offset_after (read_number_of a.outcome) (translate_number_of q) (offset_of a.outcome)), tt)));
       };
       learnt = (refl, (refl, (hold-same (tables_after a.policy t), refl)));
     }
@@ -113,15 +117,15 @@ read-call letters targets priorities s a =
     }
 
 unfoldable pub wulfrenda-run-call : ℕ → List ℕ → List ℕ → ℕ → ℕ → Call wulfrenda_run
-unfolding place_of
+unfolding place_of mut_of
 wulfrenda-run-call letters targets priorities s a =
     let x = reading_of letters targets priorities (record { state = s }) a in
     record {
       at = record {
         lifetimes = ([], ([], ([], ([], tt))));
-        given = (letters, (place_of targets, (place_of priorities, (place_of s, (a, (place_of 0, tt))))));
+        given = (letters, (place_of targets, (place_of priorities, (mut_of s, (a, (mut_of 0, tt))))));
         answer = number_of x;
-        left = (letters, (place_of targets, (place_of priorities, (place_of (run_after x).state, (a, (place_of (priority_of x), tt))))));
+        left = (letters, (place_of targets, (place_of priorities, (mut_of (run_after x).state, (a, (mut_of (priority_of x), tt))))));
       };
       learnt = (refl, (refl, refl));
     }
@@ -187,7 +191,7 @@ abbrev room : Tables
 room = filled_with 7 4 3 6
 
 core : PremisesMet translate translate_shows read read_shows
-unfolding place_of slices translate-call
+unfolding place_of mut_of slices translate-call
 core =
     let t = translate-call B room in
     let returned : (translate_shows t.at).number ≡ 0 = ap translate_number_of cases-hold.0 in
@@ -203,7 +207,7 @@ core =
     }
 
 library : PremisesMet wulfrenda_translate wulfrenda_translate_shows wulfrenda_run wulfrenda_run_shows
-unfolding place_of slices wulfrenda-translate-call
+unfolding place_of mut_of slices wulfrenda-translate-call
 library =
     let t = wulfrenda-translate-call (record_of B) room in
     let shown = wulfrenda_translate_shows t.at in
@@ -220,7 +224,7 @@ library =
     }
 
 library-from-bytes : PremisesMet wulfrenda_translate_bytes wulfrenda_translate_bytes_shows wulfrenda_run wulfrenda_run_shows
-unfolding place_of slices wulfrenda-translate-bytes-call first_of
+unfolding place_of mut_of slices wulfrenda-translate-bytes-call first_of
 library-from-bytes =
     let t = wulfrenda-translate-bytes-call bytes_of_b room in
     let shown = wulfrenda_translate_bytes_shows t.at in

@@ -56,6 +56,7 @@ module _ (p : Policy) (ok : legal p ≡ true) where
   -- ---- a priority that is met is at most 9
   met-few : (es : List ℕ) (l k : ℕ) → Memᴰ k (met_run (forest p) p es l) → k ≤ 9
   unfolding met_run
+  met-few [] l k x' = elim x' [ ]
   met-few (e ∷ es) l k (Memᴰ.head q) = subst (λ (x : ℕ). x ≤ 9) (sym q) (priority-after-few p ok e l)
   met-few (e ∷ es) l k (Memᴰ.tail m) = met-few es _ k m
 

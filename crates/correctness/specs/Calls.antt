@@ -2,7 +2,7 @@
 -- calls over these exports, what the places of a call show, and what each of the five contracts says.
 use Rattle.std.specs.Prelude.{ℕ, ◌≡◌, List, [], ◌∷◌}
 use contract.Lifetimes.{Lfts}
-use Rattle.std.specs.Borrow.{Bor}
+use Rattle.std.specs.Borrow.{MutBor}
 use denote.Triple.Clauses.{AtExit}
 use borrow.Fn.Claims.{AllOf}
 use borrow.Fn.Kinds.{ParamKind, ResultKind, Dens, res_t, ended_of, In, Out}
@@ -89,7 +89,7 @@ pub record Translating : Type 0 where
 
 -- seven slices that stand one after the other
 abbrev pub Slice : Type 0
-Slice = Bor (List ℕ)
+Slice = MutBor (List ℕ)
 
 abbrev pub seven : {Rest : Type 0} → Slice × (Slice × (Slice × (Slice × (Slice × (Slice × (Slice × Rest)))))) → Tables
 seven a = tables a.0.now a.1.0.now a.1.1.0.now a.1.1.1.0.now a.1.1.1.1.0.now a.1.1.1.1.1.0.now a.1.1.1.1.1.1.0.now

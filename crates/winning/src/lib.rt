@@ -1,1 +1,2 @@
 // What holds after a call of solving: definitions in specs/, laws in proofs/. No code of its own.
+#![tactic(auto)]
