@@ -23,7 +23,7 @@ use Rattle.hanoi.proofs.Answering.{said-back, answers}
 use Rattle.correctness.specs.Calls.{Call, translate, translate_shows, read, read_shows, wulfrenda_translate, wulfrenda_translate_shows, wulfrenda_run, wulfrenda_run_shows}
 use Rattle.correctness.specs.Known.{B}
 use Rattle.correctness.specs.Instances.{loop}
-use Rattle.correctness.proofs.Instances.{policy-back, place_of, instances as calls_met}
+use Rattle.correctness.proofs.Instances.{policy-back, place_of, mut_of, instances as calls_met}
 use Rattle.hanoi_agreement.specs.TextCalls.{read_text, read_text_shows, wulfrenda_read_hanoi, wulfrenda_read_hanoi_shows}
 use Rattle.hanoi_agreement.specs.Instances.{text, document, PremisesMet, Instances}
 
@@ -48,15 +48,15 @@ unfolding place_of
 read-text-call t = record { at = record { lifetimes = ([], tt); given = (place_of t, tt); answer = hanoi_of t; left = (place_of t, tt) }; learnt = (refl, answers t) }
 
 wulfrenda-read-hanoi-call : List ℕ → List ℕ → Call wulfrenda_read_hanoi
-unfolding place_of
+unfolding place_of mut_of
 wulfrenda-read-hanoi-call t place =
     let a = hanoi_of t in
     record {
       at = record {
         lifetimes = ([], ([], ([], tt)));
-        given = (place_of t, (place_of place, (place_of 0, tt)));
+        given = (place_of t, (mut_of place, (mut_of 0, tt)));
         answer = ask (is_record place) 7 (number_of a.outcome);
-        left = (place_of t, (place_of (cond (is_record place) (record_of a.policy) place), (place_of (cond (is_record place) (shared_of a.outcome) 0), tt)));
+        left = (place_of t, (mut_of (cond (is_record place) (record_of a.policy) place), (mut_of (cond (is_record place) (shared_of a.outcome) 0), tt)));
       };
       learnt = (refl, (refl, (refl, answers t)));
     }
@@ -83,7 +83,7 @@ core =
     }
 
 library : PremisesMet wulfrenda_read_hanoi wulfrenda_read_hanoi_shows wulfrenda_translate wulfrenda_translate_shows wulfrenda_run wulfrenda_run_shows
-unfolding place_of wulfrenda-read-hanoi-call
+unfolding place_of mut_of wulfrenda-read-hanoi-call
 library =
     let m = calls_met.of_the_library in
     record {

@@ -30,7 +30,7 @@ use Rattle.correctness.specs.Calls.{Call, Translating, read, read_shows, wulfren
 use Rattle.correctness.specs.Known.{B}
 use Rattle.correctness.specs.Instances.{bytes_of_b, filled_with}
 use Rattle.correctness.proofs.Translated.{exact-beginning}
-use Rattle.correctness.proofs.Instances.{place_of, slices, policy-back, bytes-give, read-call, wulfrenda-run-call}
+use Rattle.correctness.proofs.Instances.{place_of, mut_of, slices, policy-back, bytes-give, read-call, wulfrenda-run-call}
 use Rattle.supervision.specs.Supervision.{player_of, game_of}
 use Rattle.supervision.proofs.Rows.{row-leads}
 use Rattle.solving.specs.Solving.{winner_of, owners_fit, owners_legal, solving_fits, solving_of, seven_after, winners_after}
@@ -56,16 +56,16 @@ b-solved = refl
 
 -- ---- a call of solving for every policy, all owners and all tables
 solve-call : Policy → List ℕ → Tables → List ℕ → List ℕ → Call solve
-unfolding place_of slices
+unfolding place_of mut_of slices
 solve-call p owners t winners letters =
     let l = letters-exist p owners t winners letters in
     let q = solving_of p owners t winners letters in
     record {
       at = record {
         lifetimes = ([], ([], ([], ([], ([], ([], ([], ([], ([], ([], tt))))))))));
-        given = (p, (place_of owners, slices t (place_of winners, (place_of letters, tt))));
+        given = (p, (place_of owners, slices t (mut_of winners, (mut_of letters, tt))));
         answer = q;
-        left = (p, (place_of owners, slices (seven_after p owners t winners letters) (place_of (winners_after p owners t winners letters), (place_of l.0, tt))));
+        left = (p, (place_of owners, slices (seven_after p owners t winners letters) (mut_of (winners_after p owners t winners letters), (mut_of l.0, tt))));
       };
       learnt = record {
         answer_is = refl;
@@ -78,7 +78,7 @@ solve-call p owners t winners letters =
     }
 
 wulfrenda-solve-call : List ℕ → List ℕ → Tables → List ℕ → List ℕ → Call wulfrenda_solve
-unfolding place_of slices
+unfolding place_of mut_of slices
 wulfrenda-solve-call packed owners t winners letters =
     let p = policy_of packed in
     let l = letters-exist p owners t winners letters in
@@ -86,15 +86,15 @@ wulfrenda-solve-call packed owners t winners letters =
     record {
       at = record {
         lifetimes = ([], ([], ([], ([], ([], ([], ([], ([], ([], ([], ([], ([], tt))))))))))));
-        given = (place_of packed, (place_of owners, slices t (place_of winners, (place_of letters, (place_of (0 ∷ 0 ∷ 0 ∷ []), tt)))));
+        given = (place_of packed, (place_of owners, slices t (mut_of winners, (mut_of letters, (mut_of (0 ∷ 0 ∷ 0 ∷ []), tt)))));
         answer = translate_number_of q;
-        left = (place_of packed, (place_of owners, slices (seven_after p owners t winners letters) (place_of (winners_after p owners t winners letters), (place_of l.0, (place_of (counts_of q), tt)))));
+        left = (place_of packed, (place_of owners, slices (seven_after p owners t winners letters) (mut_of (winners_after p owners t winners letters), (mut_of l.0, (mut_of (counts_of q), tt)))));
       };
       learnt = (refl, (refl, (hold-same (seven_after p owners t winners letters), (refl, l.1))));
     }
 
 wulfrenda-solve-bytes-call : List ℕ → List ℕ → Tables → List ℕ → List ℕ → Call wulfrenda_solve_bytes
-unfolding place_of slices
+unfolding place_of mut_of slices
 wulfrenda-solve-bytes-call bytes owners t winners letters =
     let a = bytes_reading_of bytes in
     let p = a.policy in
@@ -103,9 +103,9 @@ wulfrenda-solve-bytes-call bytes owners t winners letters =
     record {
       at = record {
         lifetimes = ([], ([], ([], ([], ([], ([], ([], ([], ([], ([], ([], ([], ([], tt)))))))))))));
-        given = (place_of bytes, (place_of owners, slices t (place_of winners, (place_of letters, (place_of (0 ∷ 0 ∷ 0 ∷ []), (place_of 0, tt))))));
+        given = (place_of bytes, (place_of owners, slices t (mut_of winners, (mut_of letters, (mut_of (0 ∷ 0 ∷ 0 ∷ []), (mut_of 0, tt))))));
         answer = first_of (read_number_of a.outcome) (translate_number_of q);
-        left = (place_of bytes, (place_of owners, slices (seven_after p owners t winners letters) (place_of (winners_after p owners t winners letters), (place_of l.0, (place_of (counts_of q), (place_of (offset_after (read_number_of a.outcome) (translate_number_of q) (offset_of a.outcome)), tt))))));
+        left = (place_of bytes, (place_of owners, slices (seven_after p owners t winners letters) (mut_of (winners_after p owners t winners letters), (mut_of l.0, (mut_of (counts_of q), (mut_of (offset_after (read_number_of a.outcome) (translate_number_of q) (offset_of a.outcome)), tt))))));
       };
       learnt = (refl, (refl, (hold-same (seven_after p owners t winners letters), (refl, (l.1, refl)))));
     }
@@ -187,7 +187,7 @@ module _ (s : Solving) (done : Done s) (n : ℕ) (h : n < states s) where
   reads i = read-call p.letters targets priorities (state i) (pick (state i))
 
   reads-play : Play s (λ i. read_shows (reads i).at)
-  unfolding place_of read-call reads state
+  unfolding place_of mut_of read-call reads state
   reads-play = record {
     size = size;
     beginning = exact-beginning t (done-success s done);
@@ -201,14 +201,14 @@ module _ (s : Solving) (done : Done s) (n : ℕ) (h : n < states s) where
   }
 
   reads-begin : (read_shows (reads 0).at).state ≡ n
-  unfolding place_of read-call reads state
+  unfolding place_of mut_of read-call reads state
   reads-begin = refl
 
   runs : ℕ → Call wulfrenda_run
   runs i = wulfrenda-run-call p.letters targets priorities (state i) (pick (state i))
 
   runs-play : Play s (λ i. wulfrenda_run_shows (runs i).at)
-  unfolding place_of read-call wulfrenda-run-call reads runs state
+  unfolding place_of mut_of read-call wulfrenda-run-call reads runs state
   runs-play = record {
     size = size;
     beginning = exact-beginning t (done-success s done);
@@ -222,12 +222,12 @@ module _ (s : Solving) (done : Done s) (n : ℕ) (h : n < states s) where
   }
 
   runs-begin : (wulfrenda_run_shows (runs 0).at).state ≡ n
-  unfolding place_of wulfrenda-run-call runs state
+  unfolding place_of mut_of wulfrenda-run-call runs state
   runs-begin = refl
 
 -- ---- B
 core : PremisesMet solve solve_shows read read_shows
-unfolding place_of slices solve-call
+unfolding place_of mut_of slices solve-call
 core =
     let c = solve-call B owners_of_b room wide wide in
     let returned : (solve_shows c.at).translating.number ≡ 0 = ap translate_number_of b-solved in
@@ -244,7 +244,7 @@ core =
     }
 
 library : PremisesMet wulfrenda_solve wulfrenda_solve_shows wulfrenda_run wulfrenda_run_shows
-unfolding place_of slices wulfrenda-solve-call
+unfolding place_of mut_of slices wulfrenda-solve-call
 library =
     let c = wulfrenda-solve-call (record_of B) owners_of_b room wide wide in
     let s = wulfrenda_solve_shows c.at in
@@ -261,7 +261,7 @@ library =
     }
 
 library-from-bytes : PremisesMet wulfrenda_solve_bytes wulfrenda_solve_bytes_shows wulfrenda_run wulfrenda_run_shows
-unfolding place_of slices wulfrenda-solve-bytes-call first_of
+unfolding place_of mut_of slices wulfrenda-solve-bytes-call first_of
 library-from-bytes =
     let c = wulfrenda-solve-bytes-call bytes_of_b owners_of_b room wide wide in
     let s = wulfrenda_solve_bytes_shows c.at in
