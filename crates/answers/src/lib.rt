@@ -6,8 +6,9 @@ ghost use Rattle.reading.specs.Reading.{offset_of, number_of as read_number_of};
 ghost use Rattle.hanoi.specs.Answers.{shared_of, number_of as text_number_of};
 ghost use Rattle.builder.specs.Tables.{counts_of, number_of as translate_number_of};
 
-use builder::Translation;
+use builder::Counts;
 use reading::Outcome;
+use refusals::Refusal;
 
 // ---- reading
 #[derive(Clone, Copy)]
@@ -48,27 +49,20 @@ pub fn of_text(o: hanoi::Outcome) -> TextValues
 }
 
 // ---- translating
-// The counts: how many nodes and built states there are, and the start.
-#[derive(Clone, Copy)]
-pub struct TranslationValues {
-    pub number: u8,
-    pub counts: [u16; 3],
-}
-
-pub fn of_translation(t: Translation) -> TranslationValues
-    ensures { (result.number ≡ translate_number_of t) × (result.counts ≡ counts_of t) }
+// The number, and the counts into a place that the caller lends: how many nodes and built states there are, and the start.
+pub fn of_translation(answer: Result<Counts, Refusal>, counts: &mut [u16; 3]) -> u8
+    ensures number { result ≡ translate_number_of answer }
+    ensures counts { counts.new ≡ counts_of answer }
 {
-    match t {
-        Translation::Translated(nodes, states, start) => {
-            TranslationValues {
-                number: 0,
-                counts: [nodes, states, start],
-            }
+    match answer {
+        Ok(found) => {
+            *counts = [found.nodes, found.states, found.start];
+            0
         }
-        Translation::Refused(number) => TranslationValues {
-            number,
-            counts: [0, 0, 0],
-        },
+        Err(refusal) => {
+            *counts = [0, 0, 0];
+            refusal.number()
+        }
     }
 }
 

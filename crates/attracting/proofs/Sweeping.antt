@@ -16,9 +16,9 @@ use Rattle.games.proofs.Sets.{put, put-at, put-else}
 use Rattle.games.proofs.Regions.{Row}
 use Rattle.games.proofs.Attract.{Complete, Addable, by_choice, by_force, letter_of, added, attracted-same}
 use Rattle.orders.specs.Orders.{Among, Lists, Rearranged, Kept}
-use Rattle.orders.proofs.Orders.{same-order, order-of-order, wider-order, inside-moved, in-front, Parted, parted-none, parted-more, front-more, others-more}
+use Rattle.orders.proofs.Orders.{same-order, order-of-order, wider-order, inside-moved, in-front, Parted, parted-more, front-more, others-more}
 use Rattle.attracting.specs.declared.Task.{Task}
-use Rattle.attracting.specs.Attracting.{is_in, Apart, waiting, owns, Rows, table_game, opens_at, nears_at, StuckAt, AddableAt, chosen, forced, Visited, arena_of, from_of, hit_of, set_of, Attracting, Swept, Attracts, Waits}
+use Rattle.attracting.specs.Attracting.{is_in, Apart, waiting, owns, Rows, table_game, opens_at, nears_at, StuckAt, AddableAt, chosen, forced, Visited, arena_of, from_of, hit_of, set_of, Attracting, Swept, Attracts}
 use Rattle.attracting.proofs.Outcome.{to-waits}
 
 pub owns-true : (plant : Bool) (o : ℕ) → owns plant o ≡ true → eqb o 1 ≡ plant
@@ -304,16 +304,6 @@ module _ (owners sources targets priorities : List ℕ) (letters states : ℕ) (
   still-waits m c m' c' x s e = waits-from m c m' c' x s (lt-true s states (and_l (ltb s states) (waiting k (get_or m' s 0)) e)) (and_r (ltb s states) (waiting k (get_or m' s 0)) e)
 
   -- ---- a sweep
-  pub sweeping-none : (n : ℕ) (o m c : List ℕ) → Sweeping owners sources targets priorities letters states k n o m c 0 0 o m c
-  sweeping-none n o m c = record {
-    parted = parted-none n o;
-    marks_long = refl;
-    choices_long = refl;
-    keeps = λ m₀ c₀ x. x;
-    gone = λ h a b. absurd (omega arith);
-    same = λ _. (refl, refl, λ h l. absurd (omega arith));
-  }
-
   module _ (n : ℕ) (o m c : List ℕ) (w i : ℕ) (o' m' c' : List ℕ) (s : ℕ) (left : Bool) (m'' c'' : List ℕ) (r : ℕ) (o'' : List ℕ) (x : Sweeping owners sources targets priorities letters states k n o m c w i o' m' c') (lt : i < n)
       (at : s ≡ get_or o' i 0) (h : s < states) (marks-few : states ≤ length m) (choices-few : states ≤ length c) (b : Visited owners sources targets priorities letters states k s m' c' left m'' c'')
       (q : Kept (not left) w i o' r o'') where
@@ -405,17 +395,6 @@ module _ (owners sources targets priorities : List ℕ) (letters states : ℕ) (
       same = same;
     }
 
-  pub swept : (n : ℕ) (o m c : List ℕ) (w i : ℕ) (o' m' c' : List ℕ) → n ≤ i → Sweeping owners sources targets priorities letters states k n o m c w i o' m' c' → Swept owners sources targets priorities letters states k n o m c w o' m' c'
-  swept n o m c w i o' m' c' le x = record {
-    few = omega (arith, x.parted.before, x.parted.few);
-    moved = x.parted.moved;
-    marks_long = x.marks_long;
-    choices_long = x.choices_long;
-    keeps = x.keeps;
-    gone = λ h a b. x.gone h a (omega arith);
-    same = λ e. let y = x.same (omega (arith, x.parted.few)) in (y.0, y.1, λ h l. y.2 h (omega arith));
-  }
-
   -- ---- sweeps until one changes nothing
   module _ (m₀ c₀ : List ℕ) (n₀ : ℕ) (o₀ : List ℕ) where
     pub attraction-none : Lists (from_of owners sources targets priorities letters states k m₀) n₀ o₀ → Attraction owners sources targets priorities letters states k m₀ c₀ n₀ o₀ n₀ o₀ m₀ c₀ true
@@ -459,22 +438,6 @@ module _ (owners sources targets priorities : List ℕ) (letters states : ℕ) (
         all = some-front;
         done = λ e. finished (omega (arith, y.few, lt-false r n e));
       }
-
-    pub attracts-waits : (n : ℕ) (o m c : List ℕ) (b : Bool) → b ≡ false → Attraction owners sources targets priorities letters states k m₀ c₀ n₀ o₀ n o m c b
-        → Attracts owners sources targets priorities letters states k m₀ c₀ m c × Waits owners sources targets priorities letters states k n₀ o₀ n o m
-    attracts-waits n o m c b e x =
-        let d = x.done e in (
-          d.0,
-          record {
-            few = x.few;
-            moved = x.moved;
-            listed = record {
-              long = omega (arith, x.few, x.long, x.moved.long);
-              each = λ i h. both (ltb (get_or o i 0) states) (waiting k (get_or m (get_or o i 0) 0)) (lt-ltb (get_or o i 0) states (x.inside i h)) (d.1 i h);
-              all = x.all;
-            };
-          },
-        )
 
 -- how many sweeps there may still be
 unfoldable pub sweeps_left : ℕ → Bool → ℕ

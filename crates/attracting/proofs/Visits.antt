@@ -1,9 +1,8 @@
 -- One state, by the first letter whose row passes. Assumes nothing.
 use Prim.Native.Nat.{ℕ, ◌+◌, ◌*◌, ◌≤◌, ◌<◌}
 use native.Mathlib.Omega.{arith}
-use native.Mathlib.Nat.{suc-mul, mul-le-mul_right}
 use mathlib.Core.Path.{◌≡◌, refl, sym, ◌∙◌, subst}
-use mathlib.Core.Logic.{inl, inr}
+use mathlib.Core.Logic.{inr}
 use mathlib.Core.Bool.{Bool, true, false, not, ◌&&◌, ◌||◌, true≢false, false≢true}
 use mathlib.Core.List.{List}
 use lib.ListN.{get_or, set}
@@ -49,18 +48,6 @@ module _ (k : Task) (q m : ℕ) where
   fail-other e t = other-false (opens k q m) (nearer k q m) e t
 
 -- ---- places
-pub row-end : (s letters states : ℕ) → s < states → s * letters + letters ≤ states * letters
-row-end s letters states h = omega (arith, suc-mul s letters, mul-le-mul_right letters h)
-
-pub row_small : (s letters states : ℕ) → s < states → letters ≤ 8 → states ≤ 65535 → s * letters ≤ 524280
-row_small s letters states h l f = omega (arith, mul-le-mul_right letters (below h f), eights letters l)
-  where
-    below : s < states → states ≤ 65535 → s ≤ 65535
-    below h f = omega arith
-
-    eights : (n : ℕ) → n ≤ 8 → 65535 * n ≤ 524280
-    eights n l = omega arith
-
 -- ---- one state
 module _ (owners sources targets priorities : List ℕ) (letters states : ℕ) (k : Task) (s : ℕ) (m c : List ℕ) (a : ℕ) (own : Bool)
     (own_is : own ≡ owns k.plant (get_or owners (get_or sources s 0) 0)) (first : First k own targets priorities m (s * letters) letters a) where
@@ -112,7 +99,3 @@ module _ (owners sources targets priorities : List ℕ) (letters states : ℕ) (
     stays = λ f. absurd (true≢false f);
     goes = λ _. inr (w, refl, forced (owned ∙ e) (λ x h o. fail-other k (get_or priorities (s * letters + x) 0) (get_or m (get_or targets (s * letters + x) 0) 0) (none-at false e l x h) o) refl);
   }
-
-pub visit-past : (owners sources targets priorities : List ℕ) (letters states : ℕ) (k : Task) (s : ℕ) (m c : List ℕ) → waiting k (get_or m s 0) ≡ false
-    → Visited owners sources targets priorities letters states k s m c true m c
-visit-past owners sources targets priorities letters states k s m c w = record { stays = λ f. absurd (true≢false f); goes = λ _. inl (w, refl, refl) }

@@ -2,49 +2,22 @@
 use Prim.Native.Nat.{ℕ, ◌≤◌, min}
 use native.Mathlib.Omega.{arith}
 use mathlib.Core.Path.{◌≡◌, refl, sym, ap, ◌∙◌, subst}
-use mathlib.Core.Logic.{◌⊎◌, inl, inr}
-use mathlib.Core.Bool.{Bool, true, false, true≢false}
+use mathlib.Core.Bool.{Bool, true, false, cond}
 use mathlib.Core.List.{List}
 use lib.ListN.{length}
-use Rattle.lists.proofs.Bools.{test, le-true}
+use Rattle.lists.proofs.Bools.{le-true}
 use Rattle.tables.specs.Tables.{padded, zeros, Column, places}
 use Rattle.tables.proofs.Columns.{column-padded}
 use Rattle.policy.specs.declared.Policy.{Policy}
-use Rattle.decomposition.specs.declared.Filled as node-filled
-use Rattle.decomposition.specs.declared.Filled.TheVariants as node-variants
+use Rattle.std.proofs.Common.{Option, Some, None}
+use Rattle.decomposition.specs.declared.Filled.{Filled}
 use Rattle.forest.specs.Forest.{forest, transient_priority, node_masks, node_parents, node_priorities_of, forest_fits}
 use Rattle.decomposition.specs.NodeTables.{NodeTables, node_tables, filling_of, filled_of}
 use Rattle.automaton.specs.Automaton.{built, start, built_fit}
 use Rattle.automaton.specs.Stages.{Nodes}
 use Rattle.forest.proofs.Columns.{length-masks, length-parents, length-node-priorities}
 use Rattle.filling.specs.declared.Building.{Building}
-use Rattle.filling.specs.declared.Building.TheVariants.{Whole, TooMany}
 use Rattle.filling.specs.Filling.{building_of}
-
--- what an answer holds
-abbrev is_whole : Building → Bool
-is_whole (Whole n a) = true
-is_whole TooMany = false
-
-abbrev count_in : Building → ℕ
-count_in (Whole n a) = n
-count_in TooMany = 0
-
-abbrev start_in : Building → ℕ
-start_in (Whole n a) = a
-start_in TooMany = 0
-
-abbrev are_nodes : node-filled.Filled → Bool
-are_nodes (node-variants.Nodes n k) = true
-are_nodes node-variants.TooMany = false
-
-abbrev nodes_of : node-filled.Filled → ℕ
-nodes_of (node-variants.Nodes n k) = n
-nodes_of node-variants.TooMany = 0
-
-abbrev lowest_in : node-filled.Filled → ℕ
-lowest_in (node-variants.Nodes n k) = k
-lowest_in node-variants.TooMany = 0
 
 pub fits-few : (p : Policy) (s₀ : List ℕ) → built_fit p s₀ ≡ true → length (built p) ≤ 65535
 unfolding built_fit places
@@ -55,39 +28,32 @@ unfolding forest_fits places
 nodes-few p m₀ f = let h : length (forest p) ≤ min (length m₀) 65535 = le-true (length (forest p)) (min (length m₀) 65535) f in omega arith
 
 -- ---- what each stage answered
-module _ (p : Policy) (s₀ : List ℕ) {r : Building} (e : r ≡ building_of p s₀) where
-  pub whole-fits : {n a : ℕ} → r ≡ Whole n a → (built_fit p s₀ ≡ true) × (n ≡ length (built p)) × (a ≡ start p)
+-- an answer by cases, where it is there and where it is not
+some-by : {A : Type 0} {r : Option A} {x y : A} (b : Bool) → r ≡ cond b (Some y) None → r ≡ Some x → (b ≡ true) × (x ≡ y)
+some-by true e d = let q : Some _ ≡ Some _ = sym d ∙ e in (refl, cc)
+some-by false e d = let q : Some _ ≡ None = sym d ∙ e in absurd cc
+
+none-by : {A : Type 0} {r : Option A} (y : A) (b : Bool) → r ≡ cond b (Some y) None → r ≡ None → b ≡ false
+none-by y true e d = let q : Some _ ≡ None = sym e ∙ d in absurd cc
+none-by y false e d = refl
+
+module _ (p : Policy) (s₀ : List ℕ) {r : Option Building} (e : r ≡ building_of p s₀) where
+  pub whole-fits : {b : Building} → r ≡ Some b → (built_fit p s₀ ≡ true) × (b.states ≡ length (built p)) × (b.start ≡ start p)
   unfolding building_of
-  whole-fits {n} {a} d = go (test (built_fit p s₀))
-    where
-      go : (built_fit p s₀ ≡ true) ⊎ (built_fit p s₀ ≡ false) → (built_fit p s₀ ≡ true) × (n ≡ length (built p)) × (a ≡ start p)
-      go (inl t) = let q : Whole n a ≡ Whole (length (built p)) (start p) = sym d ∙ e ∙ rw t refl in (t, ap count_in q, ap start_in q)
-      go (inr f) = let q : Whole n a ≡ TooMany = sym d ∙ e ∙ rw f refl in absurd (true≢false (ap is_whole q))
+  whole-fits d = let s = some-by (built_fit p s₀) e d in (s.0, ap (λ (b : Building). b.states) s.1, ap (λ (b : Building). b.start) s.1)
 
-  pub none-fits : r ≡ TooMany → built_fit p s₀ ≡ false
+  pub none-fits : r ≡ None → built_fit p s₀ ≡ false
   unfolding building_of
-  none-fits d = go (test (built_fit p s₀))
-    where
-      go : (built_fit p s₀ ≡ true) ⊎ (built_fit p s₀ ≡ false) → built_fit p s₀ ≡ false
-      go (inl t) = let q : Whole (length (built p)) (start p) ≡ TooMany = sym (sym d ∙ e ∙ rw t refl) in absurd (true≢false (ap is_whole q))
-      go (inr f) = f
+  none-fits d = none-by _ (built_fit p s₀) e d
 
-module _ (p : Policy) (m₀ q₀ r₀ : List ℕ) {r : node-filled.Filled} (e : r ≡ filling_of p (node_tables m₀ q₀ r₀)) where
-  pub nodes-fits : {n k : ℕ} → r ≡ node-variants.Nodes n k → (forest_fits p m₀ ≡ true) × (n ≡ length (forest p)) × (k ≡ transient_priority p)
+module _ (p : Policy) (m₀ q₀ r₀ : List ℕ) {r : Option Filled} (e : r ≡ filling_of p (node_tables m₀ q₀ r₀)) where
+  pub nodes-fits : {f : Filled} → r ≡ Some f → (forest_fits p m₀ ≡ true) × (f.count ≡ length (forest p)) × (f.transient ≡ transient_priority p)
   unfolding filling_of
-  nodes-fits {n} {k} d = go (test (forest_fits p m₀))
-    where
-      go : (forest_fits p m₀ ≡ true) ⊎ (forest_fits p m₀ ≡ false) → (forest_fits p m₀ ≡ true) × (n ≡ length (forest p)) × (k ≡ transient_priority p)
-      go (inl t) = let q : node-variants.Nodes n k ≡ node-variants.Nodes (length (forest p)) (transient_priority p) = sym d ∙ e ∙ rw t refl in (t, ap nodes_of q, ap lowest_in q)
-      go (inr f) = let q : node-variants.Nodes n k ≡ node-variants.TooMany = sym d ∙ e ∙ rw f refl in absurd (true≢false (ap are_nodes q))
+  nodes-fits d = let s = some-by (forest_fits p m₀) e d in (s.0, ap (λ (f : Filled). f.count) s.1, ap (λ (f : Filled). f.transient) s.1)
 
-  pub nodes-none : r ≡ node-variants.TooMany → forest_fits p m₀ ≡ false
+  pub nodes-none : r ≡ None → forest_fits p m₀ ≡ false
   unfolding filling_of
-  nodes-none d = go (test (forest_fits p m₀))
-    where
-      go : (forest_fits p m₀ ≡ true) ⊎ (forest_fits p m₀ ≡ false) → forest_fits p m₀ ≡ false
-      go (inl t) = let q : node-variants.Nodes (length (forest p)) (transient_priority p) ≡ node-variants.TooMany = sym (sym d ∙ e ∙ rw t refl) in absurd (true≢false (ap are_nodes q))
-      go (inr f) = f
+  nodes-none d = none-by _ (forest_fits p m₀) e d
 
 -- ---- the node tables
 module _ (p : Policy) (m₀ q₀ r₀ m q r : List ℕ) (e : node_tables m q r ≡ filled_of p (node_tables m₀ q₀ r₀)) where

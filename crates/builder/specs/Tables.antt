@@ -1,14 +1,15 @@
 -- What translating answers, and what each place of the seven tables holds at exit, in every case (document 01, "The built automaton" and the questions of
 -- translating).
-use Rattle.std.specs.Prelude.{ℕ, ◌*◌, ◌≡◌, Bool, ◌&&◌, cond, List, [], ◌∷◌, eqb, length}
+use Rattle.std.specs.Prelude.{ℕ, ◌*◌, ◌≡◌, Bool, ◌&&◌, cond, List, [], ◌∷◌, eqb, length, Result, Ok, Err}
 use Rattle.lists.specs.Questions.{ask}
 use Rattle.tables.specs.Tables.{padded, zeros}
 use Rattle.policy.specs.declared.Policy.{Policy}
 use Rattle.policy.specs.Policies.{legal}
 use Rattle.forest.specs.Forest.{forest, node_masks, node_parents, node_priorities_of, forest_fits}
 use Rattle.automaton.specs.Automaton.{state_sources, state_leaves, built, start, row_targets, row_priorities, built_fit}
-use Rattle.builder.specs.declared.Translation.{Translation}
-use Rattle.builder.specs.declared.Translation.TheVariants.{Translated, Refused}
+use Rattle.refusals.specs.declared.Refusal.{Refusal}
+use Rattle.refusals.specs.Refusals.{number, refusal}
+use Rattle.builder.specs.declared.Counts.{Counts}
 
 -- the seven tables: mask, parent and priority of each node; policy state and leaf of each built state; target and priority of each row
 pub record Tables : Type 0 where
@@ -20,16 +21,23 @@ pub record Tables : Type 0 where
   pub targets : List ℕ
   pub priorities : List ℕ
 
+-- ---- the two answers: how many nodes, how many built states, and the start; or the refusal with a number
+abbrev pub translated : ℕ → ℕ → ℕ → Result Counts Refusal
+translated nodes states start = Ok (record { nodes = nodes; states = states; start = start })
+
+abbrev pub refused : ℕ → Result Counts Refusal
+refused n = Err (refusal n)
+
 -- ---- document 01's number and values for each answer
 -- the number of the refusal; 0 where the policy was translated
-abbrev pub number_of : Translation → ℕ
-number_of (Translated nodes states start) = 0
-number_of (Refused number) = number
+abbrev pub number_of : Result Counts Refusal → ℕ
+number_of (Ok counts) = 0
+number_of (Err e) = number e
 
 -- how many nodes, how many built states, and the start; 0 each after a refusal
-abbrev pub counts_of : Translation → List ℕ
-counts_of (Translated nodes states start) = nodes ∷ states ∷ start ∷ []
-counts_of (Refused number) = 0 ∷ 0 ∷ 0 ∷ []
+abbrev pub counts_of : Result Counts Refusal → List ℕ
+counts_of (Ok counts) = counts.nodes ∷ counts.states ∷ counts.start ∷ []
+counts_of (Err e) = 0 ∷ 0 ∷ 0 ∷ []
 
 -- ---- the tables
 -- lengths that belong together: the node tables of one length, the state tables of one length, each row table letters times the latter
@@ -76,11 +84,11 @@ module _ (p : Policy) where
     }
 
     -- ---- translating: 7, 8, 9, 10 in order; then both counts and the start
-    unfoldable pub translation_of : Translation
+    unfoldable pub translation_of : Result Counts Refusal
     translation_of =
-        let done = Translated (length (forest p)) (length (built p)) (start p) in
-        let sized = cond nodes_fit (cond states_fit done (Refused 10)) (Refused 9) in
-        cond (legal p) (cond lengths_fit sized (Refused 8)) (Refused 7)
+        let done = translated (length (forest p)) (length (built p)) (start p) in
+        let sized = cond nodes_fit (cond states_fit done (refused 10)) (refused 9) in
+        cond (legal p) (cond lengths_fit sized (refused 8)) (refused 7)
 
     -- the number of the first question that is answered no; 0 where there is none
     unfoldable pub refusal_of : ℕ
@@ -116,7 +124,7 @@ tables masks parents node_priorities sources leaves targets priorities = record 
 }
 
 -- ---- what translating promises: the tables at entry, the answer, the tables at exit
-pub record Translates (p : Policy) (entry : Tables) (answer : Translation) (exit : Tables) : Type 0 where
+pub record Translates (p : Policy) (entry : Tables) (answer : Result Counts Refusal) (exit : Tables) : Type 0 where
   pub answer_is : answer ≡ translation_of p entry
   pub number_is : number_of answer ≡ refusal_of p entry
   pub counts_are : counts_of answer ≡ counts_after p entry

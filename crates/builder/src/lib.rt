@@ -2,20 +2,19 @@
 #![tactic(auto)]
 
 ghost use Rattle.std.specs.Prelude.{◌≡◌, true, ◌*◌, ◌≤◌, eqb};
-ghost use Rattle.policy.specs.declared.Policy.{Policy};
-ghost use Rattle.policy.specs.Making.{from_parts};
 ghost use Rattle.policy.specs.Policies.{legal};
 ghost use Rattle.builder.specs.Tables.{sizes_fit, tables, Translates};
 
-use decomposition::Filled;
-use filling::Building;
-use policy::{Policy, Shape};
+use automaton::Forest;
+use policy::Policy;
+use refusals::Refusal;
 
-// How many nodes and built states there are, and the state begun in; or document 01's number.
-#[derive(Clone, Copy)]
-pub enum Translation {
-    Translated(u16, u16, u16),
-    Refused(u8),
+// How many nodes and built states there are, and the state begun in.
+#[derive(Clone, Copy, Debug, PartialEq, Eq)]
+pub struct Counts {
+    pub nodes: u16,
+    pub states: u16,
+    pub start: u16,
 }
 
 // Whether n is k times m. Where the product may be too large, by division.
@@ -53,7 +52,7 @@ fn has_fitting_lengths(
 // A policy's forest and its automaton, in the seven tables: mask, parent and priority of each node; policy state and leaf of each built state; target and
 // priority of each row.
 pub fn translate(
-    p: Policy,
+    p: &Policy,
     masks: &mut [u64],
     parents: &mut [u16],
     node_priorities: &mut [u8],
@@ -61,18 +60,14 @@ pub fn translate(
     leaves: &mut [u16],
     targets: &mut [u16],
     priorities: &mut [u8],
-) -> Translation
-    ensures { Translates p (tables masks.old parents.old node_priorities.old sources.old leaves.old targets.old priorities.old) result (tables masks.new parents.new node_priorities.new sources.new leaves.new targets.new priorities.new) }
+) -> Result<Counts, Refusal>
+    ensures { Translates p.now (tables masks.old parents.old node_priorities.old sources.old leaves.old targets.old priorities.old) result (tables masks.new parents.new node_priorities.new sources.new leaves.new targets.new priorities.new) }
 {
     if !policy::is_legal(p) {
-        return Translation::Refused(7);
+        return Err(Refusal::IllegalPolicy);
     }
     translate_legal(
-        policy::shape_of(p),
-        p.quiet,
-        &p.target,
-        &p.colour,
-        &p.family,
+        p,
         masks,
         parents,
         node_priorities,
@@ -84,15 +79,8 @@ pub fn translate(
 }
 
 // The same for a legal policy, without asking question 7. Inner layer: for callers that know the policy to be legal.
-// Two functions call it, so it is not compiled into them, and a policy would be copied: its shape, its quiet edges and
-// its arrays stand for it, and the contract speaks of the policy that they make. With the seven tables these are twelve
-// parameters.
-pub fn translate_legal<'a>(
-    shape: Shape,
-    quiet: u64,
-    heads: &'a [u8; 64],
-    colours: &'a [u8; 64],
-    family: &'a [bool; 256],
+pub fn translate_legal(
+    p: &Policy,
     masks: &mut [u64],
     parents: &mut [u16],
     node_priorities: &mut [u8],
@@ -100,13 +88,10 @@ pub fn translate_legal<'a>(
     leaves: &mut [u16],
     targets: &mut [u16],
     priorities: &mut [u8],
-) -> Translation
-    ghost p: { Policy }
-    requires policy { from_parts shape quiet heads.now colours.now family.now ≡ p }
-    requires lawful { legal p ≡ true }
-    ensures { Translates p (tables masks.old parents.old node_priorities.old sources.old leaves.old targets.old priorities.old) result (tables masks.new parents.new node_priorities.new sources.new leaves.new targets.new priorities.new) }
+) -> Result<Counts, Refusal>
+    requires { legal p.now ≡ true }
+    ensures { Translates p.now (tables masks.old parents.old node_priorities.old sources.old leaves.old targets.old priorities.old) result (tables masks.new parents.new node_priorities.new sources.new leaves.new targets.new priorities.new) }
 {
-    let p = policy::from_parts(shape, quiet, heads, colours, family);
     if !has_fitting_lengths(
         p.letters,
         masks.len(),
@@ -117,39 +102,29 @@ pub fn translate_legal<'a>(
         targets.len(),
         priorities.len(),
     ) {
-        return Translation::Refused(8);
+        return Err(Refusal::Lengths);
     }
-    let Filled::Nodes(nodes, transient) = decomposition::fill_nodes(
-        p,
-        heads,
-        colours,
-        family,
-        masks,
-        parents,
-        node_priorities,
-    ) else {
+    let Some(filled) = decomposition::fill_nodes(p, masks, parents, node_priorities) else {
         filling::clear_built(sources, leaves, targets, priorities);
-        return Translation::Refused(9);
+        return Err(Refusal::TooManyNodes);
     };
-    let Building::Whole(states, start) = filling::build(
-        p,
-        heads,
-        colours,
-        family,
-        masks,
-        parents,
-        node_priorities,
-        transient,
-        nodes,
-        sources,
-        leaves,
-        targets,
-        priorities,
-    ) else {
-        tables::clear64(masks);
-        tables::clear16(parents);
-        tables::clear8(node_priorities);
-        return Translation::Refused(10);
+    let nodes = Forest {
+        policy: p,
+        masks: &*masks,
+        parents: &*parents,
+        priorities: &*node_priorities,
+        transient: filled.transient,
     };
-    Translation::Translated(nodes as u16, states as u16, start)
+    let Some(built) = filling::build(&nodes, filled.count, sources, leaves, targets, priorities)
+    else {
+        tables::clear(masks);
+        tables::clear(parents);
+        tables::clear(node_priorities);
+        return Err(Refusal::TooManyStates);
+    };
+    Ok(Counts {
+        nodes: filled.count as u16,
+        states: built.states as u16,
+        start: built.start,
+    })
 }

@@ -5,18 +5,11 @@ ghost use Rattle.std.specs.Prelude.{◌≡◌, ◌⊎◌, ◌≢◌, true, false
 ghost use Rattle.masks.specs.Masks.{has, minus, inside};
 ghost use Rattle.collections.specs.Collections.{has_set, WordEnd, End, Fewer, Smaller, Raised, Over, AroundSets};
 
-// A colour set as a number.
-fn wide(s: u8) -> usize
-    ensures { (result ≡ s) × (result < 256) }
-{
-    s as usize
-}
-
 // Whether t has s.
 fn has(t: &[u64; 4], s: u8) -> bool
     ensures { result ≡ has_set t.now s }
 {
-    let e = wide(s);
+    let e = s as usize;
     masks::has(t[e / 64], e % 64)
 }
 
@@ -25,7 +18,7 @@ pub fn add_if(t: &mut [u64; 4], s: u8, b: bool)
     requires { length t.old ≡ 4 }
     ensures { (length t.new ≡ 4) × ((d : ℕ) → d < 256 → has_set t.new d ≡ (has_set t.old d || (b && eqb d s))) }
 {
-    let e = wide(s);
+    let e = s as usize;
     let k = e / 64;
     t[k] = masks::with_if(t[k], e % 64, b);
 }
@@ -35,7 +28,7 @@ pub fn remove(t: &mut [u64; 4], s: u8)
     requires { length t.old ≡ 4 }
     ensures { (length t.new ≡ 4) × ((d : ℕ) → d < 256 → has_set t.new d ≡ (has_set t.old d && not (eqb d s))) }
 {
-    let e = wide(s);
+    let e = s as usize;
     let k = e / 64;
     t[k] = masks::without(t[k], masks::with(0, e % 64));
 }
@@ -52,13 +45,11 @@ fn word_end(w: u64) -> usize
 pub fn end(t: &[u64; 4]) -> usize
     ensures { End t.now result }
 {
-    let mut k: usize = 4;
-    while 0 < k {
-        let w = t[k - 1];
+    for k in (0..4).rev() {
+        let w = t[k];
         if w != 0 {
-            return 64 * (k - 1) + word_end(w);
+            return 64 * k + word_end(w);
         }
-        k = k - 1;
     }
     0
 }
@@ -80,8 +71,8 @@ fn smaller_here(l: u8) -> u64
     let mut w: u64 = 0;
     for i in 0..6u8 {
         let s = set_without(l, i);
-        let b = masks::set_has(l, i);
-        w = masks::with_if(w, wide(s), b);
+        let b = masks::has(l, i as usize);
+        w = masks::with_if(w, s as usize, b);
     }
     w
 }
@@ -92,7 +83,7 @@ fn add_without(within: &[u64; 4], h: u8, i: u8, t: &mut [u64; 4])
     ensures { (length t.new ≡ 4) × ((d : ℕ) → d < 256 → has_set t.new d ≡ (has_set t.old d || ((has h i && has_set within.now (minus h (2 ^ i))) && eqb d (minus h (2 ^ i))))) }
 {
     let s = set_without(h, i);
-    let b = masks::set_has(h, i) & has(within, s);
+    let b = masks::has(h, i as usize) & has(within, s);
     add_if(t, s, b);
 }
 
@@ -102,7 +93,7 @@ pub fn add_smaller(within: &[u64; 4], h: u8, t: &mut [u64; 4])
     requires { length t.old ≡ 4 }
     ensures { Smaller within.now t.old h t.new }
 {
-    let k = wide(h) / 64;
+    let k = h as usize / 64;
     let w = smaller_here(h % 64);
     t[k] = t[k] | (w & within[k]);
     if h < 64 {
@@ -126,9 +117,7 @@ fn accepted_word(family: &[bool; 256], n: usize) -> u64
     ensures { (d : ℕ) → d < n → has result d ≡ get_or family.now d false }
 {
     let mut w: u64 = 0;
-    let mut j = n;
-    while 0 < j {
-        j = j - 1;
+    for j in (0..n).rev() {
         w = pushed(w, family[j]);
     }
     w
@@ -142,9 +131,7 @@ fn accepted_words(family: &[bool; 256]) -> [u64; 4]
     let mut b: u64 = 0;
     let mut c: u64 = 0;
     let mut d: u64 = 0;
-    let mut j: usize = 64;
-    while 0 < j {
-        j = j - 1;
+    for j in (0..64).rev() {
         a = pushed(a, family[j]);
         b = pushed(b, family[64 + j]);
         c = pushed(c, family[128 + j]);
@@ -209,13 +196,7 @@ fn first_if(w: u64, b: bool) -> u64
 fn part(n: usize, from: usize) -> usize
     ensures { result ≡ min (n - from) 64 }
 {
-    if n <= from {
-        return 0;
-    }
-    if n - from < 64 {
-        return n - from;
-    }
-    64
+    n.saturating_sub(from).min(64)
 }
 
 // w, as word k, without the sets from `sets` on.
@@ -245,7 +226,6 @@ fn over(t: &[u64; 4], quiet: bool, sets: usize) -> [u64; 4]
 }
 
 // The colour sets around the accepted ones, and around the rejected ones.
-#[derive(Drop)]
 #[derive(Clone, Copy)]
 pub struct Around {
     pub accepted: [u64; 4],

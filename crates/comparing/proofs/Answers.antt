@@ -3,11 +3,11 @@ use Prim.Native.Nat.{ℕ, ◌<◌}
 use lib.Dec.{eqb}
 use lib.ListN.{get_or}
 use mathlib.Core.Path.{◌≡◌, refl, sym, ap, ap₂, ◌∙◌}
-use mathlib.Core.Logic.{◌⊎◌, inl, inr, ◌≢◌}
-use mathlib.Core.Bool.{Bool, true, false, not, ◌||◌, cond}
+use mathlib.Core.Logic.{◌≢◌}
+use mathlib.Core.Bool.{Bool, true, false, not, ◌&&◌, ◌||◌, cond}
 use mathlib.Core.List.{List}
 use Rattle.lists.specs.Lists.{all, below}
-use Rattle.lists.proofs.Bools.{≡eqb, neqb, test, eqb≡}
+use Rattle.lists.proofs.Bools.{≡eqb, neqb}
 use Rattle.policy.specs.declared.Policy.{Policy}
 use Rattle.policy.specs.Policies.{edges, target_of, legal}
 use Rattle.policy.proofs.Laws.{legal-target}
@@ -16,11 +16,13 @@ use Rattle.graph.specs.Cycles.{contains}
 use Rattle.graph.specs.Through.{cycle_through, Rows, EndsOf, cycle_states, between}
 use Rattle.graph.proofs.Through.{through_same}
 use Rattle.graph.proofs.OnCycle.{off-cycle, on-cycle, states_are, between-through}
-use Rattle.graph.specs.SameGraph.{same_target, same_targets}
+use Rattle.graph.specs.SameGraph.{same_target, same_targets, same_graph}
 use Rattle.comparing.specs.Pairs.{pair_edges, exactly, no_cycle_at, same_head}
 use Rattle.comparing.specs.Comparing.{Compares, number_of, same_of, refusal_of, same_verdicts, comparison}
-use Rattle.comparing.specs.declared.Comparison.{Comparison}
-use Rattle.comparing.specs.declared.Comparison.TheVariants.{Same, Different, Refused}
+use Rattle.std.specs.Prelude.{Result, Ok, Err}
+use Rattle.refusals.specs.declared.Refusal.{Refusal}
+use Rattle.refusals.specs.Refusals.{refusal}
+use Rattle.lists.specs.Questions.{ask}
 
 -- ---- targets
 module _ (t u : List ℕ) where
@@ -51,22 +53,22 @@ module _ (p q : Policy) where
   none-some c d v z = ap (λ (b : Bool). b || not (exactly p q c d (cycle_through p (pair_edges p q c d) v))) (neqb (cycle_through p (pair_edges p q c d) v) 0 z)
 
   -- ---- the answer, by its number and its value
-  pub compares : (x : Comparison) → x ≡ comparison p q → Compares p q x
-  unfolding comparison
+  -- each answer but 0 is the number of its refusal
+  asked-number : (x y : Bool) → let n = ask x 7 (ask y 15 0) in (b : Bool) → number_of (cond (eqb n 0) (Ok b) (Err (refusal n))) ≡ n
+  asked-number true true b = refl
+  asked-number true false b = refl
+  asked-number false y b = refl
+
+  pub compares : (x : Result Bool Refusal) → x ≡ comparison p q → Compares p q x
+  unfolding comparison refusal_of
   compares x e = record {
     answer_is = e;
-    number_is = ap number_of e ∙ number (test (eqb (refusal_of p q) 0)) (same_verdicts p q);
+    number_is = ap number_of e ∙ asked-number (legal p && legal q) (same_graph p q) (same_verdicts p q);
     same_is = ap same_of e ∙ same (eqb (refusal_of p q) 0) (same_verdicts p q);
   }
     where
-      number : (eqb (refusal_of p q) 0 ≡ true) ⊎ (eqb (refusal_of p q) 0 ≡ false) → (b : Bool) → number_of (cond (eqb (refusal_of p q) 0) (cond b Same Different) (Refused (refusal_of p q))) ≡ refusal_of p q
-      number (inl t) true = rw t (sym (eqb≡ (refusal_of p q) 0 t))
-      number (inl t) false = rw t (sym (eqb≡ (refusal_of p q) 0 t))
-      number (inr f) b = rw f refl
-
-      same : (z b : Bool) → same_of (cond z (cond b Same Different) (Refused (refusal_of p q))) ≡ cond z b false
-      same true true = refl
-      same true false = refl
+      same : (z b : Bool) → same_of (cond z (Ok b) (Err (refusal (refusal_of p q)))) ≡ cond z b false
+      same true b = refl
       same false b = refl
 
 -- ---- one pair, by the rows of its edges m

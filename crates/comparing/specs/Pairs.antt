@@ -7,7 +7,7 @@ use Rattle.lists.specs.Bools.{differs}
 use Rattle.policy.specs.declared.Policy.{Policy}
 use Rattle.policy.specs.Policies.{colours_of, in_family, legal}
 use Rattle.policy.specs.ByColour.{by_colour, table_edges, table_colours, edges_in}
-use Rattle.graph.specs.Through.{GraphOf, EndsOf, cycle_through}
+use Rattle.graph.specs.Through.{cycle_through}
 use Rattle.graph.specs.SameGraph.{same_graph}
 
 module _ (p q : Policy) where
@@ -22,18 +22,6 @@ module _ (p q : Policy) where
     pub comparable : Comparable
     pub of_p : t ≡ by_colour p
     pub of_q : u ≡ by_colour q
-
-  -- what a search for cycles goes by: these, the graph of p, and the edges that leave and enter each state
-  pub record Searchable (states letters : ℕ) (heads out into t u : List ℕ) : Type 0 where
-    pub tables : ColourTables t u
-    pub graph : GraphOf p states letters heads
-    pub ends : EndsOf p out into
-
-  -- what is asked of the set c of p's colours: b is its verdict, and f the family of q
-  pub record Asked (states letters : ℕ) (heads out into t u : List ℕ) (f : List Bool) (c : ℕ) (b : Bool) : Type 0 where
-    pub search : Searchable states letters heads out into t u
-    pub family_is : f ≡ q.family
-    pub verdict_is : b ≡ in_family p c
 
   -- ---- one pair of colour sets
   -- the edges with colours in c, in p, and in d, in q

@@ -2,32 +2,24 @@
 #![tactic(auto)]
 
 ghost use Rattle.std.specs.Prelude.{◌≡◌, length};
-ghost use Rattle.policy.specs.declared.Policy.{Policy};
-ghost use Rattle.graph.specs.Through.{GraphOf, EndsOf};
 ghost use Rattle.components.specs.Finding.{Found};
 
-// The largest cycles inside m, by their lowest states. `left` has the states on cycles that are on none of those found, so the lowest state of each is met first. `out` and
-// `into` are the edges that leave and enter each state. The rows are space that is lent.
-pub fn fill_cycles(
-    states: usize,
-    letters: usize,
-    heads: &[u8; 64],
-    out: &[u64; 16],
-    into: &[u64; 16],
-    m: u64,
-    rows: &mut [u16; 16],
-    cycles: &mut [u64; 16],
-) -> usize
-    requires { ((p : Policy) × GraphOf p states letters heads.now × EndsOf p out.now into.now) × (length rows.old ≡ 16) × (length cycles.old ≡ 16) }
-    ensures { ((p : Policy) → GraphOf p states letters heads.now → EndsOf p out.now into.now → Found p m cycles.old cycles.new result) × (length rows.new ≡ 16) }
+use graph::Graph;
+
+// The largest cycles inside m, by their lowest states. `left` has the states on cycles that are on none of those found, so the lowest state of each is met first. The rows are space
+// that is lent.
+pub fn fill_cycles(g: &Graph<'_>, m: u64, rows: &mut [u16; 16], cycles: &mut [u64; 16]) -> usize
+    requires { (length rows.old ≡ 16) × (length cycles.old ≡ 16) }
+    ensures { Found g.now.policy.now m cycles.old cycles.new result × (length rows.new ≡ 16) }
 {
-    graph::reach_all(states, letters, heads, m, rows);
-    let mut left = graph::states_on_cycles(states, rows);
+    graph::reach_all(g, m, rows);
+    let mut left = graph::states_on_cycles(g, rows);
+    let states = g.policy.states as usize;
     let mut n: usize = 0;
     for v in 0..states {
         if masks::has(left, v) {
             let s = graph::cycle_states(rows, v);
-            let x = graph::edges_between(states, out, into, m, s);
+            let x = graph::edges_between(g, m, s);
             left = masks::without(left, s);
             cycles[n] = x;
             n += 1;

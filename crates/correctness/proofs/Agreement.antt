@@ -12,7 +12,9 @@ use Rattle.recurrence.specs.Runs.{after}
 use Rattle.policy.specs.declared.Policy.{Policy}
 use Rattle.policy.specs.Policies.{legal}
 use Rattle.running.specs.declared.Run.{Run}
-use Rattle.running.specs.declared.Reading.{Reading}
+use Rattle.running.specs.declared.Met.{Met}
+use Rattle.std.specs.Prelude.{Result}
+use Rattle.refusals.specs.declared.Refusal.{Refusal}
 use Rattle.running.specs.Running.{policy_step, policy_meets, reading_of, run_after, priority_of, priorities_of, number_of, row_step, row_meets}
 use Rattle.running.proofs.Steps.{reads-letter, reading-meets}
 use Rattle.correctness.specs.Calls.{Translating, Running}
@@ -24,12 +26,12 @@ use Rattle.correctness.proofs.Translated.{Success, success-legal, stands-over, o
 use Rattle.correctness.proofs.Sequences.{recurs-along}
 
 -- ---- a call of running: what both contracts come to
-abbrev pub read_by : Running → Reading
+abbrev pub read_by : Running → Result Met Refusal
 read_by c = reading_of c.letters c.targets c.priorities (record { state = c.state }) c.letter
 
 pub record Answered (c : Running) : Type 0 where
   pub number_is : c.number ≡ number_of (read_by c)
-  pub next_is : c.next ≡ (run_after (read_by c)).state
+  pub next_is : c.next ≡ (run_after (record { state = c.state }) (read_by c)).state
   pub priority_is : c.priority ≡ priority_of (read_by c)
 
 -- what the call meets is what the reading meets
@@ -74,7 +76,7 @@ module _ (t : Translating) (done : Success t) (stem loop : List ℕ) (calls : �
 
   next-run : (i : ℕ) → runs (suc i) ≡ step (runs i) (letter_at stem loop i)
   unfolding row_step
-  next-run i = ap {B = Run} (λ (s : ℕ). record { state = s }) (run.goes_on i ∙ (answered i).next_is) ∙ ap run_after (reading-is i)
+  next-run i = ap {B = Run} (λ (s : ℕ). record { state = s }) (run.goes_on i ∙ (answered i).next_is) ∙ ap (run_after (runs i)) (reading-is i)
 
   met-is : (i : ℕ) → priorities_met calls i ≡ meets (runs i) (letter_at stem loop i)
   unfolding row_meets

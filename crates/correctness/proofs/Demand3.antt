@@ -8,7 +8,9 @@ use borrow.Author.Tests.{eqb-false}
 use Rattle.lists.proofs.Bools.{test}
 use Rattle.reading.specs.Reading.{reading_of as bytes_reading_of, number_of as read_number_of}
 use Rattle.builder.specs.Tables.{counts_of, translation_of, number_of as translate_number_of}
-use Rattle.running.specs.declared.Reading.{Reading}
+use Rattle.running.specs.declared.Met.{Met}
+use Rattle.std.specs.Prelude.{Result}
+use Rattle.refusals.specs.declared.Refusal.{Refusal}
 use Rattle.running.specs.Running.{run_after, priority_of, number_of as run_number_of}
 use Rattle.answers.specs.Answers.{first_of}
 use Rattle.correctness.specs.Calls.{Call, translate, translate_shows, read, read_shows, wulfrenda_translate, wulfrenda_translate_shows, wulfrenda_translate_bytes, wulfrenda_translate_bytes_shows, wulfrenda_run, wulfrenda_run_shows}
@@ -47,7 +49,7 @@ wulfrenda-translated-bytes t returned = record {
 pub read-answered : (c : Call read) → Answered (read_shows c.at)
 read-answered c =
     let e = c.learnt.answer_is in
-    record { number_is = ap run_number_of e; next_is = ap (λ (q : Reading). (run_after q).state) e; priority_is = ap priority_of e }
+    record { number_is = ap run_number_of e; next_is = ap (λ (q : Result Met Refusal). (run_after c.at.given.0 q).state) e; priority_is = ap priority_of e }
 
 pub wulfrenda-run-answered : (c : Call wulfrenda_run) → Answered (wulfrenda_run_shows c.at)
 wulfrenda-run-answered c = record { number_is = c.learnt.0; next_is = c.learnt.1.0; priority_is = c.learnt.1.1 }

@@ -63,10 +63,10 @@ translate-call : Policy → Tables → Call translate
 unfolding place_of mut_of slices
 translate-call p t = record {
   at = record {
-    lifetimes = ([], ([], ([], ([], ([], ([], ([], tt)))))));
-    given = (p, slices t tt);
+    lifetimes = ([], ([], ([], ([], ([], ([], ([], ([], tt))))))));
+    given = (place_of p, slices t tt);
     answer = translation_of p t;
-    left = (p, slices (tables_after p t) tt);
+    left = (place_of p, slices (tables_after p t) tt);
   };
   learnt = record { answer_is = refl; number_is = number-of p t; counts_are = counts-of p t; tables_are = hold-same (tables_after p t) };
 }
@@ -125,7 +125,7 @@ wulfrenda-run-call letters targets priorities s a =
         lifetimes = ([], ([], ([], ([], tt))));
         given = (letters, (place_of targets, (place_of priorities, (mut_of s, (a, (mut_of 0, tt))))));
         answer = number_of x;
-        left = (letters, (place_of targets, (place_of priorities, (mut_of (run_after x).state, (a, (mut_of (priority_of x), tt))))));
+        left = (letters, (place_of targets, (place_of priorities, (mut_of (run_after (record { state = s }) x).state, (a, (mut_of (priority_of x), tt))))));
       };
       learnt = (refl, (refl, refl));
     }
@@ -141,7 +141,7 @@ running_of letters targets priorities s a =
       state = s;
       letter = a;
       number = number_of x;
-      next = (run_after x).state;
+      next = (run_after (record { state = s }) x).state;
       priority = priority_of x;
     }
 
@@ -157,7 +157,7 @@ module _ (t : Translating) (done : Success t) (stem loop : List ℕ) (s : ℕ) (
 
   state : ℕ → ℕ
   state zero = s
-  state (suc i) = (run_after (reading_of t.policy.letters targets priorities (record { state = state i }) (letter_at stem loop i))).state
+  state (suc i) = (run_after (record { state = state i }) (reading_of t.policy.letters targets priorities (record { state = state i }) (letter_at stem loop i))).state
 
   a-run : BuiltRun stem loop t (λ i. running_of t.policy.letters targets priorities (state i) (letter_at stem loop i))
   unfolding running_of state

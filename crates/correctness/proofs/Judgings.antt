@@ -4,7 +4,7 @@ use Prim.Native.Nat.{ℕ, ◌≤◌, ◌<◌}
 use native.Mathlib.Omega.{arith}
 use mathlib.Core.Path.{◌≡◌, refl, sym, ap, ◌∙◌, subst}
 use mathlib.Core.Logic.{◌⊎◌, inl, inr, ◌≢◌, ◌↔◌}
-use mathlib.Core.Bool.{true, false, true≢false, false≢true}
+use mathlib.Core.Bool.{Bool, true, false, true≢false, false≢true}
 use mathlib.Core.List.{List, [], ◌∷◌, ◌++◌, Memᴰ, nil≢cons}
 use lib.Dec.{ltb}
 use lib.ListN.{length, take}
@@ -23,11 +23,12 @@ use Rattle.automaton.specs.Automaton.{built, state_at}
 use Rattle.automaton.proofs.RowPriorities.{priority-after-few}
 use Rattle.automaton.proofs.EdgeRuns.{met_run}
 use Rattle.running.specs.declared.Run.{Run}
-use Rattle.running.specs.declared.Reading.{Reading}
-use Rattle.running.specs.declared.Reading.TheVariants.{Moved, Refused as NotRead}
+use Rattle.running.specs.declared.Met.{Met}
+use Rattle.std.specs.Prelude.{Result, Ok, Err}
+use Rattle.refusals.specs.declared.Refusal.{Refusal}
 use Rattle.running.specs.Running.{row_states, reading_of, priorities_of, row_step, row_meets}
 use Rattle.running.proofs.Steps.{row_within}
-use Rattle.judging.specs.declared.PolicyVerdict.TheVariants.{Judged}
+use Rattle.judging.specs.declared.Verdict.{Verdict}
 use Rattle.judging.specs.Judging.{non_empty, in_range, least_of, recurring_colours, no_state, ever_dangling, least_recurring}
 use Rattle.judging.proofs.Laws.{least-le, least-mem}
 use Rattle.judging.proofs.Answers.{policy-none, policy-judged, rows_none, rows-least}
@@ -48,9 +49,9 @@ some-letter letters [] some range = absurd (false≢true some)
 some-letter letters (a ∷ w) some range = or_left (ltb a letters) (any (λ a. ltb a letters) w) (and_l (ltb a letters) (all (λ a. ltb a letters) w) range)
 
 -- ---- a reading that is not answered 13
-met-no-dangling : (q : Reading) (k : ℕ) (ks : List ℕ) → priorities_of q ++ [] ≡ k ∷ ks → no_state q ≡ false
-met-no-dangling (Moved r k') k ks e = refl
-met-no-dangling (NotRead n r) k ks e = absurd (nil≢cons e)
+met-no-dangling : (q : Result Met Refusal) (k : ℕ) (ks : List ℕ) → priorities_of q ++ [] ≡ k ∷ ks → no_state q ≡ false
+met-no-dangling (Ok m) k ks e = refl
+met-no-dangling (Err e') k ks e = absurd (nil≢cons e)
 
 module _ (p : Policy) (ok : legal p ≡ true) where
   -- ---- a priority that is met is at most 9
@@ -148,6 +149,9 @@ module _ (p : Policy) (ok : legal p ≡ true) where
       rows_agree = ap even least_is ∙ decided.verdict ∙ ap (in_family p) (sym colours_are)
 
 -- ---- both calls
+abbrev judged : ℕ → Bool → Result Verdict Refusal
+judged colours accepted = Ok (record { colours = colours; accepted = accepted })
+
 module _ (t : Translating) (done : Success t) (size : ℕ) (b : Beginning t size) (stem loop : List ℕ) (some : non_empty loop ≡ true) (stem_range : in_range t.policy.letters stem ≡ true)
     (loop_range : in_range t.policy.letters loop ≡ true) (s : ℕ) (h : s < state_count t) where
   abbrev p : Policy
@@ -175,7 +179,7 @@ module _ (t : Translating) (done : Success t) (size : ℕ) (b : Beginning t size
         rows_answer = rows-least p.letters targets priorities r stem loop
             (rows_none p.letters targets priorities r stem loop b.passes (omega (arith, begins.is-built, rows.enough)) some range (never-dangling p ok targets priorities rows stem loop r begins.is-built));
         policy_answers = policy-judged p (under t s) stem loop (policy-none p (under t s) stem loop ok (v-lt p ok targets priorities rows stem loop letter r (under t s) begins) some range)
-            ∙ ap (Judged (recurring_colours p (under t s) stem loop)) (sym (rows_agree p ok targets priorities rows stem loop letter r (under t s) begins));
+            ∙ ap (judged (recurring_colours p (under t s) stem loop)) (sym (rows_agree p ok targets priorities rows stem loop letter r (under t s) begins));
       }
 
 pub judgings : Judgings

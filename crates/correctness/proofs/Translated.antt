@@ -19,8 +19,7 @@ use Rattle.policy.proofs.Laws.{legal-counts}
 use Rattle.forest.specs.Forest.{forest}
 use Rattle.automaton.specs.Automaton.{Built, built, state_at, start, state_sources, row_targets, row_priorities, built_fit}
 use Rattle.automaton.proofs.RowTables.{targets_long, priorities_long, row-target, row-priority}
-use Rattle.builder.specs.Tables.{Tables, lengths_fit, nodes_fit, states_fit, filled, counts_of, translation_of, tables_after, number_of}
-use Rattle.builder.specs.declared.Translation.TheVariants.{Translated, Refused}
+use Rattle.builder.specs.Tables.{Tables, lengths_fit, nodes_fit, states_fit, filled, translated, refused, counts_of, translation_of, tables_after, number_of}
 use Rattle.running.specs.declared.Run.{Run}
 use Rattle.running.specs.Running.{row_of, row_states}
 use Rattle.correctness.specs.Calls.{Translating, TablesHold}
@@ -43,7 +42,7 @@ record Yes (a b c d : Bool) : Type 0 where
   third : c ≡ true
   fourth : d ≡ true
 
-all_yes : (a b c d : Bool) (n s f : ℕ) → number_of (cond a (cond b (cond c (cond d (Translated n s f) (Refused 10)) (Refused 9)) (Refused 8)) (Refused 7)) ≡ 0 → Yes a b c d
+all_yes : (a b c d : Bool) (n s f : ℕ) → number_of (cond a (cond b (cond c (cond d (translated n s f) (refused 10)) (refused 9)) (refused 8)) (refused 7)) ≡ 0 → Yes a b c d
 all_yes true true true true n s f e = record { first = refl; second = refl; third = refl; fourth = refl }
 all_yes true true true false n s f e = absurd (omega (arith, e))
 all_yes true true false d n s f e = absurd (omega (arith, e))

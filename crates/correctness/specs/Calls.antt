@@ -51,7 +51,7 @@ module _ (f : Function) where
     pub promises : (x : Places) → f.learnt x.lifetimes x.given x.answer x.left ≡ AllOf (says x)
 
 abbrev pub translate : Function
-translate = record { lifetimes = 7; parameters = translate-kinds.ps; result = translate-kinds.r; asked = translate-reads.Asked; learnt = translate-reads.Learnt }
+translate = record { lifetimes = 8; parameters = translate-kinds.ps; result = translate-kinds.r; asked = translate-reads.Asked; learnt = translate-reads.Learnt }
 
 abbrev pub read : Function
 read = record { lifetimes = 2; parameters = read-kinds.ps; result = read-kinds.r; asked = read-reads.Asked; learnt = read-reads.Learnt }
@@ -96,7 +96,7 @@ seven a = tables a.0.now a.1.0.now a.1.1.0.now a.1.1.1.0.now a.1.1.1.1.0.now a.1
 
 abbrev pub translate_shows : Places translate → Translating
 translate_shows x = record {
-  policy = x.given.0;
+  policy = x.given.0.now;
   entry = seven x.given.1;
   number = translate_number_of x.answer;
   counts = counts_of x.answer;
@@ -143,7 +143,7 @@ read_shows x =
       state = a.0.state;
       letter = a.1.0;
       number = run_number_of x.answer;
-      next = (run_after x.answer).state;
+      next = (run_after a.0 x.answer).state;
       priority = priority_of x.answer;
     }
 
@@ -191,7 +191,7 @@ abbrev pub wulfrenda_run_says : Places wulfrenda_run → List (Type 0)
 wulfrenda_run_says x =
     let c = wulfrenda_run_shows x in
     let q = reading_of c.letters c.targets c.priorities (record { state = c.state }) c.letter in
-    (c.number ≡ run_number_of q) ∷ (c.next ≡ (run_after q).state) ∷ (c.priority ≡ priority_of q) ∷ []
+    (c.number ≡ run_number_of q) ∷ (c.next ≡ (run_after (record { state = c.state }) q).state) ∷ (c.priority ≡ priority_of q) ∷ []
 
 -- that they say this, and no less and no more
 pub record Contracts : Type 1 where

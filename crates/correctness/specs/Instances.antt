@@ -1,13 +1,13 @@
 -- Premises that are met: policy B of document 01 from its own bytes, a translation of B that succeeded with places to spare, each refusal of translating, and calls of which demand 3 speaks.
-use Rattle.std.specs.Prelude.{ℕ, ◌≡◌, true, List, [], ◌∷◌, ltb, replicate}
+use Rattle.std.specs.Prelude.{ℕ, ◌≡◌, true, List, [], ◌∷◌, ltb, replicate, Result}
 use Rattle.lists.specs.Lists.{any}
 use Rattle.policy.specs.declared.Policy.{Policy}
 use Rattle.policy.specs.Making.{zero_policy}
 use Rattle.reading.specs.Reading.{reading_of}
 use Rattle.reading.specs.declared.Outcome.TheVariants.{Read}
-use Rattle.builder.specs.Tables.{Tables, tables, translation_of, tables_after}
-use Rattle.builder.specs.declared.Translation.{Translation}
-use Rattle.builder.specs.declared.Translation.TheVariants.{Translated, Refused}
+use Rattle.builder.specs.Tables.{Tables, tables, translated, refused, translation_of, tables_after}
+use Rattle.refusals.specs.declared.Refusal.{Refusal}
+use Rattle.builder.specs.declared.Counts.{Counts}
 use Rattle.correctness.specs.Calls.{Function, Places, Call, Translating, Running, translate, translate_shows, read, read_shows, wulfrenda_translate, wulfrenda_translate_shows, wulfrenda_translate_bytes, wulfrenda_translate_bytes_shows, wulfrenda_run, wulfrenda_run_shows}
 use Rattle.correctness.specs.Demand3.{BuiltRun}
 use Rattle.correctness.specs.Known.{B}
@@ -31,21 +31,21 @@ filled_with x nodes states rows =
 pub record Case : Type 0 where
   pub policy : Policy
   pub entry : Tables
-  pub answer : Translation
+  pub answer : Result Counts Refusal
   pub exit : Tables
 
-abbrev pub case : Policy → Tables → Translation → Tables → Case
+abbrev pub case : Policy → Tables → Result Counts Refusal → Tables → Case
 case p entry answer exit = record { policy = p; entry = entry; answer = answer; exit = exit }
 
 -- B with a place to spare in each table, and each refusal
 abbrev pub cases : List Case
 cases =
-    case B (filled_with 7 4 3 6) (Translated 3 2 0)
+    case B (filled_with 7 4 3 6) (translated 3 2 0)
     (tables (15 ∷ 1 ∷ 8 ∷ 0 ∷ []) (65535 ∷ 0 ∷ 0 ∷ 0 ∷ []) (1 ∷ 2 ∷ 2 ∷ 0 ∷ []) (0 ∷ 1 ∷ 0 ∷ []) (1 ∷ 2 ∷ 0 ∷ []) (0 ∷ 1 ∷ 0 ∷ 1 ∷ 0 ∷ 0 ∷ []) (2 ∷ 1 ∷ 1 ∷ 2 ∷ 0 ∷ 0 ∷ []))
-    ∷ case zero_policy (filled_with 7 4 3 6) (Refused 7) (filled_with 7 4 3 6)
-    ∷ case B (filled_with 7 4 3 5) (Refused 8) (filled_with 7 4 3 5)
-    ∷ case B (filled_with 7 2 2 4) (Refused 9) (filled_with 0 2 2 4)
-    ∷ case B (filled_with 7 3 1 2) (Refused 10) (filled_with 0 3 1 2)
+    ∷ case zero_policy (filled_with 7 4 3 6) (refused 7) (filled_with 7 4 3 6)
+    ∷ case B (filled_with 7 4 3 5) (refused 8) (filled_with 7 4 3 5)
+    ∷ case B (filled_with 7 2 2 4) (refused 9) (filled_with 0 2 2 4)
+    ∷ case B (filled_with 7 3 1 2) (refused 10) (filled_with 0 3 1 2)
     ∷ []
 
 abbrev pub CasesHold : List Case → Type 0

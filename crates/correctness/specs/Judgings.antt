@@ -1,9 +1,7 @@
 -- Judging both sides after a call of translating that succeeded: a corollary of demand 3.
-use Rattle.std.specs.Prelude.{ℕ, ◌<◌, ◌≡◌, true, List, take}
+use Rattle.std.specs.Prelude.{ℕ, ◌<◌, ◌≡◌, true, List, take, Ok}
 use Rattle.forest.specs.Forest.{even}
 use Rattle.judging.specs.Judging.{non_empty, in_range, policy_verdict, rows_verdict}
-use Rattle.judging.specs.declared.PolicyVerdict.TheVariants.{Judged}
-use Rattle.judging.specs.declared.RowsVerdict.TheVariants.{Least}
 use Rattle.correctness.specs.Calls.{Function, Places, Call, Translating, translate, translate_shows, wulfrenda_translate, wulfrenda_translate_shows, wulfrenda_translate_bytes, wulfrenda_translate_bytes_shows}
 use Rattle.correctness.specs.Demand3.{state_count, under, Beginning}
 
@@ -11,8 +9,8 @@ use Rattle.correctness.specs.Demand3.{state_count, under, Beginning}
 pub record JudgedAlike (t : Translating) (size : ℕ) (stem loop : List ℕ) (s : ℕ) : Type 0 where
   pub least : ℕ
   pub colours : ℕ
-  pub rows_answer : rows_verdict t.policy.letters (take size t.exit.targets) (take size t.exit.priorities) (record { state = s }) stem loop ≡ Least least
-  pub policy_answers : policy_verdict t.policy (under t s) stem loop ≡ Judged colours (even least)
+  pub rows_answer : rows_verdict t.policy.letters (take size t.exit.targets) (take size t.exit.priorities) (record { state = s }) stem loop ≡ Ok least
+  pub policy_answers : policy_verdict t.policy (under t s) stem loop ≡ Ok (record { colours = colours; accepted = even least })
 
 -- wherever neither is refused: the loop is not empty, and all letters are the policy's
 abbrev pub JudgingsAgree : (f : Function) → (Places f → Translating) → Type 0

@@ -15,8 +15,12 @@ use Rattle.policy.specs.declared.Policy.{Policy}
 use Rattle.forest.specs.Forest.{forest, transient_priority, node_masks, node_parents, node_priorities_of, forest_fits}
 use Rattle.forest.proofs.Columns.{length-masks, length-parents}
 use Rattle.roots.specs.Roots.{ForestWritten}
-use Rattle.decomposition.specs.declared.Filled.TheVariants.{Nodes, TooMany}
+use Rattle.std.proofs.Common.{Some, None}
+use Rattle.decomposition.specs.declared.Filled.{Filled}
 use Rattle.decomposition.specs.NodeTables.{NodeColumns, node_tables, filling_of, refusal_of, count_after, lowest_after, filled_of, Fills}
+
+abbrev filled : ℕ → ℕ → Filled
+filled n k = record { count = n; transient = k }
 
 -- ---- masks and parents as they are grown
 -- in tables that were m₀ and q₀; beside them stands r₀
@@ -62,15 +66,15 @@ module _ {p : Policy} (m₀ q₀ r₀ : List ℕ) {m q : List ℕ} {n : ℕ} (lq
           let room : n ≤ length r₀ = omega arith in
           (omega (arith, room, long-priorities), er ∙ ap₂ padded (sym long-priorities) (sym (ap (take n) er ∙ take-padded (length r₀) n r₀ room)))
 
-      pub filled-whole : {r : List ℕ} {k : ℕ} → k ≡ transient_priority p → r ≡ padded (length r₁) (node_priorities_of p) → Fills p (node_tables m₀ q₀ r₀) (Nodes n k) (node_tables m₁ q₁ r)
+      pub filled-whole : {r : List ℕ} {k : ℕ} → k ≡ transient_priority p → r ≡ padded (length r₁) (node_priorities_of p) → Fills p (node_tables m₀ q₀ r₀) (Some (filled n k)) (node_tables m₁ q₁ r)
       unfolding filling_of refusal_of count_after lowest_after filled_of forest_fits places
       filled-whole {r} {k} ek e =
           let b = le-leb (length (forest p)) (min (length m₀) 65535) fits in
           let e' = e ∙ ap (λ (k : ℕ). padded k (node_priorities_of p)) long-priorities in
-          record { answer_is = rw b (ap₂ Nodes all-nodes ek); number_is = rw b refl; count_is = rw b all-nodes; lowest-is = rw b ek; tables_are = rw b (λ i. node_tables (padded-masks i) (padded-parents i) (e' i)) }
+          record { answer_is = rw b (ap₂ (λ (n k : ℕ). Some (filled n k)) all-nodes ek); number_is = rw b refl; count_is = rw b all-nodes; lowest-is = rw b ek; tables_are = rw b (λ i. node_tables (padded-masks i) (padded-parents i) (e' i)) }
 
   -- there are more nodes than places
-  pub filled_none : {r₁ : List ℕ} → r₁ ≡ zeros r₀ → min (length m₀) 65535 < n → Fills p (node_tables m₀ q₀ r₀) TooMany (node_tables m q r₁)
+  pub filled_none : {r₁ : List ℕ} → r₁ ≡ zeros r₀ → min (length m₀) 65535 < n → Fills p (node_tables m₀ q₀ r₀) None (node_tables m q r₁)
   unfolding filling_of refusal_of count_after lowest_after filled_of forest_fits places
   filled_none er h =
       let b = lt-leb (length (forest p)) (min (length m₀) 65535) (omega (arith, g.count_is)) in

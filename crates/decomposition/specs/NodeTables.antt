@@ -1,11 +1,10 @@
 -- The node tables (document 01, "Cycles and the forest"): what filling them answers, and what each place holds at exit.
-use Rattle.std.specs.Prelude.{ℕ, ◌≤◌, ◌≡◌, cond, List, length}
+use Rattle.std.specs.Prelude.{ℕ, ◌≤◌, ◌≡◌, cond, List, length, Option, Some, None}
 use Rattle.lists.specs.Questions.{ask}
 use Rattle.tables.specs.Tables.{padded, zeros, Column}
 use Rattle.policy.specs.declared.Policy.{Policy}
 use Rattle.forest.specs.Forest.{forest, transient_priority, forest_fits, node_masks, node_parents, node_priorities_of}
 use Rattle.decomposition.specs.declared.Filled.{Filled}
-use Rattle.decomposition.specs.declared.Filled.TheVariants.{Nodes, TooMany}
 
 pub record NodeTables : Type 0 where
   pub masks : List ℕ
@@ -24,24 +23,24 @@ pub record NodeColumns (p : Policy) (masks parents : List ℕ) (n : ℕ) : Type 
 
 -- ---- document 01's number and value for each answer
 -- the number of the refusal; 0 where the nodes fit
-abbrev pub number_of : Filled → ℕ
-number_of (Nodes n k) = 0
-number_of TooMany = 9
+abbrev pub number_of : Option Filled → ℕ
+number_of (Some f) = 0
+number_of None = 9
 
 -- how many nodes there are; 0 after a refusal
-abbrev pub count_of : Filled → ℕ
-count_of (Nodes n k) = n
-count_of TooMany = 0
+abbrev pub count_of : Option Filled → ℕ
+count_of (Some f) = f.count
+count_of None = 0
 
 -- the lowest priority of a node; 0 after a refusal
-abbrev pub lowest_of : Filled → ℕ
-lowest_of (Nodes n k) = k
-lowest_of TooMany = 0
+abbrev pub lowest_of : Option Filled → ℕ
+lowest_of (Some f) = f.transient
+lowest_of None = 0
 
 module _ (p : Policy) (t : NodeTables) where
-  -- how many nodes there are, and the lowest priority of them
-  unfoldable pub filling_of : Filled
-  filling_of = cond (forest_fits p t.masks) (Nodes (length (forest p)) (transient_priority p)) TooMany
+  -- how many nodes there are, and the lowest priority of them; none where they do not fit
+  unfoldable pub filling_of : Option Filled
+  filling_of = cond (forest_fits p t.masks) (Some (record { count = length (forest p); transient = transient_priority p })) None
 
   unfoldable pub refusal_of : ℕ
   refusal_of = ask (forest_fits p t.masks) 9 0
@@ -59,7 +58,7 @@ module _ (p : Policy) (t : NodeTables) where
       (node_tables (zeros t.masks) (zeros t.parents) (zeros t.node_priorities))
 
 -- ---- what filling promises: the tables at entry, the answer, the tables at exit
-pub record Fills (p : Policy) (entry : NodeTables) (answer : Filled) (exit : NodeTables) : Type 0 where
+pub record Fills (p : Policy) (entry : NodeTables) (answer : Option Filled) (exit : NodeTables) : Type 0 where
   pub answer_is : answer ≡ filling_of p entry
   pub number_is : number_of answer ≡ refusal_of p entry
   pub count_is : count_of answer ≡ count_after p entry

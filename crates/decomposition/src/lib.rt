@@ -1,10 +1,8 @@
 // The alternating cycle decomposition of a policy: the node tables, with the nodes of the forest, tree by tree, and their priorities.
-// Beside a policy stand its arrays, lent: `heads` are the targets of its edges, `colours` their colours; `by` has the edges of each colour.
 #![tactic(auto)]
 
-ghost use Rattle.std.specs.Prelude.{◌≡◌, true, false, cond, ◌+◌, ◌-◌, ◌*◌, ◌≤◌, max, length, take};
+ghost use Rattle.std.specs.Prelude.{◌≡◌, true, false, cond, ◌+◌, ◌-◌, ◌*◌, ◌≤◌, length, take};
 ghost use Rattle.policy.specs.Policies.{accepting, legal};
-ghost use Rattle.policy.specs.ByColour.{by_colour};
 ghost use Rattle.lists.specs.Lists.{greatest};
 ghost use Rattle.tables.specs.Tables.{padded, Column};
 ghost use Rattle.tables.specs.Copies.{part};
@@ -12,34 +10,21 @@ ghost use Rattle.forest.specs.Forest.{forest, from_zero, transient_priority, nod
 ghost use Rattle.decomposition.specs.FromZero.{plain_priorities, some_accepting};
 ghost use Rattle.decomposition.specs.NodeTables.{NodeColumns, node_tables, Fills};
 
+use graph::Graph;
 use policy::Policy;
 
-// What filling the node tables answers: how many nodes there are, and the lowest priority of them, which an edge in no cycle has; or that they do not fit.
+// How many nodes there are, and the lowest priority of them, which an edge in no cycle has.
 #[derive(Clone, Copy)]
-pub enum Filled {
-    Nodes(usize, u8),
-    TooMany,
+pub struct Filled {
+    pub count: usize,
+    pub transient: u8,
 }
 
 // The priority of a root goes by its verdict, where priorities begin at 0.
-fn root_priority(p: Policy, by: &[u64; 9], family: &[bool; 256], m: u64) -> u8
-    requires lawful { legal p ≡ true }
-    requires lent { (by.now ≡ by_colour p) × (family.now ≡ p.family) }
-    ensures { result ≡ cond (accepting p m) 0 1 }
+fn root_priority(g: &Graph<'_>, m: u64) -> u8
+    ensures { result ≡ cond (accepting g.now.policy.now m) 0 1 }
 {
-    if policy::accepts(p, by, family, m) {
-        return 0;
-    }
-    1
-}
-
-fn greater(a: u8, b: u8) -> u8
-    ensures { result ≡ max a b }
-{
-    if a < b {
-        return b;
-    }
-    a
+    u8::from(!policy::accepts(g.policy, &g.by, m))
 }
 
 // The greatest of the entries from place `from` up to `to`.
@@ -48,8 +33,8 @@ fn greatest_in(t: &[u8], from: usize, to: usize) -> u8
     ensures { result ≡ greatest (part (to - from) from t.now) }
 {
     let mut most: u8 = 0;
-    for i in from..to {
-        most = greater(most, t[i]);
+    for &x in &t[from..to] {
+        most = most.max(x);
     }
     most
 }
@@ -73,20 +58,16 @@ struct Beginning {
 // one verdict are looked at together, and only if a root of the other verdict is met: those at hand begin at node `first`, their roots have priority `root`, and `most`
 // is the greatest height before them. Priorities begin at 0 exactly if the greatest height is odd.
 fn number_from_zero(
-    p: Policy,
-    by: &[u64; 9],
-    family: &[bool; 256],
+    g: &Graph<'_>,
     masks: &[u64],
     parents: &[u16],
     node_priorities: &mut [u8],
     count: usize,
 ) -> Beginning
-    requires lawful { legal p ≡ true }
-    requires lent { (by.now ≡ by_colour p) × (family.now ≡ p.family) }
-    requires nodes { NodeColumns p masks.now parents.now count }
+    requires nodes { NodeColumns g.now.policy.now masks.now parents.now count }
     requires cleared { (count ≤ length node_priorities.old) × (node_priorities.old ≡ padded (length node_priorities.old) (take count node_priorities.old)) }
-    ensures beginning { (result.from_zero ≡ from_zero p) × (result.accepting ≡ some_accepting p) }
-    ensures table { node_priorities.new ≡ padded (length node_priorities.old) (plain_priorities p) }
+    ensures beginning { (result.from_zero ≡ from_zero g.now.policy.now) × (result.accepting ≡ some_accepting g.now.policy.now) }
+    ensures table { node_priorities.new ≡ padded (length node_priorities.old) (plain_priorities g.now.policy.now) }
 {
     let mut most: u8 = 0;
     let mut first: usize = 0;
@@ -95,9 +76,9 @@ fn number_from_zero(
         let parent = parents[n];
         let mut priority: u8 = 0;
         if parent == 65535 {
-            priority = root_priority(p, by, family, masks[n]);
+            priority = root_priority(g, masks[n]);
             if priority != root {
-                most = greater(most, height(greatest_in(node_priorities, first, n), root));
+                most = most.max(height(greatest_in(node_priorities, first, n), root));
                 first = n;
                 root = priority;
             }
@@ -112,10 +93,7 @@ fn number_from_zero(
             accepting: root == 0,
         };
     }
-    let top = greater(
-        most,
-        height(greatest_in(node_priorities, first, count), root),
-    );
+    let top = most.max(height(greatest_in(node_priorities, first, count), root));
     Beginning {
         from_zero: top % 2 == 1,
         accepting: true,
@@ -123,11 +101,11 @@ fn number_from_zero(
 }
 
 // Two more for each node of a tree whose root has 0, where priorities begin at 1.
-fn raise(p: Policy, parents: &[u16], node_priorities: &mut [u8], count: usize)
-    requires lawful { (legal p ≡ true) × (from_zero p ≡ false) }
-    requires nodes { (count ≡ length (forest p)) × (count ≤ 65535) × Column (node_parents p) parents.now }
-    requires table { (count ≤ length node_priorities.old) × (node_priorities.old ≡ padded (length node_priorities.old) (plain_priorities p)) }
-    ensures { node_priorities.new ≡ padded (length node_priorities.old) (node_priorities_of p) }
+fn raise(p: &Policy, parents: &[u16], node_priorities: &mut [u8], count: usize)
+    requires lawful { (legal p.now ≡ true) × (from_zero p.now ≡ false) }
+    requires nodes { (count ≡ length (forest p.now)) × (count ≤ 65535) × Column (node_parents p.now) parents.now }
+    requires table { (count ≤ length node_priorities.old) × (node_priorities.old ≡ padded (length node_priorities.old) (plain_priorities p.now)) }
+    ensures { node_priorities.new ≡ padded (length node_priorities.old) (node_priorities_of p.now) }
 {
     let mut more: u8 = 0;
     for n in 0..count {
@@ -141,56 +119,47 @@ fn raise(p: Policy, parents: &[u16], node_priorities: &mut [u8], count: usize)
 
 // The priorities of all nodes, in a table that is cleared past them. Given back: the lowest of them.
 fn write_priorities(
-    p: Policy,
-    by: &[u64; 9],
-    family: &[bool; 256],
+    g: &Graph<'_>,
     masks: &[u64],
     parents: &[u16],
     node_priorities: &mut [u8],
     count: usize,
 ) -> u8
-    requires lawful { legal p ≡ true }
-    requires lent { (by.now ≡ by_colour p) × (family.now ≡ p.family) }
-    requires nodes { NodeColumns p masks.now parents.now count }
+    requires nodes { NodeColumns g.now.policy.now masks.now parents.now count }
     requires cleared { (count ≤ length node_priorities.old) × (node_priorities.old ≡ padded (length node_priorities.old) (take count node_priorities.old)) }
-    ensures lowest { result ≡ transient_priority p }
-    ensures table { node_priorities.new ≡ padded (length node_priorities.old) (node_priorities_of p) }
+    ensures lowest { result ≡ transient_priority g.now.policy.now }
+    ensures table { node_priorities.new ≡ padded (length node_priorities.old) (node_priorities_of g.now.policy.now) }
 {
-    let begins = number_from_zero(p, by, family, masks, parents, node_priorities, count);
+    let begins = number_from_zero(g, masks, parents, node_priorities, count);
     if begins.from_zero {
         return 0;
     }
     if !begins.accepting {
         return 1;
     }
-    raise(p, parents, node_priorities, count);
+    raise(g.policy, parents, node_priorities, count);
     1
 }
 
 // The nodes of the forest, in tables of one length. Where they do not fit, every place is 0. This is an inner layer: its callers have asked whether the policy is legal.
-pub fn fill_nodes<'a>(
-    p: Policy,
-    heads: &'a [u8; 64],
-    colours: &'a [u8; 64],
-    family: &'a [bool; 256],
+pub fn fill_nodes(
+    p: &Policy,
     masks: &mut [u64],
     parents: &mut [u16],
     node_priorities: &mut [u8],
-) -> Filled
-    requires lent { (heads.now ≡ p.target) × (colours.now ≡ p.colour) × (family.now ≡ p.family) }
-    requires tables { (legal p ≡ true) × (length parents.old ≡ length masks.old) × (length node_priorities.old ≡ length masks.old) }
-    ensures { Fills p (node_tables masks.old parents.old node_priorities.old) result (node_tables masks.new parents.new node_priorities.new) }
+) -> Option<Filled>
+    requires { (legal p.now ≡ true) × (length parents.old ≡ length masks.old) × (length node_priorities.old ≡ length masks.old) }
+    ensures { Fills p.now (node_tables masks.old parents.old node_priorities.old) result (node_tables masks.new parents.new node_priorities.new) }
 {
-    let mut by = [0u64; 9];
-    policy::collect_by_colour(p, colours, &mut by);
-    let count = columns::fill_columns(p, heads, &by, family, masks, parents);
+    let g = Graph::new(p);
+    let count = columns::fill_columns(&g, masks, parents);
     if tables::places(masks.len()) < count {
-        tables::clear8(node_priorities);
-        return Filled::TooMany;
+        tables::clear(node_priorities);
+        return None;
     }
-    tables::clear64_past(masks, count);
-    tables::clear16_past(parents, count);
-    tables::clear8_past(node_priorities, count);
-    let transient = write_priorities(p, &by, family, masks, parents, node_priorities, count);
-    Filled::Nodes(count, transient)
+    tables::clear_past(masks, count);
+    tables::clear_past(parents, count);
+    tables::clear_past(node_priorities, count);
+    let transient = write_priorities(&g, masks, parents, node_priorities, count);
+    Some(Filled { count, transient })
 }

@@ -16,10 +16,8 @@ fn fill_own(count: usize, ends: &mut [u16])
     requires { (count ≤ 65535) × (count ≤ length ends.old) }
     ensures { ends.new ≡ sets ends.old 0 (successors count) }
 {
-    let mut n = 0;
-    while n < count {
+    for n in 0..count {
         ends[n] = (n + 1) as u16;
-        n += 1;
     }
 }
 
@@ -36,16 +34,14 @@ fn raise(ends: &mut [u16], up: usize, n: usize)
 
 // The end of each node, from the front of `ends`: from the last node down, each raises the end of its parent. Inner layer: the parents are those of a legal
 // policy's forest, and `ends` has a place for each node.
-pub fn fill_ends(p: Policy, parents: &[u16], count: usize, ends: &mut [u16])
-    requires nodes { (legal p ≡ true) × (length (forest p) ≤ 65535) × Column (node_parents p) parents.now × (count ≡ length (forest p)) }
+pub fn fill_ends(p: &Policy, parents: &[u16], count: usize, ends: &mut [u16])
+    requires nodes { (legal p.now ≡ true) × (length (forest p.now) ≤ 65535) × Column (node_parents p.now) parents.now × (count ≡ length (forest p.now)) }
     requires room { count ≤ length ends.old }
-    ensures { ends.new ≡ sets ends.old 0 (node_ends p) }
+    ensures { ends.new ≡ sets ends.old 0 (node_ends p.now) }
 {
     fill_own(count, ends);
-    let mut n = count;
-    while 0 < n {
-        n -= 1;
-        let up = tables::wide(parents[n]);
+    for n in (0..count).rev() {
+        let up = parents[n] as usize;
         if up != 65535 {
             raise(ends, up, n);
         }

@@ -3,7 +3,7 @@ use Prim.Native.Nat.{ℕ, ◌*◌, ◌≤◌, min}
 use native.Mathlib.Omega.{arith}
 use native.Mathlib.Nat.{mul_comm, mul-le-mul_right}
 use mathlib.Core.Path.{◌≡◌, refl, sym, ap₂, ◌∙◌, subst}
-use mathlib.Core.Bool.{Bool, true, false}
+use mathlib.Core.Bool.{Bool, true, false, cond}
 use mathlib.Core.List.{List, [], ◌∷◌}
 use lib.ListN.{length}
 use lib.Seq.{sets}
@@ -13,26 +13,20 @@ use Rattle.tables.proofs.Columns.{column-padded, column-sets}
 use Rattle.policy.specs.declared.Policy.{Policy}
 use Rattle.policy.specs.Policies.{legal}
 use Rattle.policy.proofs.Laws.{legal-counts}
-use Rattle.forest.specs.Forest.{forest, transient_priority}
+use Rattle.forest.specs.Forest.{forest}
 use Rattle.automaton.specs.Automaton.{built, start, row_targets, row_priorities, state_leaves, built_fit}
-use Rattle.automaton.specs.Stages.{node_ends, state_starts, Nodes}
+use Rattle.automaton.specs.Stages.{node_ends, state_starts}
 use Rattle.automaton.proofs.Columns.{length-ends, length-leaves, length-starts}
 use Rattle.states.specs.StateTables.{StatesFilled}
-use Rattle.filling.specs.declared.Building.TheVariants.{Whole, TooMany}
+use Rattle.std.proofs.Common.{Option, Some, None}
 use Rattle.filling.specs.declared.Building.{Building}
 use Rattle.filling.specs.Filling.{Sized, building_of, Builds}
 
--- ---- equal policies: what is known of one is known of the other
-module _ {p q : Policy} (e : p ≡ q) where
-  pub nodes-same : {m a r : List ℕ} {count low : ℕ} → (legal p ≡ true) × Nodes p m a r × (count ≡ length (forest p)) × (low ≡ transient_priority p)
-      → (legal q ≡ true) × Nodes q m a r × (count ≡ length (forest q)) × (low ≡ transient_priority q)
-  nodes-same {m} {a} {r} {count} {low} n = subst (λ (x : Policy). (legal x ≡ true) × Nodes x m a r × (count ≡ length (forest x)) × (low ≡ transient_priority x)) e n
+abbrev building : ℕ → ℕ → Building
+building c a = record { states = c; start = a }
 
-  pub sized_same : {s l t k : List ℕ} → Sized p s l t k → Sized q s l t k
-  sized_same {s} {l} {t} {k} z = subst (λ (x : Policy). Sized x s l t k) e z
-
-  pub builds-same : {s₀ l₀ t₀ k₀ s l t k : List ℕ} {r : Building} → Builds p s₀ l₀ t₀ k₀ r s l t k → Builds q s₀ l₀ t₀ k₀ r s l t k
-  builds-same {s₀} {l₀} {t₀} {k₀} {s} {l} {t} {k} {r} b = subst (λ (x : Policy). Builds x s₀ l₀ t₀ k₀ r s l t k) e b
+some-none : {n : ℕ} → Some n ≡ None → ⊥
+some-none e = cc
 
 -- ---- the ends
 pub ends-column : (p : Policy) (ends₀ : List ℕ) {ends : List ℕ} {count : ℕ} → count ≡ length (forest p) → count ≤ length ends₀ → ends ≡ sets ends₀ 0 (node_ends p) → Column (node_ends p) ends
@@ -40,11 +34,18 @@ ends-column p ends₀ e h is = subst (Column (node_ends p)) (sym is) (column-set
 
 module _ {p : Policy} {s₀ l₀ t₀ k₀ : List ℕ} (z : Sized p s₀ l₀ t₀ k₀) where
   -- ---- the states written
-  module _ {starts₀ s l starts : List ℕ} {fits : Bool} {count : ℕ} (w : StatesFilled p s₀ l₀ starts₀ fits count s l starts) where
+  module _ {starts₀ s l starts : List ℕ} {answer : Option ℕ} (w : StatesFilled p s₀ l₀ starts₀ answer s l starts) where
     -- where they fit
-    module _ (f : fits ≡ true) where
+    module _ {count : ℕ} (f : answer ≡ Some count) where
+      all-fit : (b : Bool) → answer ≡ cond b (Some (length (built p))) None → (b ≡ true) × (count ≡ length (built p))
+      all-fit true e = (refl, cc)
+      all-fit false e = absurd (some-none (sym f ∙ e))
+
       fits-so : built_fit p s₀ ≡ true
-      fits-so = sym w.fits_is ∙ f
+      fits-so = (all-fit (built_fit p s₀) w.answer_is).0
+
+      pub count-is : count ≡ length (built p)
+      count-is = (all-fit (built_fit p s₀) w.answer_is).1
 
       fit : length (built p) ≤ min (length s₀) 65535
       unfolding built_fit places
@@ -68,12 +69,12 @@ module _ {p : Policy} {s₀ l₀ t₀ k₀ : List ℕ} (z : Sized p s₀ l₀ t�
           let h = mul-le-mul_right p.letters q in
           (omega (arith, h, mul_comm p.letters (length (built p)), mul_comm p.letters (length s₀), z.targets_long), omega (arith, h, mul_comm p.letters (length (built p)), mul_comm p.letters (length s₀), z.priorities_long))
 
-      pub built-whole : {t k : List ℕ} {at : ℕ} → t ≡ padded (length t₀) (row_targets p) → k ≡ padded (length k₀) (row_priorities p) → at ≡ start p → Builds p s₀ l₀ t₀ k₀ (Whole count at) s l t k
+      pub built-whole : {t k : List ℕ} {at : ℕ} → t ≡ padded (length t₀) (row_targets p) → k ≡ padded (length k₀) (row_priorities p) → at ≡ start p → Builds p s₀ l₀ t₀ k₀ (Some (record { states = count; start = at })) s l t k
       unfolding building_of
       built-whole et ek ea = record {
-        answer_is = rw fits-so (ap₂ (λ (c a : ℕ). Whole c a) w.count_is ea);
+        answer_is = rw fits-so (ap₂ (λ (c a : ℕ). Some (building c a)) count-is ea);
         number_is = rw fits-so refl;
-        counts_are = rw fits-so (ap₂ (λ (c a : ℕ). c ∷ a ∷ []) w.count_is ea);
+        counts_are = rw fits-so (ap₂ (λ (c a : ℕ). c ∷ a ∷ []) count-is ea);
         sources_are = w.sources_are;
         leaves_are = w.leaves_are;
         targets_are = rw fits-so et;
@@ -81,8 +82,12 @@ module _ {p : Policy} {s₀ l₀ t₀ k₀ : List ℕ} (z : Sized p s₀ l₀ t�
       }
 
     -- where they do not, and the row tables are cleared
-    pub built-none : fits ≡ false → {t k : List ℕ} → t ≡ zeros t₀ → k ≡ zeros k₀ → Builds p s₀ l₀ t₀ k₀ TooMany s l t k
+    pub built-none : answer ≡ None → {t k : List ℕ} → t ≡ zeros t₀ → k ≡ zeros k₀ → Builds p s₀ l₀ t₀ k₀ None s l t k
     unfolding building_of
     built-none f et ek =
-        let fits_not : built_fit p s₀ ≡ false = sym w.fits_is ∙ f in
+        let fits_not : built_fit p s₀ ≡ false = go (built_fit p s₀) w.answer_is in
         record { answer_is = rw fits_not refl; number_is = rw fits_not refl; counts_are = rw fits_not refl; sources_are = w.sources_are; leaves_are = w.leaves_are; targets_are = rw fits_not et; priorities_are = rw fits_not ek }
+      where
+        go : (b : Bool) → answer ≡ cond b (Some (length (built p))) None → b ≡ false
+        go true e = absurd (some-none (sym e ∙ f))
+        go false e = refl

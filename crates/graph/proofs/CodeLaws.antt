@@ -273,6 +273,13 @@ graph-fits p states letters heads g =
       are_states = λ e l. subst (λ (t : List ℕ). get_or t e 0 < 16) (sym g.heads_are) (omega (arith, legal-target p g.lawful e (omega (arith, is, l)), k.states_few));
     }
 
+-- of a legal policy: its own graph
+pub own_graph : (p : Policy) → legal p ≡ true → GraphOf p p.states p.letters p.target
+own_graph p lawful = record { lawful = lawful; states_are = refl; letters_are = refl; heads_are = refl }
+
+pub own_fits : (p : Policy) → legal p ≡ true → Fits p.states p.letters p.target
+own_fits p lawful = graph-fits p p.states p.letters p.target (own_graph p lawful)
+
 -- the edges of a state are edges
 pub row_within : (v n l : ℕ) → v < n → v * l + l ≤ n * l
 row_within v n l h = omega (arith, mul-le-mul_right l h, suc-mul v l)

@@ -1,12 +1,46 @@
-// Paths and cycles of a policy's graph, which is given by the numbers of states and letters and by the heads, the targets
-// of its edges: a policy itself would be copied at each call. A set of states is a mask, as a set of edges is. The rows of
-// an edge set m: row v has the states that v reaches inside m by one edge or more.
+// Paths and cycles of a policy's graph. A set of states is a mask, as a set of edges is. The rows of an edge set m: row v has
+// the states that v reaches inside m by one edge or more.
 #![tactic(auto)]
 
 ghost use Rattle.std.specs.Prelude.{ℕ, ◌≡◌, true, ◌+◌, ◌*◌, ◌<◌, ◌≤◌, length, get_or};
 ghost use Rattle.masks.specs.Masks.{has};
-ghost use Rattle.policy.specs.declared.Policy.{Policy};
-ghost use Rattle.graph.specs.Through.{GraphOf, Rows, own_edges, leaving, entering, with_target, edge_row, edge_rows, AreStates, join_row, join_rows, states_on_cycles, cycle_states, between};
+ghost use Rattle.policy.specs.Policies.{legal};
+ghost use Rattle.policy.specs.ByColour.{by_colour};
+ghost use Rattle.graph.specs.Through.{EndsOf, Rows, own_edges, leaving, entering, with_target, edge_row, edge_rows, AreStates, join_row, join_rows, states_on_cycles, cycle_states, between};
+
+use policy::Policy;
+
+// A legal policy with its tables of edges: those that leave and that enter each state, and those of each colour.
+#[derive(Drop)]
+pub struct Graph<'a> {
+    pub policy: &'a Policy,
+    pub out: [u64; 16],
+    pub into: [u64; 16],
+    pub by: [u64; 9],
+    ghost lawful: { legal policy.now ≡ true },
+    ghost ends: { EndsOf policy.now out into },
+    ghost by_is: { by ≡ by_colour policy.now },
+}
+
+impl<'a> Graph<'a> {
+    // The tables of a policy, made once.
+    pub fn new(policy: &'a Policy) -> Graph<'a>
+        requires { legal policy.now ≡ true }
+        ensures { result.policy.now ≡ policy.now }
+    {
+        let states = policy.states as usize;
+        let letters = policy.letters as usize;
+        let out = edges_out(states, letters);
+        let into = edges_into(&policy.target, states * letters);
+        let by = policy::by_colour(policy);
+        Graph {
+            policy,
+            out,
+            into,
+            by,
+        }
+    }
+}
 
 // ---- the rows
 
@@ -64,11 +98,13 @@ fn join_rows(rows: &mut [u16; 16], k: usize)
 }
 
 // The rows of m, whatever they held before. Nothing is said of rows past the states.
-pub fn reach_all(states: usize, letters: usize, heads: &[u8; 64], m: u64, rows: &mut [u16; 16])
-    requires { ((p : Policy) × GraphOf p states letters heads.now) × (length rows.old ≡ 16) }
-    ensures { ((p : Policy) → GraphOf p states letters heads.now → Rows p m rows.new) × (length rows.new ≡ 16) }
+pub fn reach_all(g: &Graph<'_>, m: u64, rows: &mut [u16; 16])
+    requires { length rows.old ≡ 16 }
+    ensures { Rows g.now.policy.now m rows.new × (length rows.new ≡ 16) }
 {
-    edge_rows(states, letters, heads, m, rows);
+    let p = g.policy;
+    let states = p.states as usize;
+    edge_rows(states, p.letters as usize, &p.target, m, rows);
     for k in 0..states {
         join_rows(rows, k);
     }
@@ -76,21 +112,14 @@ pub fn reach_all(states: usize, letters: usize, heads: &[u8; 64], m: u64, rows: 
 
 // ---- the largest cycle through a state: the edges of m between the states on it
 
-// A row as a set of states.
-fn wide(row: u16) -> u64
-    ensures { result ≡ row }
-{
-    row as u64
-}
-
 // The states on cycles: those that are in their own rows.
-pub fn states_on_cycles(states: usize, rows: &[u16; 16]) -> u64
-    requires { states ≤ 16 }
-    ensures { result ≡ states_on_cycles rows.now states }
+pub fn states_on_cycles(g: &Graph<'_>, rows: &[u16; 16]) -> u64
+    ensures { result ≡ states_on_cycles rows.now g.now.policy.now.states }
 {
+    let states = g.policy.states as usize;
     let mut s: u64 = 0;
     for w in 0..states {
-        s = masks::with_if(s, w, masks::has(wide(rows[w]), w));
+        s = masks::with_if(s, w, masks::has(rows[w] as u64, w));
     }
     s
 }
@@ -105,20 +134,20 @@ pub fn cycle_states(rows: &[u16; 16], v: usize) -> u64
     for w in 0..16 {
         s = masks::with_if(s, w, rows[w] == row);
     }
-    masks::both(s, wide(row))
+    masks::both(s, row as u64)
 }
 
 // The edges of m between states of s, by the tables of the edges that leave and enter each state. The tables are read before
 // the test, so that there is no branch.
-pub fn edges_between(states: usize, out: &[u64; 16], into: &[u64; 16], m: u64, s: u64) -> u64
-    requires { states ≤ 16 }
-    ensures { result ≡ between out.now into.now m s states }
+pub fn edges_between(g: &Graph<'_>, m: u64, s: u64) -> u64
+    ensures { result ≡ between g.now.out g.now.into m s g.now.policy.now.states }
 {
+    let states = g.policy.states as usize;
     let mut a: u64 = 0;
     let mut b: u64 = 0;
     for v in 0..states {
-        let x = out[v];
-        let y = into[v];
+        let x = g.out[v];
+        let y = g.into[v];
         if masks::has(s, v) {
             a = masks::either(a, x);
             b = masks::either(b, y);
@@ -128,17 +157,17 @@ pub fn edges_between(states: usize, out: &[u64; 16], into: &[u64; 16], m: u64, s
 }
 
 // The same, through the members of s alone: faster where they are few.
-pub fn edges_among(states: usize, out: &[u64; 16], into: &[u64; 16], m: u64, s: u64) -> u64
-    requires { (states ≤ 16) × ((v : ℕ) → has s v ≡ true → v < states) }
-    ensures { result ≡ between out.now into.now m s states }
+pub fn edges_among(g: &Graph<'_>, m: u64, s: u64) -> u64
+    requires { (v : ℕ) → has s v ≡ true → v < g.now.policy.now.states }
+    ensures { result ≡ between g.now.out g.now.into m s g.now.policy.now.states }
 {
     let mut a: u64 = 0;
     let mut b: u64 = 0;
     let mut left = s;
     while left != 0 {
         let v = masks::lowest(left);
-        a = masks::either(a, out[v]);
-        b = masks::either(b, into[v]);
+        a = masks::either(a, g.out[v]);
+        b = masks::either(b, g.into[v]);
         left = masks::both(left, left - 1);
     }
     masks::both(masks::both(a, b), m)

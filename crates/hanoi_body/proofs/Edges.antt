@@ -2,11 +2,12 @@
 use Prim.Native.Nat.{ℕ, ◌+◌, ◌*◌, ◌%◌, ◌^◌, ◌≤◌, ◌<◌}
 use native.Mathlib.Omega.{arith}
 use mathlib.Core.Path.{◌≡◌, refl, sym, ap, ap₂, ◌∙◌}
-use mathlib.Core.Bool.{true, false, false≢true, true≢false}
+use mathlib.Core.Bool.{false}
 use mathlib.Core.List.{List, [], ◌∷◌, ◌++◌}
 use lib.Bits.{bit_or, or_zero_l}
 use lib.Dec.{eqb}
 use lib.ListN.{length, get_or}
+use Rattle.std.specs.Prelude.{Result, Ok, Err}
 use Rattle.lists.proofs.Bools.{neqb, lt-true}
 use Rattle.masks.specs.Masks.{insert, set_of}
 use Rattle.masks.proofs.Bits.{shl_one}
@@ -16,14 +17,15 @@ use Rattle.hanoi.specs.Documents.{Formula, Edge, plain, marked}
 use Rattle.hanoi.specs.Meaning.{mark_set}
 use Rattle.hanoi.specs.Offers.{takes_name, between, dead, word_on, begin_word, begin, byte_at, step_byte}
 use Rattle.hanoi.specs.Reader.{Head, At, edges, target, braces, row_over, edge_next, row_next, offers}
+use Rattle.hanoi_tokens.specs.declared.Stop.{Stop}
 use Rattle.hanoi_tokens.specs.declared.Begun.{Begun}
 use Rattle.hanoi_tokens.specs.declared.Number.{Number}
 use Rattle.hanoi_tokens.specs.declared.Wanted.TheVariants.{Below}
-use Rattle.hanoi_tokens.specs.Moves.{Moves, Stops, Reads}
+use Rattle.hanoi_tokens.specs.Moves.{Moves, Stops, ReadsTo}
 use Rattle.hanoi_tokens.specs.Tokens.{Begins, numbers_for, ReadsDigits}
 use Rattle.hanoi_tokens.proofs.Moves.{neither, stay, moves-on, moves-stops, moves-reads, one}
 use Rattle.hanoi_body.specs.declared.Marks.{Marks}
-use Rattle.hanoi_body.specs.Edges.{stopped_at, ReadsMarks, EdgeAt, ReadsEdge}
+use Rattle.hanoi_body.specs.Edges.{ReadsMarks, EdgeAt, ReadsEdge}
 
 -- ---- bytes
 module _ (h : Head) (f : Formula) (rs : List (List Edge)) (es : List Edge) where
@@ -89,51 +91,45 @@ module _ (text : List ℕ) (m sets : ℕ) where
   pub marking-none : m ≤ length text → Marking m 0
   marking-none l = record { within = l; moves = λ h f rs es t e. ([], set-none, stay text m (between false (braces h f rs es t [])) l) }
 
-  pub marks-stopped : (n : ℕ) → ((h : Head) (f : Formula) (rs : List (List Edge)) (es : List Edge) (t : ℕ) → h.sets ≡ sets → Stops text m (between false (braces h f rs es t [])) n)
-      → ReadsMarks text m sets (record { at = n; marks = 0; ok = false })
-  marks-stopped n k = record { within = λ e. absurd (false≢true e); moves = λ h f rs es t o e. absurd (false≢true e); stops = λ h f rs es t o e. k h f rs es t o }
+  module _ (i marks : ℕ) (k : Marking i marks) where
+    pub marking-breaks : (e : Stop) → Begins text i false (Err e) → ReadsMarks text m sets (Err e)
+    marking-breaks e g = record { within = tt; moves = tt; stops = λ h f rs es t o. let q = k.moves h f rs es t o in moves-stops text q.2 (g.reads (braces h f rs es t q.0) (λ x. refl)) }
 
-  module _ (i marks : ℕ) (k : Marking i marks) (b : Begun) (g : Begins text i false b) where
-    pub marking-breaks : b.ok ≡ false → ReadsMarks text m sets (record { at = b.at; marks = 0; ok = false })
-    marking-breaks ok = marks-stopped b.at (λ h f rs es t o. let q = k.moves h f rs es t o in moves-stops text q.2 ((g.reads (braces h f rs es t q.0) (λ x. refl)).stops ok))
-
-    module _ (ok : b.ok ≡ true) where
+    module _ (b : Begun) (g : Begins text i false (Ok b)) where
       -- at the first byte of the next token
       at-token : (h : Head) (f : Formula) (rs : List (List Edge)) (es : List Edge) (t : ℕ) → h.sets ≡ sets
           → (ms : List ℕ) × (marks ≡ set_of ms) × Moves text m (between false (braces h f rs es t [])) b.at (between false (braces h f rs es t ms))
-      at-token h f rs es t o = let q = k.moves h f rs es t o in (q.0, q.1, moves-on text q.2 ((g.reads (braces h f rs es t q.0) (λ x. refl)).moves ok))
+      at-token h f rs es t o = let q = k.moves h f rs es t o in (q.0, q.1, moves-on text q.2 (g.reads (braces h f rs es t q.0) (λ x. refl)))
 
-      mark-byte : b.byte ≡ get_or text b.at 0
-      mark-byte = g.byte_is ok
-
-      pub marking-closed : b.byte ≡ 125 → ReadsMarks text m sets (record { at = b.at + 1; marks = marks; ok = true })
+      pub marking-closed : b.byte ≡ 125 → ReadsMarks text m sets (Ok (record { at = b.at + 1; marks = marks }))
       marking-closed c = record {
-        within = λ e. let l = g.there ok in omega (arith, l);
+        within = let l = g.there in omega (arith, l);
         moves =
-            λ h f rs es t o e. let q = at-token h f rs es t o in
-            (q.0, q.1, moves-on text q.2 (one text (g.there ok) (ap (step_byte offers (between false (braces h f rs es t q.0))) (sym mark-byte ∙ c) ∙ step-closes h f rs es t q.0) refl));
-        stops = λ h f rs es t o e. absurd (true≢false e);
+            λ h f rs es t o. let q = at-token h f rs es t o in
+            (q.0, q.1, moves-on text q.2 (one text g.there (ap (step_byte offers (between false (braces h f rs es t q.0))) (sym g.byte_is ∙ c) ∙ step-closes h f rs es t q.0) refl));
+        stops = tt;
       }
 
-      module _ (other : b.byte ≡ 125 → ⊥) (d : Number) (r : ReadsDigits text b.at (Below sets) d) where
-        reads : (h : Head) (f : Formula) (rs : List (List Edge)) (es : List Edge) (t : ℕ) → h.sets ≡ sets → (ms : List ℕ)
-            → Reads text b.at (between false (braces h f rs es t ms)) d.ok d.at (between false (braces h f rs es t (ms ++ (d.value ∷ []))))
-        reads h f rs es t o ms =
+      module _ (other : b.byte ≡ 125 → ⊥) where
+        reads : (d : Result Number Stop) → ReadsDigits text b.at (Below sets) d → (h : Head) (f : Formula) (rs : List (List Edge)) (es : List Edge) (t : ℕ) → h.sets ≡ sets → (ms : List ℕ)
+            → ReadsTo text b.at (between false (braces h f rs es t ms)) d (λ x. x.at) (λ x. between false (braces h f rs es t (ms ++ (x.value ∷ []))))
+        reads d r h f rs es t o ms =
             r.reads (braces h f rs es t ms) (λ m. braces h f rs es t (ms ++ (m ∷ []))) (mark-numbers h f rs es t ms ∙ ap (λ (k : ℕ). numbers_for (Below k) (λ m. braces h f rs es t (ms ++ (m ∷ [])))) o)
-            (λ n. no-mark h f rs es t ms (get_or text b.at 0) (ap white (sym mark-byte) ∙ g.other ok) (ap (λ (x : ℕ). eqb x 125) (sym mark-byte) ∙ neqb b.byte 125 other) n)
+            (λ n. no-mark h f rs es t ms (get_or text b.at 0) (ap white (sym g.byte_is) ∙ g.other) (ap (λ (x : ℕ). eqb x 125) (sym g.byte_is) ∙ neqb b.byte 125 other) n)
 
-        pub marking-not : d.ok ≡ false → ReadsMarks text m sets (record { at = d.at; marks = 0; ok = false })
-        marking-not n = marks-stopped d.at (λ h f rs es t o. let q = at-token h f rs es t o in moves-stops text q.2 ((reads h f rs es t o q.0).stops n))
+        pub marking-not : (e : Stop) → ReadsDigits text b.at (Below sets) (Err e) → ReadsMarks text m sets (Err e)
+        marking-not e r = record { within = tt; moves = tt; stops = λ h f rs es t o. let q = at-token h f rs es t o in moves-stops text q.2 (reads (Err e) r h f rs es t o q.0) }
 
-        pub mark-small : sets ≤ 32 → d.ok ≡ true → d.value < 32
-        mark-small few n = let l = lt-true d.value sets (r.taken n) in omega (arith, l, few)
+        module _ (d : Number) (r : ReadsDigits text b.at (Below sets) (Ok d)) (few : sets ≤ 32) where
+          pub mark-small : d.value < 32
+          mark-small = let l = lt-true d.value sets r.taken in omega (arith, l, few)
 
-        pub marking-more : sets ≤ 32 → d.ok ≡ true → Marking d.at (bit_or marks (1 * 2 ^ d.value % 4294967296))
-        marking-more few n = record {
-          within = r.within n;
-          moves = λ h f rs es t o. let q = at-token h f rs es t o in
-              (q.0 ++ (d.value ∷ []), ap₂ bit_or q.1 (shl_one 32 d.value (mark-small few n)) ∙ set_more q.0 d.value, moves-on text q.2 ((reads h f rs es t o q.0).moves n));
-        }
+          pub marking-more : Marking d.at (bit_or marks (1 * 2 ^ d.value % 4294967296))
+          marking-more = record {
+            within = r.within;
+            moves = λ h f rs es t o. let q = at-token h f rs es t o in
+                (q.0 ++ (d.value ∷ []), ap₂ bit_or q.1 (shl_one 32 d.value mark-small) ∙ set_more q.0 d.value, moves-on text q.2 (reads (Ok d) r h f rs es t o q.0));
+          }
 
 -- ---- edges
 mark-none : (t : ℕ) → 0 ≡ mark_set (plain t)
@@ -145,69 +141,72 @@ unfolding mark_set
 mark-set t ms = refl
 
 module _ (text : List ℕ) (m states sets : ℕ) where
-  stopped : (n : ℕ) → ((w : EdgeAt text m states sets) → Stops text m (between false w.state) n) → ReadsEdge text m states sets (stopped_at n)
-  stopped n k = record { there = λ e. absurd (false≢true e); below = λ e. absurd (false≢true e); follows = λ w e. absurd (false≢true e); stops = λ w e. k w }
+  stopped : (e : Stop) → ((w : EdgeAt text m states sets) → Stops text m (between false w.state) e.at) → ReadsEdge text m states sets (Err e)
+  stopped e k = record { there = tt; below = tt; follows = tt; stops = k }
 
-  module _ (t : Number) (k : ReadsDigits text m (Below states) t) where
-    reads-target : (w : EdgeAt text m states sets) → Reads text m (between false w.state) t.ok t.at (between false (target w.head w.formula w.rows w.row t.value))
-    reads-target w =
-        let to = target w.head w.formula w.rows w.row in
-        k.reads w.state to (w.behind.numbers_are ∙ (edge-numbers w.head w.formula w.rows w.row w.more ∙ ap (λ (x : ℕ). numbers_for (Below x) to) w.states_are))
-        (λ d. w.behind.others_are d ∙ no_edge w.head w.formula w.rows w.row (get_or text m 0) w.more w.behind.begins d)
+  reads-target : (t : Result Number Stop) → ReadsDigits text m (Below states) t → (w : EdgeAt text m states sets)
+      → ReadsTo text m (between false w.state) t (λ x. x.at) (λ x. between false (target w.head w.formula w.rows w.row x.value))
+  reads-target t k w =
+      let to = target w.head w.formula w.rows w.row in
+      k.reads w.state to (w.behind.numbers_are ∙ (edge-numbers w.head w.formula w.rows w.row w.more ∙ ap (λ (x : ℕ). numbers_for (Below x) to) w.states_are))
+      (λ d. w.behind.others_are d ∙ no_edge w.head w.formula w.rows w.row (get_or text m 0) w.more w.behind.begins d)
 
-    pub edge_none : t.ok ≡ false → ReadsEdge text m states sets (stopped_at t.at)
-    edge_none bad = stopped t.at (λ w. (reads-target w).stops bad)
+  pub edge_none : (e : Stop) → ReadsDigits text m (Below states) (Err e) → ReadsEdge text m states sets (Err e)
+  edge_none e k = stopped e (reads-target (Err e) k)
 
-    module _ (yes : t.ok ≡ true) (b : Begun) (g : Begins text t.at false b) where
-      small : t.value < states
-      small = lt-true t.value states (k.taken yes)
+  module _ (t : Number) (k : ReadsDigits text m (Below states) (Ok t)) where
+    small : t.value < states
+    small = lt-true t.value states k.taken
 
-      -- the state behind the target
-      abbrev behind : EdgeAt text m states sets → At
-      behind w = target w.head w.formula w.rows w.row t.value
+    -- the state behind the target
+    abbrev behind : EdgeAt text m states sets → At
+    behind w = target w.head w.formula w.rows w.row t.value
 
-      at_next : (w : EdgeAt text m states sets) → Reads text m (between false w.state) b.ok b.at (between false (behind w))
-      at_next w = moves-reads text ((reads-target w).moves yes) (g.reads (behind w) (λ x. refl))
+    at_next : (b : Result Begun Stop) → Begins text t.at false b → (w : EdgeAt text m states sets) → ReadsTo text m (between false w.state) b (λ x. x.at) (λ x. between false (behind w))
+    at_next b g w = moves-reads text b (λ (x : Begun). x.at) (λ (x : Begun). between false (behind w)) (reads-target (Ok t) k w) (g.reads (behind w) (λ x. refl))
 
-      pub edge-breaks : b.ok ≡ false → ReadsEdge text m states sets (stopped_at b.at)
-      edge-breaks bad = stopped b.at (λ w. (at_next w).stops bad)
+    pub edge-breaks : (e : Stop) → Begins text t.at false (Err e) → ReadsEdge text m states sets (Err e)
+    edge-breaks e g = stopped e (at_next (Err e) g)
 
-      module _ (ok : b.ok ≡ true) where
-        byte : b.byte ≡ get_or text b.at 0
-        byte = g.byte_is ok
-
-        pub edge-plain : (b.byte ≡ 123 → ⊥) → ReadsEdge text m states sets (record { at = b.at; target = t.value; marks = 0; ok = true })
-        edge-plain other = record {
-          there = λ e. g.there ok;
-          below = λ e. small;
-          follows = λ w e. record {
-            edge = plain t.value;
-            state = behind w;
-            target_is = refl;
-            marks_are = mark-none t.value;
-            behind = record {
-              begins = ap white (sym byte) ∙ g.other ok;
-              numbers_are = target-numbers w.head w.formula w.rows w.row t.value;
-              others_are = no-marks w.head w.formula w.rows w.row t.value (get_or text b.at 0) (ap white (sym byte) ∙ g.other ok) (ap (λ (x : ℕ). eqb x 123) (sym byte) ∙ neqb b.byte 123 other);
-            };
-            moves = (at_next w).moves ok;
+    module _ (b : Begun) (g : Begins text t.at false (Ok b)) where
+      pub edge-plain : (b.byte ≡ 123 → ⊥) → ReadsEdge text m states sets (Ok (record { at = b.at; target = t.value; marks = 0 }))
+      edge-plain other = record {
+        there = g.there;
+        below = small;
+        follows = λ w. record {
+          edge = plain t.value;
+          state = behind w;
+          target_is = refl;
+          marks_are = mark-none t.value;
+          behind = record {
+            begins = ap white (sym g.byte_is) ∙ g.other;
+            numbers_are = target-numbers w.head w.formula w.rows w.row t.value;
+            others_are = no-marks w.head w.formula w.rows w.row t.value (get_or text b.at 0) (ap white (sym g.byte_is) ∙ g.other) (ap (λ (x : ℕ). eqb x 123) (sym g.byte_is) ∙ neqb b.byte 123 other);
           };
-          stops = λ w e. absurd (true≢false e);
-        }
+          moves = at_next (Ok b) g w;
+        };
+        stops = tt;
+      }
 
-        module _ (opens : b.byte ≡ 123) (r : Marks) (q : ReadsMarks text (b.at + 1) sets r) where
-          at-marks : (w : EdgeAt text m states sets) → Moves text m (between false w.state) (b.at + 1) (between false (braces w.head w.formula w.rows w.row t.value []))
-          at-marks w = moves-on text ((at_next w).moves ok) (one text (g.there ok) (ap (step_byte offers (between false (behind w))) (sym byte ∙ opens) ∙ step-opens w.head w.formula w.rows w.row t.value) refl)
+      module _ (opens : b.byte ≡ 123) where
+        at-marks : (w : EdgeAt text m states sets) → Moves text m (between false w.state) (b.at + 1) (between false (braces w.head w.formula w.rows w.row t.value []))
+        at-marks w = moves-on text (at_next (Ok b) g w) (one text g.there (ap (step_byte offers (between false (behind w))) (sym g.byte_is ∙ opens) ∙ step-opens w.head w.formula w.rows w.row t.value) refl)
 
-          pub edge-unmarked : r.ok ≡ false → ReadsEdge text m states sets (stopped_at r.at)
-          edge-unmarked bad = stopped r.at (λ w. moves-stops text (at-marks w) (q.stops w.head w.formula w.rows w.row t.value w.sets_are bad))
+        pub edge-unmarked : (e : Stop) → ReadsMarks text (b.at + 1) sets (Err e) → ReadsEdge text m states sets (Err e)
+        edge-unmarked e q = stopped e (λ w. moves-stops text (at-marks w) (q.stops w.head w.formula w.rows w.row t.value w.sets_are))
 
-          pub edge-marked : r.ok ≡ true → (n : Begun) → Begins text r.at false n → ReadsEdge text m states sets (record { at = n.at; target = t.value; marks = r.marks; ok = n.ok })
-          edge-marked marks-ok n l = record {
+        module _ (r : Marks) (q : ReadsMarks text (b.at + 1) sets (Ok r)) where
+          pub edge-open : (e : Stop) → Begins text r.at false (Err e) → ReadsEdge text m states sets (Err e)
+          edge-open e l = stopped e (λ w.
+              let p = q.moves w.head w.formula w.rows w.row t.value w.sets_are in
+              moves-stops text (moves-on text (at-marks w) p.2) (l.reads (edges w.head w.formula w.rows (w.row ++ (marked t.value p.0 ∷ []))) (λ x. refl)))
+
+          pub edge-marked : (n : Begun) → Begins text r.at false (Ok n) → ReadsEdge text m states sets (Ok (record { at = n.at; target = t.value; marks = r.marks }))
+          edge-marked n l = record {
             there = l.there;
-            below = λ e. small;
-            follows = λ w e.
-                let p = q.moves w.head w.formula w.rows w.row t.value w.sets_are marks-ok in
+            below = small;
+            follows = λ w.
+                let p = q.moves w.head w.formula w.rows w.row t.value w.sets_are in
                 let s = edges w.head w.formula w.rows (w.row ++ (marked t.value p.0 ∷ [])) in
                 record {
                   edge = marked t.value p.0;
@@ -215,14 +214,11 @@ module _ (text : List ℕ) (m states sets : ℕ) where
                   target_is = refl;
                   marks_are = p.1 ∙ mark-set t.value p.0;
                   behind = record {
-                    begins = ap white (sym (l.byte_is e)) ∙ l.other e;
+                    begins = ap white (sym l.byte_is) ∙ l.other;
                     numbers_are = edges-numbers w.head w.formula w.rows (w.row ++ (marked t.value p.0 ∷ []));
                     others_are = λ d. refl;
                   };
-                  moves = moves-on text (at-marks w) (moves-on text p.2 ((l.reads s (λ x. refl)).moves e));
+                  moves = moves-on text (at-marks w) (moves-on text p.2 (l.reads s (λ x. refl)));
                 };
-            stops = λ w e.
-                let p = q.moves w.head w.formula w.rows w.row t.value w.sets_are marks-ok in
-                let s = edges w.head w.formula w.rows (w.row ++ (marked t.value p.0 ∷ [])) in
-                moves-stops text (moves-on text (at-marks w) p.2) ((l.reads s (λ x. refl)).stops e);
+            stops = tt;
           }

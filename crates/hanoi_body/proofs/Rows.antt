@@ -4,11 +4,12 @@ use native.Mathlib.Omega.{arith}
 use native.Mathlib.Nat.{mul-le-mul_right, suc-mul}
 use mathlib.Core.Path.{◌≡◌, refl, sym, ap, ap₂, ◌∙◌, subst}
 use mathlib.Core.Logic.{◌⊎◌, inl, inr}
-use mathlib.Core.Bool.{Bool, true, false, cond, true≢false}
+use mathlib.Core.Bool.{Bool, true, false, cond}
 use mathlib.Core.List.{List, [], ◌∷◌, ◌++◌, map, map-append, append_assoc, append-nil}
 use lib.Dec.{eqb, ltb}
 use lib.ListN.{length, get_or, set, replicate, drop_of_length-le, length-append, length-map}
 use lib.Seq.{set_at}
+use Rattle.std.specs.Prelude.{Result, Ok, Err}
 use Rattle.lists.specs.Lists.{flat}
 use Rattle.lists.proofs.Bools.{test, ≡eqb, neqb}
 use Rattle.hanoi.specs.Words as w
@@ -19,10 +20,10 @@ use Rattle.hanoi.specs.Offers.{no_number, exactly, no_name, takes, takes_name, S
 use Rattle.hanoi.specs.Reader.{Head, At, body, state_number, edges, finished, document_of, on, offer, only, row_over, edge_next, row_next, offers}
 use Rattle.hanoi.proofs.Digits.{lt_yes}
 use Rattle.hanoi_tokens.specs.declared.Begun.{Begun}
-use Rattle.hanoi_tokens.specs.declared.Taken.{Taken}
+use Rattle.hanoi_tokens.specs.declared.Stop.{Stop}
 use Rattle.hanoi_tokens.specs.declared.Number.{Number}
 use Rattle.hanoi_tokens.specs.declared.Wanted.TheVariants.{Exactly}
-use Rattle.hanoi_tokens.specs.Moves.{Moves, Stops, Reads, Unfinished}
+use Rattle.hanoi_tokens.specs.Moves.{Moves, Stops, ReadsTo, Reads, Unfinished}
 use Rattle.hanoi_tokens.specs.Tokens.{Skips, Begins, ReadsWord, numbers_for, ReadsNumber}
 use Rattle.hanoi_tokens.proofs.Moves.{moves-on, moves-stops, moves-reads, none, alike}
 use Rattle.hanoi_body.specs.declared.Step.{Step}
@@ -36,51 +37,44 @@ use Rattle.hanoi_body.proofs.Edges.{edges-numbers}
 abbrev somewhere : Head
 somewhere = record { states = 0; start = 0; names = []; sets = 0 }
 
-pub state-within : (text bytes : List ℕ) (m : ℕ) (t : Taken) → bytes ≡ spelling w.State → ReadsWord text m false bytes t → t.ok ≡ true → t.at ≤ length text
+pub state-within : (text bytes : List ℕ) (m n : ℕ) → bytes ≡ spelling w.State → ReadsWord text m false bytes (Ok n) → n ≤ length text
 unfolding offers
-state-within text bytes m t is k ok = ((k (body somewhere (truth true)) (state_number somewhere (truth true) []) w.State is refl (λ x. refl)).moves ok).within
+state-within text bytes m n is k = (k (body somewhere (truth true)) (state_number somewhere (truth true) []) w.State is refl (λ x. refl)).within
 
-pub end-within : (text bytes : List ℕ) (m : ℕ) (t : Taken) → bytes ≡ spelling w.End → ReadsWord text m false bytes t → t.ok ≡ true → t.at ≤ length text
+pub end-within : (text bytes : List ℕ) (m n : ℕ) → bytes ≡ spelling w.End → ReadsWord text m false bytes (Ok n) → n ≤ length text
 unfolding offers row_next edge_next row_over
-end-within text bytes m t is k ok =
+end-within text bytes m n is k =
     let es = plain 0 ∷ [] in
-    ((k (edges somewhere (truth true) [] es) (finished (document_of somewhere (truth true) (es ∷ []))) w.End is refl (λ x. refl)).moves ok).within
+    (k (edges somewhere (truth true) [] es) (finished (document_of somewhere (truth true) (es ∷ []))) w.End is refl (λ x. refl)).within
 
 -- ---- the number of a state
 number-alone : (h : Head) (f : Formula) (rs : List (List Edge)) (row : ℕ) → length rs ≡ row → offers (state_number h f rs) ≡ offer [] (numbers_for (Exactly row) (λ v. edges h f rs [])) no_name
 unfolding offers numbers_for
 number-alone h f rs row e = ap (λ (k : ℕ). offer [] (exactly k (edges h f rs [])) no_name) e
 
-module _ (text : List ℕ) (m row : ℕ) where
-  state-stopped : (r : Taken) → r.ok ≡ false
-      → ((h : Head) (f : Formula) (rs : List (List Edge)) (s : At) → length rs ≡ row → offers s ≡ only w.State (state_number h f rs) → Unfinished s → Stops text m (between false s) r.at) → ReadsState text m row r
-  state-stopped r bad k = record {
-    there = λ e. absurd (true≢false (sym e ∙ bad));
-    begins = λ e. absurd (true≢false (sym e ∙ bad));
-    reads = λ h f rs s l o u. record { moves = λ e. absurd (true≢false (sym e ∙ bad)); stops = λ e. k h f rs s l o u };
-  }
+module _ (text : List ℕ) (m row : ℕ) (bytes : List ℕ) (is : bytes ≡ spelling w.State) where
+  pub state-no-word : (e : Stop) → ReadsWord text m false bytes (Err e) → ReadsState text m row (Err e)
+  state-no-word e k = record { there = tt; begins = tt; reads = λ h f rs s l o u. k s (state_number h f rs) w.State is o u }
 
-  module _ (bytes : List ℕ) (t : Taken) (is : bytes ≡ spelling w.State) (k : ReadsWord text m false bytes t) where
-    at_number : (h : Head) (f : Formula) (rs : List (List Edge)) (s : At) → offers s ≡ only w.State (state_number h f rs) → Unfinished s
-        → Reads text m (between false s) t.ok t.at (between false (state_number h f rs))
-    at_number h f rs s o u = k s (state_number h f rs) w.State is o u
+  module _ (t : ℕ) (k : ReadsWord text m false bytes (Ok t)) where
+    at_edges : (n : Result Number Stop) → ReadsNumber text t (Exactly row) n → (h : Head) (f : Formula) (rs : List (List Edge)) (s : At) → length rs ≡ row → offers s ≡ only w.State (state_number h f rs) → Unfinished s
+        → ReadsTo text m (between false s) n (λ x. x.at) (λ x. between false (edges h f rs []))
+    at_edges n q h f rs s l o u =
+        moves-reads text n (λ (x : Number). x.at) (λ (x : Number). between false (edges h f rs [])) (k s (state_number h f rs) w.State is o u)
+        (q.reads (state_number h f rs) (λ v. edges h f rs []) (number-alone h f rs row l) (λ x. refl))
 
-    pub state-no-word : t.ok ≡ false → ReadsState text m row t
-    state-no-word bad = state-stopped t bad (λ h f rs s l o u. (at_number h f rs s o u).stops bad)
+    pub state-no-number : (e : Stop) → ReadsNumber text t (Exactly row) (Err e) → ReadsState text m row (Err e)
+    state-no-number e q = record { there = tt; begins = tt; reads = at_edges (Err e) q }
 
-    module _ (yes : t.ok ≡ true) (n : Number) (q : ReadsNumber text t.at (Exactly row) n) where
-      at_edges : (h : Head) (f : Formula) (rs : List (List Edge)) (s : At) → length rs ≡ row → offers s ≡ only w.State (state_number h f rs) → Unfinished s
-          → Reads text m (between false s) n.ok n.at (between false (edges h f rs []))
-      at_edges h f rs s l o u = moves-reads text ((at_number h f rs s o u).moves yes) (q.reads (state_number h f rs) (λ v. edges h f rs []) (number-alone h f rs row l) (λ x. refl))
+    module _ (n : Number) (q : ReadsNumber text t (Exactly row) (Ok n)) where
+      pub state-no-edge : (e : Stop) → Begins text n.at false (Err e) → ReadsState text m row (Err e)
+      state-no-edge e g = record { there = tt; begins = tt; reads = λ h f rs s l o u. moves-stops text (at_edges (Ok n) q h f rs s l o u) (g.reads (edges h f rs []) (λ x. refl)) }
 
-      pub state-no-number : n.ok ≡ false → ReadsState text m row (record { at = n.at; ok = false })
-      state-no-number bad = state-stopped (record { at = n.at; ok = false }) refl (λ h f rs s l o u. (at_edges h f rs s l o u).stops bad)
-
-      pub state-read : n.ok ≡ true → (b : Begun) → Begins text n.at false b → ReadsState text m row (record { at = b.at; ok = b.ok })
-      state-read ok b g = record {
+      pub state-read : (b : Begun) → Begins text n.at false (Ok b) → ReadsState text m row (Ok b.at)
+      state-read b g = record {
         there = g.there;
-        begins = λ e. ap white (sym (g.byte_is e)) ∙ g.other e;
-        reads = λ h f rs s l o u. moves-reads text ((at_edges h f rs s l o u).moves ok) (g.reads (edges h f rs []) (λ x. refl));
+        begins = ap white (sym g.byte_is) ∙ g.other;
+        reads = λ h f rs s l o u. moves-on text (at_edges (Ok n) q h f rs s l o u) (g.reads (edges h f rs []) (λ x. refl));
       }
 
 -- ---- the end
@@ -93,26 +87,22 @@ nothing-more d b h = rw h (go (digit b) (eqb b 34))
     go false true = refl
     go false false = refl
 
-module _ (text : List ℕ) (m : ℕ) where
-  end-stopped : (r : Taken) → r.ok ≡ false → ((s : At) (d : Document) → offers s ≡ only w.End (finished d) → Unfinished s → Stops text m (between false s) r.at) → ReadsEnd text m r
-  end-stopped r bad k = record { finishes = λ s d o u e. absurd (true≢false (sym e ∙ bad)); stops = λ s d o u e. k s d o u }
+module _ (text : List ℕ) (m : ℕ) (bytes : List ℕ) (is : bytes ≡ spelling w.End) where
+  pub end-no-word : (e : Stop) → ReadsWord text m false bytes (Err e) → ReadsEnd text m (Err e)
+  end-no-word e k = record { finishes = tt; stops = λ s d o u. k s (finished d) w.End is o u }
 
-  module _ (bytes : List ℕ) (t : Taken) (is : bytes ≡ spelling w.End) (k : ReadsWord text m false bytes t) where
-    pub end-no-word : t.ok ≡ false → ReadsEnd text m t
-    end-no-word bad = end-stopped t bad (λ s d o u. (k s (finished d) w.End is o u).stops bad)
+  module _ (t : ℕ) (k : ReadsWord text m false bytes (Ok t)) (i : ℕ) (g : Skips text t i) where
+    at_end : (s : At) (d : Document) → offers s ≡ only w.End (finished d) → Unfinished s → Moves text m (between false s) i (between false (finished d))
+    at_end s d o u = moves-on text (k s (finished d) w.End is o u) (g.moves false (finished d))
 
-    module _ (yes : t.ok ≡ true) (i : ℕ) (g : Skips text t.at i) where
-      at_end : (s : At) (d : Document) → offers s ≡ only w.End (finished d) → Unfinished s → Moves text m (between false s) i (between false (finished d))
-      at_end s d o u = moves-on text ((k s (finished d) w.End is o u).moves yes) (g.moves false (finished d))
+    pub end-other : i < length text → ReadsEnd text m (Err (record { at = i }))
+    end-other h = record { finishes = tt; stops = λ s d o u. moves-stops text (at_end s d o u) (none text h (nothing-more d (get_or text i 0) (g.other h))) }
 
-      pub end-other : i < length text → ReadsEnd text m (record { at = i; ok = false })
-      end-other h = end-stopped (record { at = i; ok = false }) refl (λ s d o u. moves-stops text (at_end s d o u) (none text h (nothing-more d (get_or text i 0) (g.other h))))
-
-      pub end_read : length text ≤ i → ReadsEnd text m (record { at = i; ok = true })
-      end_read h = record {
-        finishes = λ s d o u e. (at_end s d o u).runs ∙ ap (run offers (between false (finished d))) (drop_of_length-le text h);
-        stops = λ s d o u e. absurd (true≢false e);
-      }
+    pub end_read : length text ≤ i → ReadsEnd text m (Ok i)
+    end_read h = record {
+      finishes = λ s d o u. (at_end s d o u).runs ∙ ap (run offers (between false (finished d))) (drop_of_length-le text h);
+      stops = tt;
+    }
 
 -- ---- tables
 filled_more : (l : List ℕ) (x k : ℕ) → length l ≡ k → k < 64 → set (filled 64 l) k x ≡ filled 64 (l ++ (x ∷ []))
@@ -195,32 +185,32 @@ module _ (text : List ℕ) (states letters sets : ℕ) (fits : Bool) (i : ℕ) (
     pub there : at < length text
     pub rows : (h : Head) (f : Formula) (p : RowsAt h f states letters sets i) → Row h f p a at b
 
-  row-stopped : (r : Body) → r.ok ≡ false → ((h : Head) (f : Formula) (p : RowsAt h f states letters sets i) → Stops text before.at (between false p.state) r.at) → ReadsRow text states letters sets fits i before r
-  row-stopped r bad k = record { within = λ e. absurd (true≢false (sym e ∙ bad)); follows = λ h f p e. absurd (true≢false (sym e ∙ bad)); stops = λ h f p e. k h f p }
+  row-stopped : (e : Stop) → ((h : Head) (f : Formula) (p : RowsAt h f states letters sets i) → Stops text before.at (between false p.state) e.at) → ReadsRow text states letters sets fits i before (Err e)
+  row-stopped e k = record { within = tt; follows = tt; stops = k }
 
-  module _ (less : i < states) (t : Taken) (k : ReadsState text before.at i t) where
-    reads-state : (h : Head) (f : Formula) (p : RowsAt h f states letters sets i) → Reads text before.at (between false p.state) t.ok t.at (between false (edges h f p.rows []))
-    reads-state h f p = k.reads h f p.rows p.state p.rows_are (p.offers_are ∙ rw (lt_yes i states less) refl) p.unfinished
+  module _ (less : i < states) where
+    reads-state : (t : Result ℕ Stop) → ReadsState text before.at i t → (h : Head) (f : Formula) (p : RowsAt h f states letters sets i) → Reads text before.at (between false p.state) t (between false (edges h f p.rows []))
+    reads-state t k h f p = k.reads h f p.rows p.state p.rows_are (p.offers_are ∙ rw (lt_yes i states less) refl) p.unfinished
 
-    pub row-no-state : (r : Body) → r.at ≡ t.at → r.ok ≡ false → t.ok ≡ false → ReadsRow text states letters sets fits i before r
-    row-no-state r at-is ok-is bad = row-stopped r ok-is (λ h f p. subst (λ (n : ℕ). Stops text before.at (between false p.state) n) (sym at-is) ((reads-state h f p).stops bad))
+    pub row-no-state : (e : Stop) → ReadsState text before.at i (Err e) → ReadsRow text states letters sets fits i before (Err e)
+    row-no-state e k = row-stopped e (reads-state (Err e) k)
 
-    pub rowing-none : t.ok ≡ true → Rowing 0 t.at before
-    rowing-none ok = record {
+    pub rowing-none : (t : ℕ) → ReadsState text before.at i (Ok t) → Rowing 0 t before
+    rowing-none t k = record {
       few = omega arith;
-      there = k.there ok;
+      there = k.there;
       rows = λ h f p. record {
         row = [];
         state = edges h f p.rows [];
         long = refl;
-        behind = record { begins = k.begins ok; numbers_are = edges-numbers h f p.rows []; others_are = λ d. refl };
-        moves = (reads-state h f p).moves ok;
+        behind = record { begins = k.begins; numbers_are = edges-numbers h f p.rows []; others_are = λ d. refl };
+        moves = reads-state (Ok t) k h f p;
         stored = λ e q. subst (λ (l : List Edge). Stored l before) (sym (append-nil (flat p.rows))) q;
       };
     }
 
   module _ (a at : ℕ) (b : Body) (k : Rowing a at b) where
-    module _ (less : a < letters) (e : Step) (q : ReadsEdge text at states sets e) where
+    module _ (less : a < letters) where
       edge_at : (h : Head) (f : Formula) (p : RowsAt h f states letters sets i) → EdgeAt text at states sets
       edge_at h f p =
           let v = k.rows h f p in
@@ -236,19 +226,18 @@ module _ (text : List ℕ) (states letters sets : ℕ) (fits : Bool) (i : ℕ) (
             behind = v.behind;
           }
 
-      pub row-no-edge : (r : Body) → r.at ≡ e.at → r.ok ≡ false → e.ok ≡ false → ReadsRow text states letters sets fits i before r
+      pub row-no-edge : (e : Stop) → ReadsEdge text at states sets (Err e) → ReadsRow text states letters sets fits i before (Err e)
       unfolding edge_at
-      row-no-edge r at-is ok-is bad =
-          row-stopped r ok-is (λ h f p. subst (λ (n : ℕ). Stops text before.at (between false p.state) n) (sym at-is) (moves-stops text (k.rows h f p).moves (q.stops (edge_at h f p) bad)))
+      row-no-edge e q = row-stopped e (λ h f p. moves-stops text (k.rows h f p).moves (q.stops (edge_at h f p)))
 
-      pub rowing_more : (fits ≡ true → i * letters + a < 64) → e.ok ≡ true → (r : Body) → WithEdge b e (i * letters + a) fits r → Rowing (a + 1) e.at r
+      pub rowing_more : (e : Step) → ReadsEdge text at states sets (Ok e) → (fits ≡ true → i * letters + a < 64) → (r : Body) → WithEdge b e (i * letters + a) fits r → Rowing (a + 1) e.at r
       unfolding edge_at
-      rowing_more room ok r with = record {
+      rowing_more e q room r with = record {
         few = omega arith;
-        there = q.there ok;
+        there = q.there;
         rows = λ h f p.
             let v = k.rows h f p in
-            let n = q.follows (edge_at h f p) ok in
+            let n = q.follows (edge_at h f p) in
             record {
               row = v.row ++ (n.edge ∷ []);
               state = n.state;
@@ -261,10 +250,10 @@ module _ (text : List ℕ) (states letters sets : ℕ) (fits : Bool) (i : ℕ) (
             };
       }
 
-    pub row_read : letters ≤ a → (r : Body) → r.at ≡ at → r.ok ≡ true → r.target ≡ b.target → r.marks ≡ b.marks → ReadsRow text states letters sets fits i before r
-    row_read all r at-is ok-is target_is marks_are = record {
-      within = λ e. let l = k.there in omega (arith, l, at-is);
-      follows = λ h f p e.
+    pub row_read : letters ≤ a → ReadsRow text states letters sets fits i before (Ok (record { at = at; target = b.target; marks = b.marks }))
+    row_read all = record {
+      within = let l = k.there in omega (arith, l);
+      follows = λ h f p.
           let v = k.rows h f p in
           let u : length v.row ≡ letters = omega (arith, v.long, k.few) in
           let o = over h v.row letters p.counts.letters_are u in
@@ -278,10 +267,8 @@ module _ (text : List ℕ) (states letters sets : ℕ) (fits : Bool) (i : ℕ) (
               offers_are = over-offers h f p.rows v.row i states o p.rows_are p.counts.states_are;
               unfinished = λ x. refl;
             };
-            moves =
-                subst (λ (n : ℕ). Moves text before.at (between false p.state) n (between false (edges h f p.rows v.row))) (sym at-is)
-                (moves-on text v.moves (alike text k.there (last-same text h f p.rows v.row at v.state v.behind o)));
-            stored = λ fit first. let q = v.stored fit first in subst (λ (l : List Edge). Stored l r) (sym (flat-last p.rows v.row)) (target_is ∙ q.0, marks_are ∙ q.1);
+            moves = moves-on text v.moves (alike text k.there (last-same text h f p.rows v.row at v.state v.behind o));
+            stored = λ fit first. let q = v.stored fit first in subst (λ (l : List Edge). Stored l (record { at = at; target = b.target; marks = b.marks })) (sym (flat-last p.rows v.row)) (q.0, q.1);
           };
-      stops = λ h f p e. absurd (true≢false (sym ok-is ∙ e));
+      stops = tt;
     }

@@ -2,19 +2,20 @@
 use Prim.Native.Nat.{ℕ, ◌+◌, ◌≤◌, ◌<◌}
 use native.Mathlib.Omega.{arith}
 use native.Mathlib.Nat.{zero-mul}
-use mathlib.Core.Path.{◌≡◌, refl, sym, ◌∙◌, subst}
-use mathlib.Core.Bool.{Bool, true, false, cond, true≢false}
+use mathlib.Core.Path.{◌≡◌, refl, sym, ◌∙◌}
+use mathlib.Core.Bool.{Bool, true, false, cond}
 use mathlib.Core.List.{List, []}
 use lib.Dec.{ltb}
 use lib.ListN.{length, replicate}
+use Rattle.std.specs.Prelude.{Ok, Err}
 use Rattle.lists.specs.Lists.{flat}
 use Rattle.hanoi.specs.Words as w
 use Rattle.hanoi.specs.Documents.{Formula}
 use Rattle.hanoi.specs.Offers.{between}
 use Rattle.hanoi.specs.Reader.{Head, body, state_number, finished, document_of, only, offers}
 use Rattle.hanoi.proofs.Digits.{lt_yes, lt_no}
-use Rattle.hanoi_tokens.specs.declared.Taken.{Taken}
-use Rattle.hanoi_tokens.specs.Moves.{Moves, Stops}
+use Rattle.hanoi_tokens.specs.declared.Stop.{Stop}
+use Rattle.hanoi_tokens.specs.Moves.{Moves}
 use Rattle.hanoi_tokens.proofs.Moves.{stay, moves-on, moves-stops}
 use Rattle.hanoi_body.specs.declared.Body.{Body}
 use Rattle.hanoi_body.specs.Body.{Counts, Stored, ReadsBody}
@@ -36,8 +37,8 @@ module _ (text : List ℕ) (m states letters sets : ℕ) (fits : Bool) where
     pub within : b.at ≤ length text
     pub rows : (h : Head) (f : Formula) → Counts h states letters sets → Rows h f i b
 
-  pub body-none : 0 < states → m ≤ length text → (ok : Bool) → Reading 0 (record { at = m; target = replicate 64 0; marks = replicate 64 0; ok = ok })
-  body-none some l ok = record {
+  pub body-none : 0 < states → m ≤ length text → Reading 0 (record { at = m; target = replicate 64 0; marks = replicate 64 0 })
+  body-none some l = record {
     few = omega arith;
     within = l;
     rows = λ h f c. record {
@@ -56,38 +57,40 @@ module _ (text : List ℕ) (m states letters sets : ℕ) (fits : Bool) where
   }
 
   module _ (i : ℕ) (b : Body) (k : Reading i b) where
-    module _ (r : Body) (q : ReadsRow text states letters sets fits i b r) where
-      pub body_more : i < states → r.ok ≡ true → Reading (i + 1) r
-      body_more less ok = record {
-        few = omega arith;
-        within = q.within ok;
-        rows = λ h f c.
-            let v = k.rows h f c in
-            let n = q.follows h f v.place ok in
-            record { place = n.next; moves = moves-on text v.moves n.moves; stored = λ e. n.stored e (v.stored e) };
-      }
-
-      pub body-stops : r.ok ≡ false → ReadsBody text m states letters sets fits r
-      body-stops bad = record {
-        finishes = λ h f c e. absurd (true≢false (sym e ∙ bad));
-        stops = λ h f c e. let v = k.rows h f c in moves-stops text v.moves (q.stops h f v.place bad);
-      }
-
-    pub body-read : states ≤ i → (t : Taken) → ReadsEnd text b.at t → (r : Body) → r.at ≡ t.at → r.ok ≡ t.ok → r.target ≡ b.target → r.marks ≡ b.marks → ReadsBody text m states letters sets fits r
-    body-read all t q r at-is ok-is target_is marks_are = record {
-      finishes = λ h f c e.
+    pub body_more : i < states → (r : Body) → ReadsRow text states letters sets fits i b (Ok r) → Reading (i + 1) r
+    body_more less r q = record {
+      few = omega arith;
+      within = q.within;
+      rows = λ h f c.
           let v = k.rows h f c in
-          let d = document_of h f v.place.rows in (
-            v.place.rows,
-            false,
-            v.moves.runs ∙ q.finishes v.place.state d (at_end h f v.place) v.place.unfinished (sym ok-is ∙ e),
-            λ fit. let s = v.stored fit in (target_is ∙ s.0, marks_are ∙ s.1),
-          );
-      stops = λ h f c e.
-          let v = k.rows h f c in
-          subst (λ (n : ℕ). Stops text m (between false (body h f)) n) (sym at-is)
-          (moves-stops text v.moves (q.stops v.place.state (document_of h f v.place.rows) (at_end h f v.place) v.place.unfinished (sym ok-is ∙ e)));
+          let n = q.follows h f v.place in
+          record { place = n.next; moves = moves-on text v.moves n.moves; stored = λ e. n.stored e (v.stored e) };
     }
-      where
-        at_end : (h : Head) (f : Formula) (p : RowsAt h f states letters sets i) → offers p.state ≡ only w.End (finished (document_of h f p.rows))
-        at_end h f p = p.offers_are ∙ rw (lt_no i states all) refl
+
+    pub body-stops : (e : Stop) → ReadsRow text states letters sets fits i b (Err e) → ReadsBody text m states letters sets fits (Err e)
+    body-stops e q = record { finishes = tt; stops = λ h f c. let v = k.rows h f c in moves-stops text v.moves (q.stops h f v.place) }
+
+    module _ (all : states ≤ i) where
+      at_end : (h : Head) (f : Formula) (p : RowsAt h f states letters sets i) → offers p.state ≡ only w.End (finished (document_of h f p.rows))
+      at_end h f p = p.offers_are ∙ rw (lt_no i states all) refl
+
+      pub body-no-end : (e : Stop) → ReadsEnd text b.at (Err e) → ReadsBody text m states letters sets fits (Err e)
+      body-no-end e q = record {
+        finishes = tt;
+        stops = λ h f c.
+            let v = k.rows h f c in
+            moves-stops text v.moves (q.stops v.place.state (document_of h f v.place.rows) (at_end h f v.place) v.place.unfinished);
+      }
+
+      pub body-read : (n : ℕ) → ReadsEnd text b.at (Ok n) → ReadsBody text m states letters sets fits (Ok (record { at = n; target = b.target; marks = b.marks }))
+      body-read n q = record {
+        finishes = λ h f c.
+            let v = k.rows h f c in
+            let d = document_of h f v.place.rows in (
+              v.place.rows,
+              false,
+              v.moves.runs ∙ q.finishes v.place.state d (at_end h f v.place) v.place.unfinished,
+              λ fit. let s = v.stored fit in (s.0, s.1),
+            );
+        stops = tt;
+      }

@@ -1,10 +1,11 @@
 -- What reading the rest of a text behind --BODY-- promises.
-use Rattle.std.specs.Prelude.{ℕ, ◌^◌, ◌≡◌, Bool, true, false, List, map, length, drop}
+use Rattle.std.specs.Prelude.{ℕ, ◌^◌, ◌≡◌, Bool, true, false, List, map, length, drop, Result, IfOk, IfErr}
 use Rattle.lists.specs.Lists.{flat}
 use Rattle.hanoi.specs.Documents.{Formula, Edge, target_of}
 use Rattle.hanoi.specs.Meaning.{filled, mark_set}
 use Rattle.hanoi.specs.Offers.{between, run}
 use Rattle.hanoi.specs.Reader.{Head, body, finished, document_of, offers}
+use Rattle.hanoi_tokens.specs.declared.Stop.{Stop}
 use Rattle.hanoi_tokens.specs.Moves.{Stops}
 use Rattle.hanoi_body.specs.declared.Body.{Body}
 
@@ -18,7 +19,7 @@ abbrev pub Stored : List Edge → Body → Type 0
 Stored es b = (b.target ≡ filled 64 (map target_of es)) × (b.marks ≡ filled 64 (map mark_set es))
 
 -- wherever the reader of documents stands before the states of a document with these counts
-pub record ReadsBody (text : List ℕ) (m states letters sets : ℕ) (fits : Bool) (r : Body) : Type 0 where
-  pub finishes : (h : Head) (f : Formula) → Counts h states letters sets → r.ok ≡ true
-      → (rows : List (List Edge)) × (bar : Bool) × (run offers (between false (body h f)) (drop m text) ≡ between bar (finished (document_of h f rows))) × (fits ≡ true → Stored (flat rows) r)
-  pub stops : (h : Head) (f : Formula) → Counts h states letters sets → r.ok ≡ false → Stops text m (between false (body h f)) r.at
+pub record ReadsBody (text : List ℕ) (m states letters sets : ℕ) (fits : Bool) (r : Result Body Stop) : Type 0 where
+  pub finishes : IfOk r (λ b. (h : Head) (f : Formula) → Counts h states letters sets
+      → (rows : List (List Edge)) × (bar : Bool) × (run offers (between false (body h f)) (drop m text) ≡ between bar (finished (document_of h f rows))) × (fits ≡ true → Stored (flat rows) b))
+  pub stops : IfErr r (λ e. (h : Head) (f : Formula) → Counts h states letters sets → Stops text m (between false (body h f)) e.at)

@@ -1,25 +1,23 @@
 -- What reading an edge promises, of whatever place the reader of documents is at.
-use Rattle.std.specs.Prelude.{ℕ, ◌≤◌, ◌<◌, ◌≡◌, true, false, List, [], ◌∷◌, ◌++◌, length, get_or}
+use Rattle.std.specs.Prelude.{ℕ, ◌≤◌, ◌<◌, ◌≡◌, false, List, [], ◌∷◌, ◌++◌, length, get_or, Result, IfOk, IfErr}
 use Rattle.masks.specs.Masks.{set_of}
 use Rattle.hanoi.specs.Texts.{white, digit}
 use Rattle.hanoi.specs.Documents.{Formula, Edge, marked, target_of}
 use Rattle.hanoi.specs.Meaning.{mark_set}
 use Rattle.hanoi.specs.Offers.{between, step_byte}
 use Rattle.hanoi.specs.Reader.{Head, At, edges, braces, row_over, edge_next, offers}
+use Rattle.hanoi_tokens.specs.declared.Stop.{Stop}
 use Rattle.hanoi_tokens.specs.Moves.{Moves, Stops}
 use Rattle.hanoi_body.specs.declared.Marks.{Marks}
 use Rattle.hanoi_body.specs.declared.Step.{Step}
 
-abbrev pub stopped_at : ℕ → Step
-stopped_at n = record { at = n; target = 0; marks = 0; ok = false }
-
 module _ (text : List ℕ) where
   -- the marks behind an opening brace, with the closing one
-  pub record ReadsMarks (m sets : ℕ) (r : Marks) : Type 0 where
-    pub within : r.ok ≡ true → r.at ≤ length text
-    pub moves : (h : Head) (f : Formula) (rs : List (List Edge)) (es : List Edge) (t : ℕ) → h.sets ≡ sets → r.ok ≡ true
-        → (ms : List ℕ) × (r.marks ≡ set_of ms) × Moves text m (between false (braces h f rs es t [])) r.at (between false (edges h f rs (es ++ (marked t ms ∷ []))))
-    pub stops : (h : Head) (f : Formula) (rs : List (List Edge)) (es : List Edge) (t : ℕ) → h.sets ≡ sets → r.ok ≡ false → Stops text m (between false (braces h f rs es t [])) r.at
+  pub record ReadsMarks (m sets : ℕ) (r : Result Marks Stop) : Type 0 where
+    pub within : IfOk r (λ x. x.at ≤ length text)
+    pub moves : IfOk r (λ x. (h : Head) (f : Formula) (rs : List (List Edge)) (es : List Edge) (t : ℕ) → h.sets ≡ sets
+        → (ms : List ℕ) × (x.marks ≡ set_of ms) × Moves text m (between false (braces h f rs es t [])) x.at (between false (edges h f rs (es ++ (marked t ms ∷ [])))))
+    pub stops : IfErr r (λ e. (h : Head) (f : Formula) (rs : List (List Edge)) (es : List Edge) (t : ℕ) → h.sets ≡ sets → Stops text m (between false (braces h f rs es t [])) e.at)
 
   -- Before byte n, which begins a token, s stands behind the edges es of a state: it offers the same numbers, and any byte but a digit leads on as behind them. Behind a target with no marks the
   -- reader stands so, but not at `edges`, since it still offers a brace; and a number keeps the state that it began in up to its last digit.
@@ -49,8 +47,8 @@ module _ (text : List ℕ) where
     pub behind : Behind w.head w.formula w.rows (w.row ++ (edge ∷ [])) n state
     pub moves : Moves text m (between false w.state) n (between false state)
 
-  pub record ReadsEdge (m states sets : ℕ) (r : Step) : Type 0 where
-    pub there : r.ok ≡ true → r.at < length text
-    pub below : r.ok ≡ true → r.target < states
-    pub follows : (w : EdgeAt m states sets) → r.ok ≡ true → Follows m states sets w r.at r.target r.marks
-    pub stops : (w : EdgeAt m states sets) → r.ok ≡ false → Stops text m (between false w.state) r.at
+  pub record ReadsEdge (m states sets : ℕ) (r : Result Step Stop) : Type 0 where
+    pub there : IfOk r (λ e. e.at < length text)
+    pub below : IfOk r (λ e. e.target < states)
+    pub follows : IfOk r (λ e. (w : EdgeAt m states sets) → Follows m states sets w e.at e.target e.marks)
+    pub stops : IfErr r (λ e. (w : EdgeAt m states sets) → Stops text m (between false w.state) e.at)

@@ -3,141 +3,92 @@
 #![tactic(auto)]
 
 ghost use Rattle.std.specs.Prelude.{◌≡◌, true, ◌+◌, ◌*◌, ◌≤◌, ◌<◌, length};
-ghost use Rattle.hanoi_body.specs.Edges.{stopped_at, ReadsMarks, ReadsEdge};
+ghost use Rattle.hanoi_body.specs.Edges.{ReadsMarks, ReadsEdge};
 ghost use Rattle.hanoi_body.specs.Rows.{ReadsState, WithEdge, ReadsRow, ReadsEnd};
 ghost use Rattle.hanoi_body.specs.Body.{ReadsBody};
 
-use hanoi_tokens::{Taken, Wanted};
+use hanoi_tokens::{Stop, Wanted};
 
-// The set of the marks in braces.
-#[derive(Clone, Copy)]
+// The set of the marks in braces, read up to a place.
+#[derive(Clone, Copy, Debug, PartialEq, Eq)]
 struct Marks {
     pub at: usize,
     pub marks: u32,
-    pub ok: bool,
 }
 
-// An edge: its target, and the set of its marks.
-#[derive(Clone, Copy)]
+// An edge, read up to a place: its target, and the set of its marks.
+#[derive(Clone, Copy, Debug, PartialEq, Eq)]
 struct Step {
     pub at: usize,
     pub target: u32,
     pub marks: u32,
-    pub ok: bool,
 }
 
-// Edges by number, and 0 past them. Read up to a place; or the text stops being one of the subset there.
+// Edges by number, and 0 past them, read up to a place.
 #[derive(Clone, Copy)]
 pub struct Body {
     pub at: usize,
     pub target: [u8; 64],
     pub marks: [u32; 64],
-    pub ok: bool,
 }
 
 // ---- edges
+// Text, place and counts are passed one by one: a struct of them would be made anew at each place.
+
 // The marks behind an opening brace, with the closing one.
-fn read_marks(text: &[u8], at: usize, sets: u32) -> Marks
+fn read_marks(text: &[u8], at: usize, sets: u32) -> Result<Marks, Stop>
     requires { (at ≤ length text.now) × (sets ≤ 32) }
     ensures { ReadsMarks text.now at sets result }
 {
     let mut marks: u32 = 0;
     let mut i = at;
     loop {
-        let n = hanoi_tokens::next(text, i, false);
-        let b = n.at;
-        if !n.ok {
-            return Marks {
-                at: b,
-                marks: 0,
-                ok: false,
-            };
-        }
-        if n.byte == 125 {
-            return Marks {
-                at: b + 1,
+        let first = hanoi_tokens::next(text, i, false)?;
+        if first.byte == b'}' {
+            return Ok(Marks {
+                at: first.at + 1,
                 marks,
-                ok: true,
-            };
+            });
         }
-        let m = hanoi_tokens::read_digits(text, b, Wanted::Below(sets));
-        if !m.ok {
-            return Marks {
-                at: m.at,
-                marks: 0,
-                ok: false,
-            };
-        }
-        marks = marks | (1 << m.value);
-        i = m.at;
-    }
-}
-
-fn stopped(at: usize) -> Step
-    ensures { result ≡ stopped_at at }
-{
-    Step {
-        at,
-        target: 0,
-        marks: 0,
-        ok: false,
+        let mark = hanoi_tokens::read_digits(text, first.at, Wanted::Below(sets))?;
+        marks |= 1 << mark.value;
+        i = mark.at;
     }
 }
 
 // An edge from its first byte on, up to the first byte of what follows it: something does in every text of the subset.
-fn read_edge(text: &[u8], at: usize, states: u32, sets: u32) -> Step
+fn read_edge(text: &[u8], at: usize, states: u32, sets: u32) -> Result<Step, Stop>
     requires { (at < length text.now) × (states < 2147483648) × (sets ≤ 32) }
     ensures { ReadsEdge text.now at states sets result }
 {
-    let t = hanoi_tokens::read_digits(text, at, Wanted::Below(states));
-    if !t.ok {
-        return stopped(t.at);
-    }
-    let n = hanoi_tokens::next(text, t.at, false);
-    let i = n.at;
-    if !n.ok {
-        return stopped(i);
-    }
-    if n.byte != 123 {
-        return Step {
-            at: i,
-            target: t.value,
+    let target = hanoi_tokens::read_digits(text, at, Wanted::Below(states))?;
+    let first = hanoi_tokens::next(text, target.at, false)?;
+    if first.byte != b'{' {
+        return Ok(Step {
+            at: first.at,
+            target: target.value,
             marks: 0,
-            ok: true,
-        };
+        });
     }
-    let m = read_marks(text, i + 1, sets);
-    if !m.ok {
-        return stopped(m.at);
-    }
-    let e = hanoi_tokens::next(text, m.at, false);
-    Step {
-        at: e.at,
-        target: t.value,
-        marks: m.marks,
-        ok: e.ok,
-    }
+    let braces = read_marks(text, first.at + 1, sets)?;
+    let behind = hanoi_tokens::next(text, braces.at, false)?;
+    Ok(Step {
+        at: behind.at,
+        target: target.value,
+        marks: braces.marks,
+    })
 }
 
 // ---- states
 // The number of a state, up to the first byte of its first edge.
-fn read_state(text: &[u8], at: usize, row: u32) -> Taken
+fn read_state(text: &[u8], at: usize, row: u32) -> Result<usize, Stop>
     requires { (at ≤ length text.now) × (row < 2147483648) }
     ensures { ReadsState text.now at row result }
 {
-    let w = hanoi_tokens::read_word(text, at, false, b"State:");
-    if !w.ok {
-        return w;
-    }
-    let n = hanoi_tokens::read_number(text, w.at, Wanted::Exactly(row));
-    if !n.ok {
-        return Taken {
-            at: n.at,
-            ok: false,
-        };
-    }
-    let b = hanoi_tokens::next(text, n.at, false);
-    Taken { at: b.at, ok: b.ok }
+    let word = hanoi_tokens::read_word(text, at, false, b"State:")?;
+    let number = hanoi_tokens::read_number(text, word, Wanted::Exactly(row))?;
+    let first = hanoi_tokens::next(text, number.at, false)?;
+    Ok(first.at)
 }
 
 // The edge of letter a of a state, stored if the tables have room for every edge.
@@ -163,52 +114,44 @@ fn read_row(
     letters: usize,
     sets: u32,
     fits: bool,
-) -> Body
+) -> Result<Body, Stop>
     requires { (body.at ≤ length text.now) × (row < states) × (states < 2147483648) × (sets ≤ 32)
         × (fits ≡ true → (states ≤ 16) × (states * letters ≤ 64)) }
     ensures { ReadsRow text.now states letters sets fits row body result }
 {
     let mut b = body;
-    let s = read_state(text, b.at, row);
-    if !s.ok {
-        b.at = s.at;
-        b.ok = false;
-        return b;
-    }
-    let mut at = s.at;
+    let mut at = read_state(text, b.at, row)?;
     for a in 0..letters {
-        let e = read_edge(text, at, states, sets);
-        if !e.ok {
-            b.at = e.at;
-            b.ok = false;
-            return b;
-        }
+        let e = read_edge(text, at, states, sets)?;
         b = with_edge(b, e, row, letters, a, fits);
         at = e.at;
     }
     b.at = at;
-    b.ok = true;
-    b
+    Ok(b)
 }
 
 // The end, and only white space behind it.
-fn read_end(text: &[u8], at: usize) -> Taken
+fn read_end(text: &[u8], at: usize) -> Result<usize, Stop>
     requires { at ≤ length text.now }
     ensures { ReadsEnd text.now at result }
 {
-    let w = hanoi_tokens::read_word(text, at, false, b"--END--");
-    if !w.ok {
-        return w;
+    let word = hanoi_tokens::read_word(text, at, false, b"--END--")?;
+    let end = hanoi_tokens::skip_white(text, word);
+    if end < text.len() {
+        return Err(Stop { at: end });
     }
-    let i = hanoi_tokens::skip_white(text, w.at);
-    if i < text.len() {
-        return Taken { at: i, ok: false };
-    }
-    Taken { at: i, ok: true }
+    Ok(end)
 }
 
 // The states of a document and its end, behind --BODY--. The tables are filled if they have room for every edge.
-pub fn read_body(text: &[u8], at: usize, states: u32, letters: usize, sets: u32, fits: bool) -> Body
+pub fn read_body(
+    text: &[u8],
+    at: usize,
+    states: u32,
+    letters: usize,
+    sets: u32,
+    fits: bool,
+) -> Result<Body, Stop>
     requires { (at ≤ length text.now) × (0 < states) × (states < 2147483648) × (sets ≤ 32)
         × (fits ≡ true → (states ≤ 16) × (states * letters ≤ 64)) }
     ensures { ReadsBody text.now at states letters sets fits result }
@@ -217,16 +160,10 @@ pub fn read_body(text: &[u8], at: usize, states: u32, letters: usize, sets: u32,
         at,
         target: [0; 64],
         marks: [0; 64],
-        ok: true,
     };
     for i in 0..states {
-        body = read_row(text, body, i, states, letters, sets, fits);
-        if !body.ok {
-            return body;
-        }
+        body = read_row(text, body, i, states, letters, sets, fits)?;
     }
-    let e = read_end(text, body.at);
-    body.at = e.at;
-    body.ok = e.ok;
-    body
+    body.at = read_end(text, body.at)?;
+    Ok(body)
 }

@@ -26,6 +26,8 @@ use Rattle.hanoi.specs.Reader.{Head, fresh, At, operand, finished, offers}
 use Rattle.hanoi.specs.Reading.{answer_at}
 use Rattle.hanoi.proofs.Digits.{lt_yes, lt_no}
 use Rattle.hanoi.proofs.Carrying.{formula-kept}
+use Rattle.std.specs.Prelude.{Ok, Err}
+use Rattle.hanoi_tokens.specs.declared.Stop.{Stop}
 use Rattle.hanoi_tokens.specs.Moves.{Stops}
 use Rattle.hanoi_formula.specs.declared.Valued.{Valued}
 use Rattle.hanoi_formula.specs.Formula.{IsLane, ReadsFormula}
@@ -39,22 +41,24 @@ never-stops text m n p bar d e s =
     absurd (omega (arith, y))
 
 -- ---- the formula's value
-value_is : (text : List ℕ) (m marks all : ℕ) (lanes : List ℕ) (r : Valued) → ReadsFormula text m marks all lanes r → (h : Head) (d : Document) (bar : Bool) → h.sets ≡ marks
+value_is : (text : List ℕ) (m marks all : ℕ) (lanes : List ℕ) (r : Valued) → ReadsFormula text m marks all lanes (Ok r) → (h : Head) (d : Document) (bar : Bool) → h.sets ≡ marks
     → run offers (between false (operand h [] fresh)) (drop m text) ≡ between bar (finished d) → formed marks d.formula ≡ true
     → (s u : ℕ) → IsLane marks all lanes s u → has r.value s ≡ holds u d.formula
-value_is text m marks all lanes r k h d bar q e w s u l = step (test r.ok)
-  where
-    step : (r.ok ≡ true) ⊎ (r.ok ≡ false) → has r.value s ≡ holds u d.formula
-    step (inl t) =
-        let v = k.moves h q t in
-        let z : d.formula ≡ v.0 = formula-kept v.0 (drop r.at text) false bar h d (sym v.1.runs ∙ e) in
-        v.2 (subst (λ (f : Formula). formed marks f ≡ true) z w) s u l ∙ ap (holds u) (sym z)
-    step (inr f) = absurd (never-stops text m r.at (between false (operand h [] fresh)) bar d e (k.stops h q f))
+value_is text m marks all lanes r k h d bar q e w s u l =
+    let v = k.moves h q in
+    let z : d.formula ≡ v.0 = formula-kept v.0 (drop r.at text) false bar h d (sym v.1.runs ∙ e) in
+    v.2 (subst (λ (f : Formula). formed marks f ≡ true) z w) s u l ∙ ap (holds u) (sym z)
 
 pub word-is : (text : List ℕ) (m marks : ℕ) (sets : List ℕ) (w : ℕ) (lanes : List ℕ) (r : Valued) → ((j s : ℕ) → j < marks → s < 64 → has (get_or lanes j 0) s ≡ has (union_at sets (64 * w + s) 8) j)
-    → ReadsFormula text m marks 18446744073709551615 lanes r → IsWord text m marks sets w r.value
+    → ReadsFormula text m marks 18446744073709551615 lanes (Ok r) → IsWord text m marks sets w r.value
 word-is text m marks sets w lanes r l k = record {
   is = λ h d bar q e z s i. value_is text m marks 18446744073709551615 lanes r k h d bar q e z s (union_at sets (64 * w + s) 8) (record { in_all = has-full 64 s i; marks_are = λ j y. l j s y i });
+}
+
+-- no text that comes to a document stops in its formula
+pub word-none : (text : List ℕ) (m marks : ℕ) (sets : List ℕ) (w all : ℕ) (lanes : List ℕ) (r : Stop) → ReadsFormula text m marks all lanes (Err r) → IsWord text m marks sets w 0
+word-none text m marks sets w all lanes r k = record {
+  is = λ h d bar q e z s i. absurd (never-stops text m r.at (between false (operand h [] fresh)) bar d e (k.stops h q));
 }
 
 -- the word of the next set
@@ -107,15 +111,15 @@ module _ (f : Formula) (sets : List ℕ) where
 pub family-none : (text : List ℕ) (m marks : ℕ) (sets : List ℕ) → IsFamily text m marks sets 1 (replicate 256 false)
 family-none text m marks sets = record { is = λ h d bar s e w. named_none d.formula sets }
 
-pub family-more : (text : List ℕ) (m marks : ℕ) (sets : List ℕ) (s : ℕ) (family : List Bool) (word : ℕ) (v : Bool) → IsFamily text m marks sets (s + 1) family → s + 1 < 256 → IsWord text m marks sets ((s + 1) / 64) word
-    → v ≡ has word ((s + 1) % 64) → IsFamily text m marks sets (s + 1 + 1) (set family (s + 1) v)
-family-more text m marks sets s family word v k l q e =
-    let b : (s + 1) % 64 < 64 = mod-lt (s + 1) (lit< tt) in
-    let z : 64 * ((s + 1) / 64) + (s + 1) % 64 ≡ s + 1 = omega arith in
+pub family-more : (text : List ℕ) (m marks : ℕ) (sets : List ℕ) (s : ℕ) (family : List Bool) (word : ℕ) (v : Bool) → IsFamily text m marks sets s family → 0 < s → s < 256 → IsWord text m marks sets (s / 64) word
+    → v ≡ has word (s % 64) → IsFamily text m marks sets (s + 1) (set family s v)
+family-more text m marks sets s family word v k p l q e =
+    let b : s % 64 < 64 = mod-lt s (lit< tt) in
+    let z : 64 * (s / 64) + s % 64 ≡ s = omega arith in
     record {
       is =
-          λ h d bar i x w. ap (λ (t : List Bool). set t (s + 1) v) (k.is h d bar i x w) ∙
-          named_set d.formula sets (s + 1) v (omega arith) l (e ∙ (q.is h d bar i x w ((s + 1) % 64) b ∙ ap (λ (n : ℕ). holds (union_at sets n 8) d.formula) z));
+          λ h d bar i x w. ap (λ (t : List Bool). set t s v) (k.is h d bar i x w) ∙
+          named_set d.formula sets s v p l (e ∙ (q.is h d bar i x w (s % 64) b ∙ ap (λ (n : ℕ). holds (union_at sets n 8) d.formula) z));
     }
 
 -- ---- how many colour sets there are

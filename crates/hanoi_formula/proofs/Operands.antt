@@ -1,11 +1,15 @@
 -- Laws of reading an operand and the sign behind it: what each byte leads to. Assumes nothing.
-use Prim.Native.Nat.{ℕ, ◌+◌, ◌≤◌, ◌<◌}
+use Prim.Native.Nat.{ℕ, ◌+◌, ◌<◌}
 use native.Mathlib.Omega.{arith}
+use native.Mathlib.Decide.{ℕ_discrete}
+use mathlib.Core.Logic.{◌⊎◌, inl, inr}
 use mathlib.Core.Path.{◌≡◌, refl, sym, ap, ap₂, ◌∙◌, subst}
 use mathlib.Core.Bool.{Bool, true, false, not, ◌&&◌, cond}
 use mathlib.Core.List.{List, [], ◌∷◌}
 use lib.Dec.{eqb}
 use lib.ListN.{get_or}
+use Rattle.std.specs.Prelude.{Result, Ok, Err}
+use Rattle.lists.proofs.Bools.{test}
 use Rattle.masks.specs.Masks.{has}
 use Rattle.masks.proofs.Bits.{has-minus, has-none}
 use Rattle.hanoi.specs.Words as w
@@ -14,11 +18,11 @@ use Rattle.hanoi.specs.Documents.{truth, group}
 use Rattle.hanoi.specs.Formulas.{events_of}
 use Rattle.hanoi.specs.Formulas as event
 use Rattle.hanoi.specs.Offers.{takes, takes_name, Spot, between, dead, word_on, begin_word, begin, byte_at, step_byte}
-use Rattle.hanoi.specs.Reader.{Head, Hole, fresh, or_else, Level, alone, At, offers, is_dead, operand, opening, after, body, plug, whole, and_then, marking, marks_next, close}
+use Rattle.hanoi.specs.Reader.{Head, Hole, fresh, or_else, Level, At, offers, is_dead, operand, opening, after, body, plug, whole, and_then, marking, marks_next, close}
 use Rattle.hanoi.proofs.Digits.{lt_yes}
 use Rattle.hanoi_tokens.specs.declared.Begun.{Begun}
-use Rattle.hanoi_tokens.specs.declared.Taken.{Taken}
-use Rattle.hanoi_tokens.specs.Moves.{Moves, Stops, Reads, Unfinished}
+use Rattle.hanoi_tokens.specs.declared.Stop.{Stop}
+use Rattle.hanoi_tokens.specs.Moves.{Moves, Stops, ReadsTo, Reads, Unfinished}
 use Rattle.hanoi_tokens.specs.Tokens.{Begins, Spells}
 use Rattle.hanoi_tokens.proofs.Moves.{moves-on, moves-stops, moves-reads, one, none}
 use Rattle.hanoi_formula.specs.declared.Mark.{Mark}
@@ -74,68 +78,62 @@ unfolding marking events_of
 mark-events sets all lanes s u true m h l = ap (λ (b : Bool). event.operand b ∷ []) (sym (l.marks_are m h))
 mark-events sets all lanes s u false m h l = ap (λ (b : Bool). event.operand b ∷ []) (sym (has-minus all (get_or lanes m 0) s ∙ ap₂ (λ (x y : Bool). x && not y) l.in_all (l.marks_are m h)))
 
-module _ (text : List ℕ) (m sets all : ℕ) (lanes : List ℕ) (b : Begun) (g : Begins text m false b) where
-  pub operand-stopped : b.ok ≡ false → ReadsOperand text m sets all lanes (operands.Stops b.at)
-  operand-stopped ok h hs o e = (g.reads (operand h hs o) (operand-open h hs o)).stops ok
+module _ (text : List ℕ) (m sets all : ℕ) (lanes : List ℕ) where
+  pub operand-stopped : (e : Stop) → Begins text m false (Err e) → ReadsOperand text m sets all lanes (Err e)
+  operand-stopped e g h hs o s = g.reads (operand h hs o) (operand-open h hs o)
 
-  module _ (ok : b.ok ≡ true) where
+  module _ (b : Begun) (g : Begins text m false (Ok b)) where
     -- the byte leads on
     on : (h : Head) (hs : List Hole) (o : Hole) (n : ℕ) (q : Spot At) → b.byte ≡ n → step_byte offers (between false (operand h hs o)) n ≡ q → is_dead q ≡ false → Moves text m (between false (operand h hs o)) (b.at + 1) q
-    on h hs o n q e s a = moves-on text ((g.reads (operand h hs o) (operand-open h hs o)).moves ok) (one text (g.there ok) (ap (step_byte offers (between false (operand h hs o))) (sym (g.byte_is ok) ∙ e) ∙ s) a)
+    on h hs o n q e s a = moves-on text (g.reads (operand h hs o) (operand-open h hs o)) (one text g.there (ap (step_byte offers (between false (operand h hs o))) (sym g.byte_is ∙ e) ∙ s) a)
 
     -- or to nothing
     off : (h : Head) (hs : List Hole) (o : Hole) → step_byte offers (between false (operand h hs o)) b.byte ≡ dead → Stops text m (between false (operand h hs o)) b.at
-    off h hs o s = moves-stops text ((g.reads (operand h hs o) (operand-open h hs o)).moves ok) (none text (g.there ok) (ap (step_byte offers (between false (operand h hs o))) (sym (g.byte_is ok)) ∙ s))
+    off h hs o s = moves-stops text (g.reads (operand h hs o) (operand-open h hs o)) (none text g.there (ap (step_byte offers (between false (operand h hs o))) (sym g.byte_is) ∙ s))
 
-    any_head : Head
-    any_head = record { states = 0; start = 0; names = []; sets = 0 }
+    pub operand-opens : b.byte ≡ 40 → ReadsOperand text m sets all lanes (Ok (operands.Opens (b.at + 1)))
+    operand-opens e = (omega (arith, g.later), λ h hs o s. on h hs o 40 (between false (operand h (o ∷ hs) fresh)) e (opens-step h hs o) refl)
 
-    pub forward : m ≤ b.at
-    forward = ((g.reads (operand any_head [] fresh) (operand-open any_head [] fresh)).moves ok).later
-
-    pub operand-opens : b.byte ≡ 40 → ReadsOperand text m sets all lanes (operands.Opens (b.at + 1))
-    operand-opens e = (omega (arith, forward), λ h hs o s. on h hs o 40 (between false (operand h (o ∷ hs) fresh)) e (opens-step h hs o) refl)
-
-    pub operand-yes : b.byte ≡ 116 → ReadsOperand text m sets all lanes (operands.Value (b.at + 1) all true)
+    pub operand-yes : b.byte ≡ 116 → ReadsOperand text m sets all lanes (Ok (operands.Value (b.at + 1) all true))
     unfolding events_of
-    operand-yes e = (omega (arith, forward), λ h hs o s. (truth true, λ i u l. ap (λ (b : Bool). event.operand b ∷ []) (sym l.in_all), on h hs o 116 (between true (after h hs (plug o (truth true)))) e (yes-step h hs o) refl))
+    operand-yes e = (omega (arith, g.later), λ h hs o s. (truth true, λ i u l. ap (λ (b : Bool). event.operand b ∷ []) (sym l.in_all), on h hs o 116 (between true (after h hs (plug o (truth true)))) e (yes-step h hs o) refl))
 
-    pub operand-no : b.byte ≡ 102 → ReadsOperand text m sets all lanes (operands.Value (b.at + 1) 0 true)
+    pub operand-no : b.byte ≡ 102 → ReadsOperand text m sets all lanes (Ok (operands.Value (b.at + 1) 0 true))
     unfolding events_of
-    operand-no e = (omega (arith, forward), λ h hs o s. (truth false, λ i u l. ap (λ (b : Bool). event.operand b ∷ []) (sym (has-none i)), on h hs o 102 (between true (after h hs (plug o (truth false)))) e (no_step h hs o) refl))
+    operand-no e = (omega (arith, g.later), λ h hs o s. (truth false, λ i u l. ap (λ (b : Bool). event.operand b ∷ []) (sym (has-none i)), on h hs o 102 (between true (after h hs (plug o (truth false)))) e (no_step h hs o) refl))
 
-    pub operand-no-mark : eqb b.byte 40 ≡ false → eqb b.byte 116 ≡ false → eqb b.byte 102 ≡ false → sets ≡ 0 → ReadsOperand text m sets all lanes (operands.Stops b.at)
-    operand-no-mark e₁ e₂ e₃ z h hs o s = off h hs o (no-mark-step h hs o b.byte (g.other ok) e₁ e₂ e₃ (s ∙ z))
-
-    pub operand-other : eqb b.byte 40 ≡ false → eqb b.byte 116 ≡ false → eqb b.byte 102 ≡ false → eqb b.byte 73 ≡ false → eqb b.byte 70 ≡ false → 0 < sets → ReadsOperand text m sets all lanes (operands.Stops b.at)
-    operand-other e₁ e₂ e₃ e₄ e₅ p h hs o s = off h hs o (other_step h hs o b.byte (g.other ok) e₁ e₂ e₃ e₄ e₅ (subst (λ (k : ℕ). 0 < k) (sym s) p))
+    pub operand-other : eqb b.byte 40 ≡ false → eqb b.byte 116 ≡ false → eqb b.byte 102 ≡ false → (0 < sets → eqb b.byte 73 ≡ false) → (0 < sets → eqb b.byte 70 ≡ false) → ReadsOperand text m sets all lanes (Err (record { at = b.at }))
+    operand-other e₁ e₂ e₃ e₄ e₅ h hs o s = off h hs o (go (ℕ_discrete sets 0))
+      where
+        go : Dec (sets ≡ 0) → step_byte offers (between false (operand h hs o)) b.byte ≡ dead
+        go (yes z) = no-mark-step h hs o b.byte g.other e₁ e₂ e₃ (s ∙ z)
+        go (no p) = let l : 0 < sets = omega (arith, p) in other_step h hs o b.byte g.other e₁ e₂ e₃ (e₄ l) (e₅ l) (subst (λ (k : ℕ). 0 < k) (sym s) l)
 
     -- Inf or Fin
-    module _ (p : 0 < sets) (r : Mark) where
+    module _ (p : 0 < sets) where
       module _ (i : Bool) (x : w.Word) (bars : open_ended x ≡ true) (n c : ℕ) (rest : List ℕ) (leads : (h : Head) (hs : List Hole) (o : Hole) → 0 < h.sets → step_byte offers (between false (operand h hs o)) n ≡ word_on x (c ∷ rest) (opening h hs o i))
-          (e : b.byte ≡ n) (k : ReadsMarked text (b.at + 1) (c ∷ rest) sets r) where
-        mark-reads : (h : Head) (hs : List Hole) (o : Hole) → h.sets ≡ sets → Reads text m (between false (operand h hs o)) r.ok r.at (between false (after h hs (plug o (marking i r.mark))))
-        mark-reads h hs o s =
-            moves-reads text (on h hs o n (word_on x (c ∷ rest) (opening h hs o i)) e (leads h hs o (subst (λ (j : ℕ). 0 < j) (sym s) p)) (word-alive x c rest (opening h hs o i))) (k.reads x bars h hs o i s)
+          (e : b.byte ≡ n) where
+        mark-reads : (r : Result Mark Stop) → ReadsMarked text (b.at + 1) (c ∷ rest) sets r → (h : Head) (hs : List Hole) (o : Hole) → h.sets ≡ sets
+            → ReadsTo text m (between false (operand h hs o)) r (λ y. y.at) (λ y. between false (after h hs (plug o (marking i y.mark))))
+        mark-reads r k h hs o s =
+            moves-reads text r (λ (y : Mark). y.at) (λ (y : Mark). between false (after h hs (plug o (marking i y.mark))))
+            (on h hs o n (word_on x (c ∷ rest) (opening h hs o i)) e (leads h hs o (subst (λ (j : ℕ). 0 < j) (sym s) p)) (word-alive x c rest (opening h hs o i))) (k.reads x bars h hs o i s)
 
-        mark-stops : r.ok ≡ false → ReadsOperand text m sets all lanes (operands.Stops r.at)
-        mark-stops f h hs o s = (mark-reads h hs o s).stops f
-
-        mark-value : r.ok ≡ true → ReadsOperand text m sets all lanes (operands.Value r.at (mark_lanes all lanes i r.mark) false)
-        mark-value t =
+        mark-value : (r : Mark) → ReadsMarked text (b.at + 1) (c ∷ rest) sets (Ok r) → ReadsOperand text m sets all lanes (Ok (operands.Value r.at (mark_lanes all lanes i r.mark) false))
+        mark-value r k =
             let a : Head = record { states = 0; start = 0; names = []; sets = sets } in
-            (omega (arith, forward, ((k.reads x bars a [] fresh i refl).moves t).later), λ h hs o s. (marking i r.mark, λ j u l. mark-events sets all lanes j u i r.mark (k.below t) l, (mark-reads h hs o s).moves t))
+            (omega (arith, g.later, (k.reads x bars a [] fresh i refl).later), λ h hs o s. (marking i r.mark, λ j u l. mark-events sets all lanes j u i r.mark k.below l, mark-reads (Ok r) k h hs o s))
 
-      pub inf-stops : b.byte ≡ 73 → ReadsMarked text (b.at + 1) (110 ∷ 102 ∷ []) sets r → r.ok ≡ false → ReadsOperand text m sets all lanes (operands.Stops r.at)
-      inf-stops = mark-stops true w.Inf refl 73 110 (102 ∷ []) inf-step
+      pub inf-stops : b.byte ≡ 73 → (r : Stop) → ReadsMarked text (b.at + 1) (110 ∷ 102 ∷ []) sets (Err r) → ReadsOperand text m sets all lanes (Err r)
+      inf-stops e r = mark-reads true w.Inf refl 73 110 (102 ∷ []) inf-step e (Err r)
 
-      pub inf-value : b.byte ≡ 73 → ReadsMarked text (b.at + 1) (110 ∷ 102 ∷ []) sets r → r.ok ≡ true → ReadsOperand text m sets all lanes (operands.Value r.at (mark_lanes all lanes true r.mark) false)
+      pub inf-value : b.byte ≡ 73 → (r : Mark) → ReadsMarked text (b.at + 1) (110 ∷ 102 ∷ []) sets (Ok r) → ReadsOperand text m sets all lanes (Ok (operands.Value r.at (mark_lanes all lanes true r.mark) false))
       inf-value = mark-value true w.Inf refl 73 110 (102 ∷ []) inf-step
 
-      pub fin-stops : b.byte ≡ 70 → ReadsMarked text (b.at + 1) (105 ∷ 110 ∷ []) sets r → r.ok ≡ false → ReadsOperand text m sets all lanes (operands.Stops r.at)
-      fin-stops = mark-stops false w.Fin refl 70 105 (110 ∷ []) fin-step
+      pub fin-stops : b.byte ≡ 70 → (r : Stop) → ReadsMarked text (b.at + 1) (105 ∷ 110 ∷ []) sets (Err r) → ReadsOperand text m sets all lanes (Err r)
+      fin-stops e r = mark-reads false w.Fin refl 70 105 (110 ∷ []) fin-step e (Err r)
 
-      pub fin-value : b.byte ≡ 70 → ReadsMarked text (b.at + 1) (105 ∷ 110 ∷ []) sets r → r.ok ≡ true → ReadsOperand text m sets all lanes (operands.Value r.at (mark_lanes all lanes false r.mark) false)
+      pub fin-value : b.byte ≡ 70 → (r : Mark) → ReadsMarked text (b.at + 1) (105 ∷ 110 ∷ []) sets (Ok r) → ReadsOperand text m sets all lanes (Ok (operands.Value r.at (mark_lanes all lanes false r.mark) false))
       fin-value = mark-value false w.Fin refl 70 105 (110 ∷ []) fin-step
 
 -- ---- signs
@@ -167,49 +165,48 @@ module _ (h : Head) (hs : List Hole) (l : Level) where
   after_open : Unfinished (after h hs l)
   after_open x = refl
 
-module _ (text : List ℕ) (m : ℕ) (bar deep : Bool) (b : Begun) (g : Begins text m bar b) where
-  pub sign-stopped : b.ok ≡ false → ReadsSign text m bar deep (signs.Stops b.at)
-  sign-stopped ok h hs l d = (g.reads (after h hs l) (after_open h hs l)).stops ok
+module _ (text : List ℕ) (m : ℕ) (bar deep : Bool) where
+  pub sign-stopped : (e : Stop) → Begins text m bar (Err e) → ReadsSign text m bar deep (Err e)
+  sign-stopped e g h hs l d = g.reads (after h hs l) (after_open h hs l)
 
-  module _ (ok : b.ok ≡ true) where
+  module _ (b : Begun) (g : Begins text m bar (Ok b)) where
     led : (h : Head) (hs : List Hole) (l : Level) (n : ℕ) (q : Spot At) → b.byte ≡ n → step_byte offers (between false (after h hs l)) n ≡ q → is_dead q ≡ false → Moves text m (between bar (after h hs l)) (b.at + 1) q
-    led h hs l n q e s a = moves-on text ((g.reads (after h hs l) (after_open h hs l)).moves ok) (one text (g.there ok) (ap (step_byte offers (between false (after h hs l))) (sym (g.byte_is ok) ∙ e) ∙ s) a)
+    led h hs l n q e s a = moves-on text (g.reads (after h hs l) (after_open h hs l)) (one text g.there (ap (step_byte offers (between false (after h hs l))) (sym g.byte_is ∙ e) ∙ s) a)
 
     left : (h : Head) (hs : List Hole) (l : Level) → step_byte offers (between false (after h hs l)) b.byte ≡ dead → Stops text m (between bar (after h hs l)) b.at
-    left h hs l s = moves-stops text ((g.reads (after h hs l) (after_open h hs l)).moves ok) (none text (g.there ok) (ap (step_byte offers (between false (after h hs l))) (sym (g.byte_is ok)) ∙ s))
+    left h hs l s = moves-stops text (g.reads (after h hs l) (after_open h hs l)) (none text g.there (ap (step_byte offers (between false (after h hs l))) (sym g.byte_is) ∙ s))
 
     onward : m < b.at + 1
-    onward =
-        let a : Head = record { states = 0; start = 0; names = []; sets = 0 } in
-        let l : Level = alone (truth true) in
-        omega (arith, ((g.reads (after a [] l) (after_open a [] l)).moves ok).later)
+    onward = omega (arith, g.later)
 
-    pub sign-and : b.byte ≡ 38 → ReadsSign text m bar deep (signs.And (b.at + 1))
+    pub sign-and : b.byte ≡ 38 → ReadsSign text m bar deep (Ok (signs.And (b.at + 1)))
     sign-and e = (onward, λ h hs l. led h hs l 38 (between false (operand h hs (and_then l))) e (and_step h hs l) refl)
 
-    pub sign-or : b.byte ≡ 124 → ReadsSign text m bar deep (signs.Or (b.at + 1))
+    pub sign-or : b.byte ≡ 124 → ReadsSign text m bar deep (Ok (signs.Or (b.at + 1)))
     sign-or e = (onward, λ h hs l. led h hs l 124 (between false (operand h hs (or_else (whole l)))) e (or_step h hs l) refl)
 
-    pub sign-closes : deep ≡ true → b.byte ≡ 41 → ReadsSign text m bar deep (signs.Closes (b.at + 1))
+    pub sign-closes : deep ≡ true → b.byte ≡ 41 → ReadsSign text m bar deep (Ok (signs.Closes (b.at + 1)))
     sign-closes d e = (d, onward, λ h hs o l. led h (o ∷ hs) l 41 (between false (after h hs (plug o (group (whole l))))) e (closes-step h hs l o) refl)
 
-    pub sign-not-closes : deep ≡ true → eqb b.byte 38 ≡ false → eqb b.byte 124 ≡ false → eqb b.byte 41 ≡ false → ReadsSign text m bar deep (signs.Stops b.at)
-    sign-not-closes d e₁ e₂ e₃ h hs l k = step (subst (λ (x : Bool). Deep x hs) d k)
+    pub sign-other : eqb b.byte 38 ≡ false → eqb b.byte 124 ≡ false → (deep ≡ true → eqb b.byte 41 ≡ false) → (deep ≡ false → eqb b.byte 45 ≡ false) → ReadsSign text m bar deep (Err (record { at = b.at }))
+    sign-other e₁ e₂ e₃ e₄ h hs l k = go (test deep)
       where
-        step : Deep true hs → Stops text m (between bar (after h hs l)) b.at
-        step (o, os, e) = left h hs l (ap (λ (x : List Hole). step_byte offers (between false (after h x l)) b.byte) e ∙ not-closes-step h os l o b.byte (g.other ok) e₁ e₂ e₃)
+        step : (x : Bool) → deep ≡ x → Deep x hs → Stops text m (between bar (after h hs l)) b.at
+        step true d (o, os, e) = left h hs l (ap (λ (x : List Hole). step_byte offers (between false (after h x l)) b.byte) e ∙ not-closes-step h os l o b.byte g.other e₁ e₂ (e₃ d))
+        step false d e = left h hs l (ap (λ (x : List Hole). step_byte offers (between false (after h x l)) b.byte) e ∙ not-body-step h [] l b.byte g.other e₁ e₂ (e₄ d))
 
-    pub sign-not-body : deep ≡ false → eqb b.byte 38 ≡ false → eqb b.byte 124 ≡ false → eqb b.byte 45 ≡ false → ReadsSign text m bar deep (signs.Stops b.at)
-    sign-not-body d e₁ e₂ e₃ h hs l k =
-        left h hs l (ap (λ (x : List Hole). step_byte offers (between false (after h x l)) b.byte) (subst (λ (x : Bool). Deep x hs) d k) ∙ not-body-step h [] l b.byte (g.other ok) e₁ e₂ e₃)
+        go : (deep ≡ true) ⊎ (deep ≡ false) → Stops text m (between bar (after h hs l)) b.at
+        go (inl t) = step true t (subst (λ (x : Bool). Deep x hs) t k)
+        go (inr f) = step false f (subst (λ (x : Bool). Deep x hs) f k)
 
-    module _ (d : deep ≡ false) (e : b.byte ≡ 45) (r : Taken) (k : Spells text (b.at + 1) (45 ∷ 66 ∷ 79 ∷ 68 ∷ 89 ∷ 45 ∷ 45 ∷ []) r) where
-      body_reads : (h : Head) (l : Level) → Reads text m (between bar (after h [] l)) r.ok r.at (between false (body h (whole l)))
-      body_reads h l =
-          moves-reads text (led h [] l 45 (word_on w.Body (45 ∷ 66 ∷ 79 ∷ 68 ∷ 89 ∷ 45 ∷ 45 ∷ []) (body h (whole l))) e (body-step h [] l) (word-alive w.Body 45 (66 ∷ 79 ∷ 68 ∷ 89 ∷ 45 ∷ 45 ∷ []) (body h (whole l)))) (k w.Body (body h (whole l)))
+    module _ (d : deep ≡ false) (e : b.byte ≡ 45) where
+      body_reads : (r : Result ℕ Stop) → Spells text (b.at + 1) (45 ∷ 66 ∷ 79 ∷ 68 ∷ 89 ∷ 45 ∷ 45 ∷ []) r → (h : Head) (l : Level) → Reads text m (between bar (after h [] l)) r (between false (body h (whole l)))
+      body_reads r k h l =
+          moves-reads text r (λ (x : ℕ). x) (λ (x : ℕ). between false (body h (whole l)))
+          (led h [] l 45 (word_on w.Body (45 ∷ 66 ∷ 79 ∷ 68 ∷ 89 ∷ 45 ∷ 45 ∷ []) (body h (whole l))) e (body-step h [] l) (word-alive w.Body 45 (66 ∷ 79 ∷ 68 ∷ 89 ∷ 45 ∷ 45 ∷ []) (body h (whole l)))) (k w.Body (body h (whole l)))
 
-      pub sign-body : r.ok ≡ true → ReadsSign text m bar deep (signs.Body r.at)
-      sign-body t = (d, λ h l. (body_reads h l).moves t)
+      pub sign-body : (n : ℕ) → Spells text (b.at + 1) (45 ∷ 66 ∷ 79 ∷ 68 ∷ 89 ∷ 45 ∷ 45 ∷ []) (Ok n) → ReadsSign text m bar deep (Ok (signs.Body n))
+      sign-body n k = (d, body_reads (Ok n) k)
 
-      pub sign-not-spelled : r.ok ≡ false → ReadsSign text m bar deep (signs.Stops r.at)
-      sign-not-spelled f h hs l q = subst (λ (x : List Hole). Stops text m (between bar (after h x l)) r.at) (sym (subst (λ (x : Bool). Deep x hs) d q)) ((body_reads h l).stops f)
+      pub sign-not-spelled : (r : Stop) → Spells text (b.at + 1) (45 ∷ 66 ∷ 79 ∷ 68 ∷ 89 ∷ 45 ∷ 45 ∷ []) (Err r) → ReadsSign text m bar deep (Err r)
+      sign-not-spelled r k h hs l q = subst (λ (x : List Hole). Stops text m (between bar (after h x l)) r.at) (sym (subst (λ (x : Bool). Deep x hs) d q)) (body_reads (Err r) k h l)

@@ -7,9 +7,10 @@ use mathlib.Core.Bool.{Bool, true, false, not, ◌&&◌, ◌||◌}
 use mathlib.Core.List.{List, [], ◌∷◌}
 use lib.Bits.{bit_and, bit_or}
 use lib.Dec.{ltb}
-use lib.ListN.{length, get_or, drop, set, replicate, length-set, drop_of_length-le}
+use lib.ListN.{length, get_or, set, replicate, length-set}
 use lib.Pow.{pow_mono}
-use Rattle.lists.proofs.Lists.{drop-next}
+use lib.Seq.{set-get_or}
+use Rattle.std.specs.Prelude.{fold}
 use Rattle.hanoi.proofs.Digits.{lt_yes}
 use Rattle.masks.specs.Masks.{has, minus}
 use Rattle.masks.proofs.Bits.{has-and, has-or, has-minus, has-none}
@@ -90,11 +91,11 @@ rising-more planes lanes now carry k x r h e =
           ap₂ (λ (n : ℕ) (b : Bool). count_at (set now k (differing p carry)) s + n * digit b) (sym (next-pow k)) (sym (has-and s p carry));
     })
 
-pub rising-stop : (planes : List ℕ) (lanes : ℕ) (now : List ℕ) (carry k : ℕ) → Rising planes lanes now carry k → carry ≡ 0 → CountsUp planes lanes now
-rising-stop planes lanes now carry k r z = record {
+pub rising-stop : (planes : List ℕ) (lanes : ℕ) (now : List ℕ) (carry k : ℕ) → Rising planes lanes now carry k → carry ≡ 0 → CountsUp planes lanes (set now k (get_or now k 0))
+rising-stop planes lanes now carry k r z = subst (CountsUp planes lanes) (sym (set-get_or now k 0)) (record {
   long = r.long;
   counts = λ s h. sym (r.counts s ∙ (ap (λ (b : Bool). count_at now s + 2 ^ k * digit b) (ap (λ (c : ℕ). has c s) z ∙ has-none s) ∙ nothing (count_at now s) (2 ^ k)));
-}
+})
   where
     nothing : (n d : ℕ) → n + d * 0 ≡ n
     nothing n d = omega arith
@@ -142,11 +143,11 @@ falling-more planes lanes now borrow k x y r h e f =
           borrowed (has p s) (has borrow s) (2 ^ k) (count_at now s) (count_at (set now k (differing p borrow)) s) (count_at planes s) (digit (has lanes s)) (r.counts s) (stored now k borrow s h);
     })
 
-pub falling-stop : (planes : List ℕ) (lanes : ℕ) (now : List ℕ) (borrow k : ℕ) → Falling planes lanes now borrow k → borrow ≡ 0 → CountsDown planes lanes now
-falling-stop planes lanes now borrow k r z = record {
+pub falling-stop : (planes : List ℕ) (lanes : ℕ) (now : List ℕ) (borrow k : ℕ) → Falling planes lanes now borrow k → borrow ≡ 0 → CountsDown planes lanes (set now k (get_or now k 0))
+falling-stop planes lanes now borrow k r z = subst (CountsDown planes lanes) (sym (set-get_or now k 0)) (record {
   long = r.long;
   counts = λ s h. sym (r.counts s) ∙ (ap (λ (b : Bool). count_at planes s + 2 ^ k * digit b) (ap (λ (c : ℕ). has c s) z ∙ has-none s) ∙ nothing (count_at planes s) (2 ^ k));
-}
+})
   where
     nothing : (n d : ℕ) → n + d * 0 ≡ n
     nothing n d = omega arith
@@ -163,22 +164,15 @@ falling-end planes lanes now borrow k r z = record { long = r.long; counts = λ 
     full false true z x d e h k = absurd (omega (arith, e, h))
     full false false z x d e h k = omega (arith, e)
 
--- ---- which are not 0: `some` has those of the first k planes
-pub record Joining (planes : List ℕ) (some k : ℕ) : Type 0 where
-  pub within : k ≤ length planes
-  pub joins : (s : ℕ) → has some s || ltb 0 (count_at (drop k planes) s) ≡ ltb 0 (count_at planes s)
-
-pub joining-first : (planes : List ℕ) → Joining planes 0 0
-joining-first planes = record { within = omega arith; joins = λ s. ap (λ (b : Bool). b || ltb 0 (count_at planes s)) (has-none s) }
-
-pub joining-more : (planes : List ℕ) (some k : ℕ) → Joining planes some k → k < length planes → Joining planes (bit_or some (get_or planes k 0)) (k + 1)
+-- ---- which are not 0
+joined-from : (planes : List ℕ) (a s : ℕ) → has (fold bit_or a planes) s ≡ has a s || ltb 0 (count_at planes s)
 unfolding count_at
-joining-more planes some k j h = record {
-  within = omega arith;
-  joins =
-      λ s. ap (λ (b : Bool). b || ltb 0 (count_at (drop (k + 1) planes) s)) (has-or s some (get_or planes k 0)) ∙
-      (sym (first (has some s) (has (get_or planes k 0) s) (count_at (drop (k + 1) planes) s)) ∙ (ap (λ (l : List ℕ). has some s || ltb 0 (count_at l s)) (sym (drop-next planes k 0 h)) ∙ j.joins s));
-}
+joined-from [] a s = sym (last (has a s))
+  where
+    last : (b : Bool) → b || false ≡ b
+    last true = refl
+    last false = refl
+joined-from (p ∷ planes) a s = joined-from planes (bit_or a p) s ∙ (ap (λ (b : Bool). b || ltb 0 (count_at planes s)) (has-or s a p) ∙ sym (first (has a s) (has p s) (count_at planes s)))
   where
     first : (a b : Bool) (n : ℕ) → a || ltb 0 (digit b + 2 * n) ≡ (a || b) || ltb 0 n
     first true b n = refl
@@ -186,14 +180,9 @@ joining-more planes some k j h = record {
     first false false zero = refl
     first false false (suc n) = lt_yes 0 (0 + 2 * suc n) (omega arith) ∙ sym (lt_yes 0 (suc n) (omega arith))
 
-pub joining-end : (planes : List ℕ) (lanes some k : ℕ) → Joining planes some k → length planes ≤ k → (s : ℕ) → has (bit_and lanes some) s ≡ has lanes s && ltb 0 (count_at planes s)
-unfolding count_at
-joining-end planes lanes some k j h s =
-    has-and s lanes some ∙ ap (λ (b : Bool). has lanes s && b) (sym (last (has some s)) ∙ (ap (λ (l : List ℕ). has some s || ltb 0 (count_at l s)) (sym (drop_of_length-le planes h)) ∙ j.joins s))
-  where
-    last : (b : Bool) → b || false ≡ b
-    last true = refl
-    last false = refl
+pub joined-lanes : (planes : List ℕ) (lanes some : ℕ) → some ≡ fold bit_or 0 planes → (s : ℕ) → has (bit_and lanes some) s ≡ has lanes s && ltb 0 (count_at planes s)
+joined-lanes planes lanes some e s =
+    has-and s lanes some ∙ ap (λ (b : Bool). has lanes s && b) (ap (λ (n : ℕ). has n s) e ∙ (joined-from planes 0 s ∙ ap (λ (b : Bool). b || ltb 0 (count_at planes s)) (has-none s)))
 
-pub joining-none : (planes : List ℕ) (lanes : ℕ) → lanes ≡ 0 → (s : ℕ) → has 0 s ≡ has lanes s && ltb 0 (count_at planes s)
-joining-none planes lanes z s = has-none s ∙ sym (ap (λ (b : Bool). b && ltb 0 (count_at planes s)) (ap (λ (n : ℕ). has n s) z ∙ has-none s))
+pub joined-none : (planes : List ℕ) (lanes : ℕ) → lanes ≡ 0 → (s : ℕ) → has 0 s ≡ has lanes s && ltb 0 (count_at planes s)
+joined-none planes lanes z s = has-none s ∙ sym (ap (λ (b : Bool). b && ltb 0 (count_at planes s)) (ap (λ (n : ℕ). has n s) z ∙ has-none s))

@@ -1,9 +1,9 @@
 -- From the parts of a text to the answer: what stops it is 18 with its length; a text read to its end gives its document's answer. Assumes nothing.
 use Prim.Native.Nat.{ℕ, ◌+◌, ◌-◌, ◌*◌, ◌≤◌, ◌<◌, ◌^◌}
 use native.Mathlib.Omega.{arith}
-use native.Mathlib.Nat.{mul-le-mul}
 use mathlib.Core.Path.{◌≡◌, refl, sym, ap, ap₂, ◌∙◌, subst}
 use mathlib.Core.Bool.{Bool, true, false, ◌&&◌}
+use Rattle.std.specs.Prelude.{Ok, Err}
 use mathlib.Core.List.{List, [], ◌∷◌, ◌++◌, map}
 use lib.Dec.{ltb, leb}
 use lib.ListN.{length, take, replicate, length-map}
@@ -27,6 +27,7 @@ use Rattle.hanoi.proofs.Digits.{le_yes, le-no}
 use Rattle.hanoi.proofs.Taking.{lawful-parts}
 use Rattle.hanoi.proofs.Answering.{said-back, answers}
 use Rattle.hanoi.proofs.Documents.{edges-long}
+use Rattle.hanoi_tokens.specs.declared.Stop.{Stop}
 use Rattle.hanoi_tokens.specs.Moves.{Moves, Stops}
 use Rattle.hanoi_tokens.proofs.Moves.{moves-on, moves-stops}
 use Rattle.hanoi_formula.specs.declared.Valued.{Valued}
@@ -61,178 +62,175 @@ map_same : {A B : Type 0} (f g : A → B) → ((x : A) → f x ≡ g x) → (l :
 map_same f g h [] = refl
 map_same f g h (x ∷ l) = ap₂ (λ (a : _) (t : List _). a ∷ t) (h x) (map_same f g h l)
 
-module _ (text : List ℕ) (r : Header) (k : ReadsHeader text r) where
-  pub no_header : r.ok ≡ false → refused 18 r.at ≡ hanoi_of text
-  no_header e = stopped text r.at (k.stops e)
+pub no_header : (text : List ℕ) (e : Stop) → ReadsHeader text (Err e) → refused 18 e.at ≡ hanoi_of text
+no_header text e k = stopped text e.at k.stops
 
-  module _ (ok : r.ok ≡ true) where
-    names : List (List ℕ)
-    names = (k.moves ok).0
+module _ (text : List ℕ) (r : Header) (k : ReadsHeader text (Ok r)) where
+  names : List (List ℕ)
+  names = k.moves.0
 
-    head : Head
-    head = record { states = r.states; start = r.start; names = names; sets = r.sets }
+  head : Head
+  head = record { states = r.states; start = r.start; names = names; sets = r.sets }
 
-    read_head : Moves text 0 first r.at (between false (operand head [] fresh))
-    unfolding head names
-    read_head = (k.moves ok).2
+  read_head : Moves text 0 first r.at (between false (operand head [] fresh))
+  unfolding head names
+  read_head = k.moves.2
 
-    head-sets : head.sets ≡ r.sets
-    unfolding head
-    head-sets = refl
+  head-sets : head.sets ≡ r.sets
+  unfolding head
+  head-sets = refl
 
-    pub head-within : r.at ≤ length text
-    head-within = read_head.within
+  pub head-within : r.at ≤ length text
+  head-within = read_head.within
 
-    module _ (lanes : List ℕ) (v : Valued) (q : ReadsFormula text r.at r.sets 0 lanes v) where
-      pub no-formula : v.ok ≡ false → refused 18 v.at ≡ hanoi_of text
-      no-formula e = stopped text v.at (moves-stops text read_head (q.stops head head-sets e))
+  pub no-formula : (lanes : List ℕ) (e : Stop) → ReadsFormula text r.at r.sets 0 lanes (Err e) → refused 18 e.at ≡ hanoi_of text
+  no-formula lanes e q = stopped text e.at (moves-stops text read_head (q.stops head head-sets))
 
-      module _ (yet : v.ok ≡ true) where
-        formula : Formula
-        formula = (q.moves head head-sets yet).0
+  module _ (lanes : List ℕ) (v : Valued) (q : ReadsFormula text r.at r.sets 0 lanes (Ok v)) where
+    formula : Formula
+    formula = (q.moves head head-sets).0
 
-        read-formula : Moves text 0 first v.at (between false (body head formula))
-        unfolding formula
-        read-formula = moves-on text read_head (q.moves head head-sets yet).1
+    read-formula : Moves text 0 first v.at (between false (body head formula))
+    unfolding formula
+    read-formula = moves-on text read_head (q.moves head head-sets).1
 
-        pub formula-within : v.at ≤ length text
-        formula-within = read-formula.within
+    pub formula-within : v.at ≤ length text
+    formula-within = read-formula.within
 
-        module _ (count : ℕ) (c : count ≡ 2 ^ r.names) (fits : Bool) (b : Body) (z : ReadsBody text v.at r.states count r.sets fits b) where
-          counts : Counts head r.states count r.sets
-          unfolding head names
-          counts = record { states_are = refl; letters_are = ap (λ (n : ℕ). 2 ^ n) (k.moves ok).1 ∙ sym c; sets_are = refl }
+    module _ (count : ℕ) (c : count ≡ 2 ^ r.names) (fits : Bool) where
+      counts : Counts head r.states count r.sets
+      unfolding head names
+      counts = record { states_are = refl; letters_are = ap (λ (n : ℕ). 2 ^ n) k.moves.1 ∙ sym c; sets_are = refl }
 
-          pub no_body : b.ok ≡ false → refused 18 b.at ≡ hanoi_of text
-          no_body e = stopped text b.at (moves-stops text read-formula (z.stops head formula counts e))
+      pub no_body : (e : Stop) → ReadsBody text v.at r.states count r.sets fits (Err e) → refused 18 e.at ≡ hanoi_of text
+      no_body e z = stopped text e.at (moves-stops text read-formula (z.stops head formula counts))
 
-          module _ (done : b.ok ≡ true) where
-            rows : List (List Edge)
-            rows = (z.finishes head formula counts done).0
+      module _ (b : Body) (z : ReadsBody text v.at r.states count r.sets fits (Ok b)) where
+        rows : List (List Edge)
+        rows = (z.finishes head formula counts).0
 
-            bar : Bool
-            bar = (z.finishes head formula counts done).1
+        bar : Bool
+        bar = (z.finishes head formula counts).1
 
-            d : Document
-            d = document_of head formula rows
+        d : Document
+        d = document_of head formula rows
 
-            whole : run offers first text ≡ between bar (finished d)
-            unfolding rows bar d
-            whole = read-formula.runs ∙ (z.finishes head formula counts done).2
+        whole : run offers first text ≡ between bar (finished d)
+        unfolding rows bar d
+        whole = read-formula.runs ∙ (z.finishes head formula counts).2
 
-            answer_is : hanoi_of text ≡ answer_of d
-            answer_is = ended text bar d whole
+        answer_is : hanoi_of text ≡ answer_of d
+        answer_is = ended text bar d whole
 
-            d-states : d.states ≡ r.states
+        d-states : d.states ≡ r.states
+        unfolding d document_of head
+        d-states = refl
+
+        d-start : r.start ≡ d.start
+        unfolding d document_of head
+        d-start = refl
+
+        d-letters : letters d ≡ count
+        unfolding d document_of letters
+        d-letters = counts.letters_are
+
+        small_is : leb d.states 16 && leb (d.states * letters d) 64 ≡ leb r.states 16 && leb (r.states * count) 64
+        small_is = ap₂ (λ (x y : ℕ). leb x 16 && leb (x * y) 64) d-states d-letters
+
+        pub over : fits ≡ leb r.states 16 && leb (r.states * count) 64 → fits ≡ false → refused 4 0 ≡ hanoi_of text
+        unfolding answer_of
+        over e f = sym (answer_is ∙ (rw (small_is ∙ (sym e ∙ f)) refl))
+
+        is_lawful : lawful d ≡ true
+        is_lawful = (said-back text bar d whole).lawful_is
+
+        es : List Edge
+        es = edges_of d
+
+        es-are : es ≡ flat rows
+        unfolding es edges_of d document_of
+        es-are = refl
+
+        es-long : length es ≡ r.states * count
+        unfolding es
+        es-long = edges-long d is_lawful ∙ ap₂ (λ (x y : ℕ). x * y) d-states d-letters
+
+        sets : List ℕ
+        sets = map mark_set es
+
+        module _ (e : fits ≡ leb r.states 16 && leb (r.states * count) 64) (t : fits ≡ true) where
+          marks_are : take (r.states * count) b.marks ≡ sets
+          unfolding sets rows
+          marks_are =
+              ap₂ (λ (n : ℕ) (l : List ℕ). take n l) (sym es-long ∙ sym (length-map es mark_set)) (((z.finishes head formula counts).3 t).1 ∙ ap (λ (l : List Edge). filled 64 (map mark_set l)) (sym es-are)) ∙
+              take-front (map mark_set es) (replicate (64 - length (map mark_set es)) 0)
+
+          within : leb d.states 16 && leb (d.states * letters d) 64 ≡ true
+          within = small_is ∙ (sym e ∙ t)
+
+          mark-sets : mark_sets d ≡ firsts sets
+          unfolding mark_sets sets es
+          mark-sets = refl
+
+          pub many : 8 < length (firsts (take (r.states * count) b.marks)) → refused 19 0 ≡ hanoi_of text
+          unfolding answer_of
+          many l =
+              let m : 8 < length (firsts sets) = subst (λ (x : List ℕ). 8 < length (firsts x)) marks_are l in
+              sym (answer_is ∙ (rw (within, ap (λ (x : List ℕ). leb (length x) 8) mark-sets ∙ le-no (length (firsts sets)) 8 m) refl))
+
+          module _ (g : Colouring) (y : Coloured (take (r.states * count) b.marks) g) (family : List Bool) (i : IsFamily text r.at r.sets g.sets (2 ^ g.count) family) where
+            coloured : Coloured sets g
+            coloured = subst (λ (l : List ℕ). Coloured l g) marks_are y
+
+            count_is : g.count ≡ length (mark_sets d)
+            count_is = coloured.count_is ∙ ap length (sym mark-sets)
+
+            target_is : b.target ≡ filled 64 (map target_of (edges_of d))
+            unfolding rows es
+            target_is = ((z.finishes head formula counts).3 t).0 ∙ ap (λ (x : List Edge). filled 64 (map target_of x)) (sym es-are)
+
+            colours_are : map (colour_in sets) sets ≡ map (colour_of d) (edges_of d)
+            unfolding sets es colour_of
+            colours_are = map-again mark_set (colour_in (map mark_set (edges_of d))) (edges_of d)
+
+            colour-is : g.colour ≡ filled 64 (map (colour_of d) (edges_of d))
+            colour-is =
+                coloured.colours_are ∙
+                ap₂ (λ (x : List ℕ) (n : ℕ). x ++ replicate (64 - n) 0) colours_are (sym (length-map sets (colour_in sets)) ∙ ap length colours_are)
+
+            formed_is : formed r.sets d.formula ≡ true
             unfolding d document_of head
-            d-states = refl
+            formed_is = (lawful-parts d is_lawful).formed_is
 
-            d-start : r.start ≡ d.start
-            unfolding d document_of head
-            d-start = refl
+            union-is : (n : ℕ) → union_at g.sets n 8 ≡ union_at (mark_sets d) n (length (mark_sets d))
+            union-is n =
+                let x : 8 ≡ length (firsts sets) + (8 - length (firsts sets)) = omega (arith, coloured.few) in
+                ap₂ (λ (a : List ℕ) (m : ℕ). union_at a n m) coloured.sets_are x ∙
+                (union-filled (firsts sets) (8 - length (firsts sets)) n ∙ ap (λ (a : List ℕ). union_at a n (length a)) (sym mark-sets))
 
-            d-letters : letters d ≡ count
-            unfolding d document_of letters
-            d-letters = counts.letters_are
+            named-is : (n : ℕ) → named_below d.formula g.sets (2 ^ g.count) n ≡ named d n
+            unfolding named
+            named-is n = ap₂ (λ (a u : ℕ). ltb 0 n && ltb n a && holds u d.formula) (ap (λ (x : ℕ). 2 ^ x) count_is) (union-is n)
 
-            small_is : leb d.states 16 && leb (d.states * letters d) 64 ≡ leb r.states 16 && leb (r.states * count) 64
-            small_is = ap₂ (λ (x y : ℕ). leb x 16 && leb (x * y) 64) d-states d-letters
+            family_is : family ≡ map (named d) (below 256)
+            family_is =
+                i.is head d bar head-sets (sym read_head.runs ∙ whole) formed_is ∙ map_same (named_below d.formula g.sets (2 ^ g.count)) (named d) named-is (below 256)
 
-            pub over : fits ≡ leb r.states 16 && leb (r.states * count) 64 → fits ≡ false → refused 4 0 ≡ hanoi_of text
+            policy_is : from_parts (record { states = r.states; letters = count; colours = g.count; initial = r.start }) 0 b.target g.colour family ≡ policy_of d
+            unfolding policy_of
+            policy_is =
+                let a = sym d-states in let o = sym d-letters in
+                (λ j. from_parts (record { states = a j; letters = o j; colours = count_is j; initial = d-start j }) 0 (target_is j) (colour-is j) (family_is j))
+
+            pub read_is : record { outcome = Read; policy = from_parts (record { states = r.states; letters = count; colours = g.count; initial = r.start }) 0 b.target g.colour family } ≡ hanoi_of text
             unfolding answer_of
-            over e f = sym (answer_is ∙ (rw (small_is ∙ (sym e ∙ f)) refl))
-
-            is_lawful : lawful d ≡ true
-            is_lawful = (said-back text bar d whole).lawful_is
-
-            es : List Edge
-            es = edges_of d
-
-            es-are : es ≡ flat rows
-            unfolding es edges_of d document_of
-            es-are = refl
-
-            es-long : length es ≡ r.states * count
-            unfolding es
-            es-long = edges-long d is_lawful ∙ ap₂ (λ (x y : ℕ). x * y) d-states d-letters
-
-            sets : List ℕ
-            sets = map mark_set es
-
-            module _ (e : fits ≡ leb r.states 16 && leb (r.states * count) 64) (t : fits ≡ true) (g : Colouring) (y : Coloured (take (r.states * count) b.marks) g) where
-              marks_are : take (r.states * count) b.marks ≡ sets
-              unfolding sets rows
-              marks_are =
-                  ap₂ (λ (n : ℕ) (l : List ℕ). take n l) (sym es-long ∙ sym (length-map es mark_set)) (((z.finishes head formula counts done).3 t).1 ∙ ap (λ (l : List Edge). filled 64 (map mark_set l)) (sym es-are)) ∙
-                  take-front (map mark_set es) (replicate (64 - length (map mark_set es)) 0)
-
-              coloured : Coloured sets g
-              coloured = subst (λ (l : List ℕ). Coloured l g) marks_are y
-
-              within : leb d.states 16 && leb (d.states * letters d) 64 ≡ true
-              within = small_is ∙ (sym e ∙ t)
-
-              mark-sets : mark_sets d ≡ firsts sets
-              unfolding mark_sets sets es
-              mark-sets = refl
-
-              pub many : 8 < g.count → refused 19 0 ≡ hanoi_of text
-              unfolding answer_of
-              many l = sym (answer_is ∙ (rw (within, ap (λ (x : List ℕ). leb (length x) 8) mark-sets ∙ le-no (length (firsts sets)) 8 (omega (arith, l, coloured.count_is))) refl))
-
-              module _ (l : g.count ≤ 8) (family : List Bool) (i : IsFamily text r.at r.sets g.sets (2 ^ g.count) family) where
-                few : length (firsts sets) ≤ 8
-                few = omega (arith, l, coloured.count_is)
-
-                count_is : g.count ≡ length (mark_sets d)
-                count_is = let x : g.count ≡ length (firsts sets) = omega (arith, few, coloured.count_is) in x ∙ ap length (sym mark-sets)
-
-                target_is : b.target ≡ filled 64 (map target_of (edges_of d))
-                unfolding rows es
-                target_is = ((z.finishes head formula counts done).3 t).0 ∙ ap (λ (x : List Edge). filled 64 (map target_of x)) (sym es-are)
-
-                colours_are : map (colour_in sets) sets ≡ map (colour_of d) (edges_of d)
-                unfolding sets es colour_of
-                colours_are = map-again mark_set (colour_in (map mark_set (edges_of d))) (edges_of d)
-
-                colour-is : g.colour ≡ filled 64 (map (colour_of d) (edges_of d))
-                colour-is =
-                    coloured.colours_are few ∙
-                    ap₂ (λ (x : List ℕ) (n : ℕ). x ++ replicate (64 - n) 0) colours_are (sym (length-map sets (colour_in sets)) ∙ ap length colours_are)
-
-                formed_is : formed r.sets d.formula ≡ true
-                unfolding d document_of head
-                formed_is = (lawful-parts d is_lawful).formed_is
-
-                union-is : (n : ℕ) → union_at g.sets n 8 ≡ union_at (mark_sets d) n (length (mark_sets d))
-                union-is n =
-                    let x : 8 ≡ length (firsts sets) + (8 - length (firsts sets)) = omega (arith, few) in
-                    ap₂ (λ (a : List ℕ) (m : ℕ). union_at a n m) (coloured.sets_are few) x ∙
-                    (union-filled (firsts sets) (8 - length (firsts sets)) n ∙ ap (λ (a : List ℕ). union_at a n (length a)) (sym mark-sets))
-
-                named-is : (n : ℕ) → named_below d.formula g.sets (2 ^ g.count) n ≡ named d n
-                unfolding named
-                named-is n = ap₂ (λ (a u : ℕ). ltb 0 n && ltb n a && holds u d.formula) (ap (λ (x : ℕ). 2 ^ x) count_is) (union-is n)
-
-                family_is : family ≡ map (named d) (below 256)
-                family_is =
-                    i.is head d bar head-sets (sym read_head.runs ∙ whole) formed_is ∙ map_same (named_below d.formula g.sets (2 ^ g.count)) (named d) named-is (below 256)
-
-                policy_is : from_parts (record { states = r.states; letters = count; colours = g.count; initial = r.start }) 0 b.target g.colour family ≡ policy_of d
-                unfolding policy_of
-                policy_is =
-                    let a = sym d-states in let o = sym d-letters in
-                    (λ j. from_parts (record { states = a j; letters = o j; colours = count_is j; initial = d-start j }) 0 (target_is j) (colour-is j) (family_is j))
-
-                pub read_is : record { outcome = Read; policy = from_parts (record { states = r.states; letters = count; colours = g.count; initial = r.start }) 0 b.target g.colour family } ≡ hanoi_of text
-                unfolding answer_of
-                read_is =
-                    ap (λ (p : Policy). record { outcome = Read; policy = p }) policy_is ∙
-                    sym (answer_is ∙ (rw (within, ap (λ (x : List ℕ). leb (length x) 8) mark-sets ∙ le_yes (length (firsts sets)) 8 few) refl))
+            read_is =
+                ap (λ (p : Policy). record { outcome = Read; policy = p }) policy_is ∙
+                sym (answer_is ∙ (rw (within, ap (λ (x : List ℕ). leb (length x) 8) mark-sets ∙ le_yes (length (firsts sets)) 8 coloured.few) refl))
 
 -- what is computed means what the documents say
-pub promised : (text : List ℕ) (r : Answer) → r ≡ hanoi_of text → (r ≡ hanoi_of text) × Answers text r
-promised text r e = (e, subst (Answers text) (sym e) (answers text))
+pub meant : (text : List ℕ) (r : Answer) → r ≡ hanoi_of text → Answers text r
+meant text r e = subst (Answers text) (sym e) (answers text)
 
 -- ---- limits
 pub letters_few : (n : ℕ) → n ≤ 3 → 2 ^ n ≤ 8
@@ -241,12 +239,3 @@ letters_few n h = pow_mono {i = n} {j = 3} h
 pub limits-kept : (fits : Bool) (states letters : ℕ) → fits ≡ leb states 16 && leb (states * letters) 64 → fits ≡ true → (states ≤ 16) × (states * letters ≤ 64)
 limits-kept fits states letters e t =
     let x = sym e ∙ t in (le-true states 16 (and_l (leb states 16) (leb (states * letters) 64) x), le-true (states * letters) 64 (and_r (leb states 16) (leb (states * letters) 64) x))
-
-pub limits-over : (states letters : ℕ) → 16 < states → false ≡ leb states 16 && leb (states * letters) 64
-limits-over states letters h = rw (le-no states 16 h) refl
-
-pub limits-within : (states letters : ℕ) → states ≤ 16 → leb (states * letters) 64 ≡ leb states 16 && leb (states * letters) 64
-limits-within states letters h = rw (le_yes states 16 h) refl
-
-pub limits-product : (states letters : ℕ) → states ≤ 16 → letters ≤ 8 → states * letters < 18446744073709551616
-limits-product states letters h l = let m = mul-le-mul h l in omega (arith, m)

@@ -4,9 +4,31 @@
 ghost use Rattle.std.specs.Prelude.{◌≡◌, ◌&&◌, ◌*◌, ◌≤◌, ◌^◌, leb};
 ghost use Rattle.hanoi.specs.Answers.{refused, Answers};
 ghost use Rattle.hanoi.specs.Reading.{hanoi_of};
+ghost use Rattle.hanoi_reader.specs.declared.Refusal.TheVariants.{Stops};
+ghost use Rattle.hanoi_reader.specs.Answering.{answer_for};
 
 use hanoi::{Answer, Outcome};
+use hanoi_tokens::Stop;
 use policy::Policy;
+
+// Why a text gives no policy.
+#[derive(Clone, Copy)]
+enum Refusal {
+    // It stops being one of the subset there.
+    Stops(usize),
+    // It has too many states or edges.
+    TooLarge,
+    // It has more than 8 colours.
+    TooManyColours,
+}
+
+impl From<Stop> for Refusal {
+    ghost from_gives = { λ stop r. r ≡ Stops stop.at };
+
+    fn from(stop: Stop) -> Refusal {
+        Refusal::Stops(stop.at)
+    }
+}
 
 // How many letters there are: one for each valuation of the names.
 fn letters_of(names: u32) -> usize
@@ -21,10 +43,46 @@ fn is_within_limits(states: u32, letters: usize) -> bool
     requires { letters ≤ 8 }
     ensures { result ≡ leb states 16 && leb (states * letters) 64 }
 {
-    if 16 < states {
-        return false;
+    states <= 16 && states as usize * letters <= 64
+}
+
+// The policy of a text, or the first question that it answers no.
+fn read_policy(text: &[u8]) -> Result<Policy, Refusal>
+    ensures { answer_for result ≡ hanoi_of text.now }
+{
+    let header = hanoi_header::read_header(text)?;
+    // Its values are asked for when the colours are known.
+    let no_lanes = [0u64; 32];
+    let formula = hanoi_formula::read_formula(text, header.at, header.sets, 0, &no_lanes)?;
+    let letters = letters_of(header.names);
+    let fits = is_within_limits(header.states, letters);
+    let body = hanoi_body::read_body(text, formula.at, header.states, letters, header.sets, fits)?;
+    if !fits {
+        return Err(Refusal::TooLarge);
     }
-    states as usize * letters <= 64
+    let Some(colouring) = mark_sets::colours_of(&body.marks, header.states as usize * letters)
+    else {
+        return Err(Refusal::TooManyColours);
+    };
+    let family = hanoi_family::family_of(
+        text,
+        header.at,
+        header.sets,
+        &colouring.sets,
+        colouring.count,
+    );
+    let target = body.target;
+    let colour = colouring.colour;
+    Ok(Policy {
+        states: header.states as u8,
+        letters: letters as u8,
+        colours: colouring.count,
+        initial: header.start as u8,
+        target,
+        colour,
+        family,
+        quiet: 0,
+    })
 }
 
 fn refused(number: u8, at: usize) -> Answer
@@ -41,48 +99,13 @@ pub fn read(text: &[u8]) -> Answer
     ensures answer { result ≡ hanoi_of text.now }
     ensures meaning { Answers text.now result }
 {
-    let h = hanoi_header::read_header(text);
-    let from = h.at;
-    if !h.ok {
-        return refused(18, from);
-    }
-    // Its values are asked for when the colours are known.
-    let no_lanes = [0u64; 32];
-    let f = hanoi_formula::read_formula(text, from, h.sets, 0, &no_lanes);
-    let behind = f.at;
-    if !f.ok {
-        return refused(18, behind);
-    }
-    let letters = letters_of(h.names);
-    let fits = is_within_limits(h.states, letters);
-    let b = hanoi_body::read_body(text, behind, h.states, letters, h.sets, fits);
-    let end = b.at;
-    if !b.ok {
-        return refused(18, end);
-    }
-    if !fits {
-        return refused(4, 0);
-    }
-    let target = b.target;
-    let marks = b.marks;
-    let c = mark_sets::colours_of(marks, h.states as usize * letters);
-    if 8 < c.count {
-        return refused(19, 0);
-    }
-    let sets = c.sets;
-    let colour = c.colour;
-    let family = hanoi_family::family_of(text, from, h.sets, sets, c.count);
-    Answer {
-        outcome: Outcome::Read,
-        policy: Policy {
-            states: h.states as u8,
-            letters: letters as u8,
-            colours: c.count,
-            initial: h.start as u8,
-            target,
-            colour,
-            family,
-            quiet: 0,
+    match read_policy(text) {
+        Ok(policy) => Answer {
+            outcome: Outcome::Read,
+            policy,
         },
+        Err(Refusal::Stops(at)) => refused(18, at),
+        Err(Refusal::TooLarge) => refused(4, 0),
+        Err(Refusal::TooManyColours) => refused(19, 0),
     }
 }

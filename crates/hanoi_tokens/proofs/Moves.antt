@@ -3,7 +3,7 @@ use Prim.Native.Nat.{ℕ, suc, ◌+◌, ◌≤◌, ◌<◌}
 use native.Mathlib.Omega.{arith}
 use native.Mathlib.Numerals.{add-one}
 use mathlib.Core.Path.{◌≡◌, refl, sym, ap, ◌∙◌, subst}
-use mathlib.Core.Bool.{Bool, true, false, cond, false≢true, true≢false}
+use mathlib.Core.Bool.{Bool, true, false, cond}
 use mathlib.Core.List.{List, [], ◌∷◌}
 use lib.ListN.{length, get_or, drop, drop_of_length-le}
 use lib.Seq.{drop-cons}
@@ -12,7 +12,9 @@ use Rattle.hanoi.specs.Offers.{Spot, dead, step_byte, run}
 use Rattle.hanoi.specs.Reader.{At, offers, is_dead, alive_for}
 use Rattle.hanoi.specs.Reading.{answer_at}
 use Rattle.hanoi.proofs.Forth.{dead-stays}
-use Rattle.hanoi_tokens.specs.Moves.{Moves, Stops, Reads}
+use Rattle.std.specs.Prelude.{Result, Ok, Err}
+use Rattle.hanoi_tokens.specs.declared.Stop.{Stop}
+use Rattle.hanoi_tokens.specs.Moves.{Moves, Stops, ReadsTo}
 
 alive-on : (b : ℕ) (bs : List ℕ) (p : Spot At) → is_dead (step_byte offers p b) ≡ false → alive_for (b ∷ bs) p ≡ suc (alive_for bs (step_byte offers p b))
 unfolding alive_for
@@ -46,8 +48,9 @@ module _ (text : List ℕ) where
   pub moves-stops : {m n k : ℕ} {p q : Spot At} → Moves text m p n q → Stops text n q k → Stops text m p k
   moves-stops a b = record { unanswered = λ x. ap (answer_at x) a.runs ∙ b.unanswered x; alive = a.alive ∙ b.alive }
 
-  pub moves-reads : {m n k : ℕ} {p q r : Spot At} {ok : Bool} → Moves text m p n q → Reads text n q ok k r → Reads text m p ok k r
-  moves-reads a b = record { moves = λ e. moves-on a (b.moves e); stops = λ e. moves-stops a (b.stops e) }
+  pub moves-reads : {A : Type 0} {m n : ℕ} {p q : Spot At} (r : Result A Stop) (at : A → ℕ) (to : A → Spot At) → Moves text m p n q → ReadsTo text n q r at to → ReadsTo text m p r at to
+  moves-reads (Ok x) at to a b = moves-on a b
+  moves-reads (Err e) at to a b = moves-stops a b
 
   one_on : {m : ℕ} {p q : Spot At} → m < length text → step_byte offers p (get_or text m 0) ≡ q → is_dead q ≡ false → Moves text m p (suc m) q
   one_on {m} {p} {q} h e a =
@@ -94,10 +97,3 @@ module _ (text : List ℕ) where
         runs = ap (run offers p) c ∙ ap (λ (x : Spot At). run offers x (drop (suc m) text)) e ∙ sym (ap (run offers q) c);
         alive = ap (λ (n : ℕ). m + n) (ap (λ (l : List ℕ). alive_for l p) c ∙ alive-same (get_or text m 0) (drop (suc m) text) p q e ∙ sym (ap (λ (l : List ℕ). alive_for l q) c));
       }
-
-  -- what is known once ok is
-  pub reads-yes : {m n : ℕ} {p q : Spot At} → Moves text m p n q → Reads text m p true n q
-  reads-yes a = record { moves = λ e. a; stops = λ e. absurd (true≢false e) }
-
-  pub reads-no : {m n : ℕ} {p : Spot At} (q : Spot At) → Stops text m p n → Reads text m p false n q
-  reads-no q a = record { moves = λ e. absurd (false≢true e); stops = λ e. a }

@@ -2,7 +2,7 @@
 use Prim.Native.Nat.{ℕ, suc, ◌+◌, ◌-◌, ◌≤◌, ◌<◌}
 use native.Mathlib.Omega.{arith}
 use mathlib.Core.Path.{◌≡◌, refl, sym, ap, ◌∙◌, subst}
-use mathlib.Core.Bool.{Bool, true, false, false≢true}
+use mathlib.Core.Bool.{Bool, true, false}
 use mathlib.Core.List.{List, [], ◌∷◌, ◌++◌}
 use lib.Dec.{eqb}
 use lib.ListN.{length, get_or, take, drop, length-drop}
@@ -11,10 +11,11 @@ use Rattle.hanoi.specs.Texts.{white, digit}
 use Rattle.hanoi.specs.Offers.{no_number, new_name, takes, takes_name, between, in_name, dead, begin_word, begin, byte_at, step_byte}
 use Rattle.hanoi.specs.Reader.{At, offers, offer}
 use Rattle.hanoi.proofs.Digits.{lt_yes}
+use Rattle.std.specs.Prelude.{Ok, Err}
 use Rattle.hanoi_tokens.specs.declared.Begun.{Begun}
-use Rattle.hanoi_tokens.specs.Moves.{Moves, Unfinished}
-use Rattle.hanoi_tokens.specs.Tokens.{Begins, part, unnamed_at, ReadsName}
-use Rattle.hanoi_tokens.proofs.Moves.{neither, moves-on, moves-stops, one, none, breaks-off, reads-yes, reads-no}
+use Rattle.hanoi_tokens.specs.Moves.{Moves, Stops, Unfinished}
+use Rattle.hanoi_tokens.specs.Tokens.{Begins, part, ReadsName}
+use Rattle.hanoi_tokens.proofs.Moves.{neither, moves-on, moves-stops, one, none, breaks-off}
 
 -- a byte more
 part-more : (text : List ℕ) (a e : ℕ) → a ≤ e → e < length text → part text a (e + 1) ≡ part text a e ++ (get_or text e 0 ∷ [])
@@ -57,32 +58,21 @@ module _ (text : List ℕ) (m : ℕ) where
     pub within : i ≤ length text
     pub moves : (s : At) (ns : List (List ℕ)) (to : List ℕ → At) → Naming s ns to → Unfinished s → Moves text m (between false s) i (in_name s (part text a i) back)
 
-  module _ (b : Begun) (g : Begins text m false b) where
-    pub unnamed-stopped : b.ok ≡ false → ReadsName text m (unnamed_at b.at)
-    unnamed-stopped ok = record {
-      reads = λ s ns to o u. reads-no text (in_name s (part text 0 b.at) false) ((g.reads s u).stops ok);
-      ordered = λ e. absurd (false≢true e);
-      there = λ e. absurd (false≢true e);
-      quote_is = λ e. absurd (false≢true e);
-    }
+  -- the text stops at byte i
+  unnamed : (i : ℕ) → ((s : At) (ns : List (List ℕ)) (to : List ℕ → At) → Naming s ns to → Unfinished s → Stops text m (between false s) i) → ReadsName text m (Err (record { at = i }))
+  unnamed i z = record { reads = z; ordered = tt; there = tt; quote_is = tt }
 
-    pub unnamed-other : b.ok ≡ true → eqb b.byte 34 ≡ false → ReadsName text m (unnamed_at b.at)
-    unnamed-other ok n = record {
-      reads =
-          λ s ns to o u. reads-no text (in_name s (part text 0 b.at) false) (moves-stops text ((g.reads s u).moves ok) (none text (g.there ok)
-          (ap (step_byte offers (between false s)) (sym (g.byte_is ok)) ∙ no-quote s ns to b.byte o (g.other ok) n)));
-      ordered = λ e. absurd (false≢true e);
-      there = λ e. absurd (false≢true e);
-      quote_is = λ e. absurd (false≢true e);
-    }
+  module _ (b : Begun) (g : Begins text m false (Ok b)) where
+    pub unnamed-other : eqb b.byte 34 ≡ false → ReadsName text m (Err (record { at = b.at }))
+    unnamed-other n = unnamed b.at (λ s ns to o u. moves-stops text (g.reads s u) (none text g.there (ap (step_byte offers (between false s)) (sym g.byte_is) ∙ no-quote s ns to b.byte o g.other n)))
 
-    pub quoted-none : b.ok ≡ true → b.byte ≡ 34 → Quoted (b.at + 1) (b.at + 1) false
-    quoted-none ok n = record {
+    pub quoted-none : b.byte ≡ 34 → Quoted (b.at + 1) (b.at + 1) false
+    quoted-none n = record {
       later = omega arith;
-      within = let h = g.there ok in omega (arith, h);
+      within = let h = g.there in omega (arith, h);
       moves =
           λ s ns to o u. subst (λ (q : List ℕ). Moves text m (between false s) (b.at + 1) (in_name s q false)) (sym (part_none text (b.at + 1)))
-          (moves-on text ((g.reads s u).moves ok) (one text (g.there ok) (ap (step_byte offers (between false s)) (sym (g.byte_is ok) ∙ n) ∙ quote-opens s ns to o) refl));
+          (moves-on text (g.reads s u) (one text g.there (ap (step_byte offers (between false s)) (sym g.byte_is ∙ n) ∙ quote-opens s ns to o) refl));
     }
 
   module _ (a i : ℕ) (l : i < length text) (w : get_or text i 0 < 256) where
@@ -102,28 +92,20 @@ module _ (text : List ℕ) (m : ℕ) where
     pub quoted-plain : (back : Bool) → Quoted a i back → back ≡ false → eqb (get_or text i 0) 34 ≡ false → Quoted a (i + 1) (eqb (get_or text i 0) 92)
     quoted-plain back k t n = on back (eqb (get_or text i 0) 92) k (λ s q. ap (λ (x : Bool). step_byte offers (in_name s q x) (get_or text i 0)) t ∙ step-plain s q (get_or text i 0) w n)
 
-    pub quoted-line : (back : Bool) → Quoted a i back → back ≡ true → eqb (get_or text i 0) 10 ≡ true → ReadsName text m (unnamed_at i)
-    quoted-line back k t n = record {
-      reads =
-          λ s ns to o u. reads-no text (in_name s (part text 0 i) false) (moves-stops text (k.moves s ns to o u)
-          (none text l (ap (λ (x : Bool). step_byte offers (in_name s (part text a i) x) (get_or text i 0)) t ∙ step_line s (part text a i) (get_or text i 0) w n)));
-      ordered = λ e. absurd (false≢true e);
-      there = λ e. absurd (false≢true e);
-      quote_is = λ e. absurd (false≢true e);
-    }
+    pub quoted-line : (back : Bool) → Quoted a i back → back ≡ true → eqb (get_or text i 0) 10 ≡ true → ReadsName text m (Err (record { at = i }))
+    quoted-line back k t n =
+        unnamed i (λ s ns to o u. moves-stops text (k.moves s ns to o u)
+        (none text l (ap (λ (x : Bool). step_byte offers (in_name s (part text a i) x) (get_or text i 0)) t ∙ step_line s (part text a i) (get_or text i 0) w n)))
 
-  pub quoted-end : (a i : ℕ) (back : Bool) → Quoted a i back → length text ≤ i → ReadsName text m (unnamed_at i)
-  quoted-end a i back k l = record {
-    reads = λ s ns to o u. reads-no text (in_name s (part text 0 i) false) (moves-stops text (k.moves s ns to o u) (breaks-off text l (λ x. refl)));
-    ordered = λ e. absurd (false≢true e);
-    there = λ e. absurd (false≢true e);
-    quote_is = λ e. absurd (false≢true e);
-  }
+  pub quoted-end : (a i : ℕ) (back : Bool) → Quoted a i back → length text ≤ i → ReadsName text m (Err (record { at = length text }))
+  quoted-end a i back k l =
+      let e : i ≡ length text = omega (arith, k.within, l) in
+      subst (λ (j : ℕ). ReadsName text m (Err (record { at = j }))) e (unnamed i (λ s ns to o u. moves-stops text (k.moves s ns to o u) (breaks-off text l (λ x. refl))))
 
-  pub quoted-all : (a i : ℕ) (back : Bool) → Quoted a i back → back ≡ false → i < length text → get_or text i 0 ≡ 34 → ReadsName text m (record { at = a; end = i; ok = true })
+  pub quoted-all : (a i : ℕ) (back : Bool) → Quoted a i back → back ≡ false → i < length text → get_or text i 0 ≡ 34 → ReadsName text m (Ok (record { at = a; end = i }))
   quoted-all a i back k t l q = record {
-    reads = λ s ns to o u. reads-yes text (subst (λ (x : Bool). Moves text m (between false s) i (in_name s (part text a i) x)) t (k.moves s ns to o u));
-    ordered = λ e. k.later;
-    there = λ e. l;
-    quote_is = λ e. q;
+    reads = λ s ns to o u. subst (λ (x : Bool). Moves text m (between false s) i (in_name s (part text a i) x)) t (k.moves s ns to o u);
+    ordered = k.later;
+    there = l;
+    quote_is = q;
   }

@@ -3,7 +3,7 @@ use Prim.Native.Nat.{ℕ, zero, suc, ◌+◌, ◌-◌, ◌*◌, ◌/◌, ◌^◌
 use native.Mathlib.Omega.{arith}
 use mathlib.Core.Path.{◌≡◌, refl, sym, ap, ◌∙◌, subst}
 use mathlib.Core.Logic.{◌⊎◌, inl, inr}
-use mathlib.Core.Bool.{Bool, true, false, ◌&&◌, ◌||◌, cond, false≢true}
+use mathlib.Core.Bool.{Bool, true, false, ◌&&◌, ◌||◌, cond}
 use mathlib.Core.List.{List, []}
 use lib.Dec.{eqb, ltb}
 use lib.ListN.{length, get_or}
@@ -16,11 +16,13 @@ use Rattle.hanoi.proofs.Digits.{lt_yes, lt_no, digit-white}
 use Rattle.hanoi.proofs.Prefixes.{cut_on, cut-stop, prefix-is}
 use Rattle.hanoi_tokens.specs.declared.Wanted.{Wanted}
 use Rattle.hanoi_tokens.specs.declared.Wanted.TheVariants.{Below, Positive, Exactly}
+use Rattle.std.specs.Prelude.{Result, Ok, Err}
+use Rattle.hanoi_tokens.specs.declared.Stop.{Stop}
 use Rattle.hanoi_tokens.specs.declared.Begun.{Begun}
 use Rattle.hanoi_tokens.specs.declared.Number.{Number}
-use Rattle.hanoi_tokens.specs.Moves.{Moves, Stops, Reads}
+use Rattle.hanoi_tokens.specs.Moves.{Moves, Stops}
 use Rattle.hanoi_tokens.specs.Tokens.{Begins, takes_by, ends_by, numbers_for, Within, ReadsDigits, ReadsNumber}
-use Rattle.hanoi_tokens.proofs.Moves.{neither, moves-on, moves-stops, moves-reads, one, none, breaks-off, alike, reads-yes, reads-no}
+use Rattle.hanoi_tokens.proofs.Moves.{neither, moves-on, moves-stops, moves-reads, one, none, breaks-off, alike}
 
 -- ---- prefixes
 pub prefix-zero : (k : ℕ) → eqb k 0 ≡ prefix_of 0 k
@@ -122,16 +124,16 @@ module _ (text : List ℕ) (m : ℕ) (w : Wanted) (h : Within w) where
     moves = λ s to o. one text l (step-first s (get_or text m 0) d ∙ (rw (sym e) (rw (by s to n true o t) refl))) refl;
   }
 
-  pub digits-none : m < length text → digit (get_or text m 0) ≡ false → ReadsDigits text m w (record { at = m; value = 0; ok = false })
-  digits-none l d = record { later = λ e. absurd (false≢true e); within = λ e. absurd (false≢true e); reads = λ s to o x. reads-no text (between false (to 0)) (none text l (x d)); taken = λ e. absurd (false≢true e) }
+  -- the text stops at byte i
+  no_number : (i : ℕ) → ((s : At) (to : ℕ → At) → (offers s).numbers ≡ numbers_for w to → (digit (get_or text m 0) ≡ false → step_byte offers (between false s) (get_or text m 0) ≡ dead) → Stops text m (between false s) i)
+      → ReadsDigits text m w (Err (record { at = i }))
+  no_number i z = record { later = tt; within = tt; reads = z; taken = tt }
 
-  pub digits-not-first : (n : ℕ) → m < length text → digit (get_or text m 0) ≡ true → n ≡ get_or text m 0 - 48 → takes_by w n ≡ false → ReadsDigits text m w (record { at = m; value = 0; ok = false })
-  digits-not-first n l d e t = record {
-    later = λ e. absurd (false≢true e);
-    within = λ e. absurd (false≢true e);
-    reads = λ s to o x. reads-no text (between false (to 0)) (none text l (step-first s (get_or text m 0) d ∙ (rw (sym e) (rw (by s to n false o t) refl))));
-    taken = λ e. absurd (false≢true e);
-  }
+  pub digits-none : m < length text → digit (get_or text m 0) ≡ false → ReadsDigits text m w (Err (record { at = m }))
+  digits-none l d = no_number m (λ s to o x. none text l (x d))
+
+  pub digits-not-first : (n : ℕ) → m < length text → digit (get_or text m 0) ≡ true → n ≡ get_or text m 0 - 48 → takes_by w n ≡ false → ReadsDigits text m w (Err (record { at = m }))
+  digits-not-first n l d e t = no_number m (λ s to o x. none text l (step-first s (get_or text m 0) d ∙ (rw (sym e) (rw (by s to n false o t) refl))))
 
   module _ (i n : ℕ) (k : Digits i n) where
     pub digits-on : (c : ℕ) → i < length text → digit (get_or text i 0) ≡ true → 0 < n → c ≡ n * 10 + (get_or text i 0 - 48) → takes_by w c ≡ true → Digits (i + 1) c
@@ -143,47 +145,34 @@ module _ (text : List ℕ) (m : ℕ) (w : Wanted) (h : Within w) where
       moves = λ s to o. moves-on text (k.moves s to o) (one text l (step-on s n (get_or text i 0) d ∙ (rw (sym e) (rw (lt_yes 0 n p, by s to c true o t) refl))) refl);
     }
 
-    stop : (s : At) (to : ℕ → At) → (offers s).numbers ≡ numbers_for w to → Stops text i (digits s n) i → Reads text m (between false s) false i (between false (to 0))
-    stop s to o z = reads-no text (between false (to 0)) (moves-stops text (k.moves s to o) z)
+    stop : ((s : At) (to : ℕ → At) → (offers s).numbers ≡ numbers_for w to → Stops text i (digits s n) i) → ReadsDigits text m w (Err (record { at = i }))
+    stop z = no_number i (λ s to o x. moves-stops text (k.moves s to o) (z s to o))
 
-    pub digits-zero : i < length text → digit (get_or text i 0) ≡ true → n ≡ 0 → ReadsDigits text m w (record { at = i; value = 0; ok = false })
-    digits-zero l d z = record {
-      later = λ e. absurd (false≢true e);
-      within = λ e. absurd (false≢true e);
-      reads = λ s to o x. stop s to o (none text l (step-on s n (get_or text i 0) d ∙ (rw (lt_no 0 n (omega (arith, z))) refl)));
-      taken = λ e. absurd (false≢true e);
-    }
+    pub digits-zero : i < length text → digit (get_or text i 0) ≡ true → n ≡ 0 → ReadsDigits text m w (Err (record { at = i }))
+    digits-zero l d z = stop (λ s to o. none text l (step-on s n (get_or text i 0) d ∙ (rw (lt_no 0 n (omega (arith, z))) refl)))
 
-    pub digits-over : (c : ℕ) → i < length text → digit (get_or text i 0) ≡ true → 0 < n → c ≡ n * 10 + (get_or text i 0 - 48) → takes_by w c ≡ false → ReadsDigits text m w (record { at = i; value = 0; ok = false })
-    digits-over c l d p e t = record {
-      later = λ e. absurd (false≢true e);
-      within = λ e. absurd (false≢true e);
-      reads = λ s to o x. stop s to o (none text l (step-on s n (get_or text i 0) d ∙ (rw (sym e) (rw (lt_yes 0 n p, by s to c false o t) refl))));
-      taken = λ e. absurd (false≢true e);
-    }
+    pub digits-over : (c : ℕ) → i < length text → digit (get_or text i 0) ≡ true → 0 < n → c ≡ n * 10 + (get_or text i 0 - 48) → takes_by w c ≡ false → ReadsDigits text m w (Err (record { at = i }))
+    digits-over c l d p e t = stop (λ s to o. none text l (step-on s n (get_or text i 0) d ∙ (rw (sym e) (rw (lt_yes 0 n p, by s to c false o t) refl))))
 
     ends-by : (s : At) (to : ℕ → At) (b : Bool) → (offers s).numbers ≡ numbers_for w to → ends_by w n ≡ b → ends (offers s).numbers n ≡ b
     ends-by s to b o e = ap (λ (x : Numbers At). ends x n) o ∙ (ends-for w to n ∙ e)
 
-    pub digits-short : i < length text → digit (get_or text i 0) ≡ false → ends_by w n ≡ false → ReadsDigits text m w (record { at = i; value = 0; ok = false })
-    digits-short l d e = record {
-      later = λ e. absurd (false≢true e);
-      within = λ e. absurd (false≢true e);
-      reads = λ s to o x. stop s to o (none text l (step-off s n (get_or text i 0) d ∙ (rw (ends-by s to false o e) refl)));
-      taken = λ e. absurd (false≢true e);
-    }
+    pub digits-short : i < length text → digit (get_or text i 0) ≡ false → ends_by w n ≡ false → ReadsDigits text m w (Err (record { at = i }))
+    digits-short l d e = stop (λ s to o. none text l (step-off s n (get_or text i 0) d ∙ (rw (ends-by s to false o e) refl)))
 
-    pub digits-break : length text ≤ i → ReadsDigits text m w (record { at = i; value = 0; ok = false })
-    digits-break l = record { later = λ e. absurd (false≢true e); within = λ e. absurd (false≢true e); reads = λ s to o x. stop s to o (breaks-off text l (λ y. refl)); taken = λ e. absurd (false≢true e) }
+    pub digits-break : length text ≤ i → ReadsDigits text m w (Err (record { at = length text }))
+    digits-break l =
+        let e : i ≡ length text = omega (arith, k.within, l) in
+        subst (λ (j : ℕ). ReadsDigits text m w (Err (record { at = j }))) e (stop (λ s to o. breaks-off text l (λ y. refl)))
 
-    pub digits-all : i < length text → digit (get_or text i 0) ≡ false → ends_by w n ≡ true → ReadsDigits text m w (record { at = i; value = n; ok = true })
+    pub digits-all : i < length text → digit (get_or text i 0) ≡ false → ends_by w n ≡ true → ReadsDigits text m w (Ok (record { at = i; value = n }))
     digits-all l d e = record {
-      later = λ e. k.later;
-      within = λ e. k.within;
+      later = k.later;
+      within = k.within;
       reads =
-          λ s to o x. reads-yes text (moves-on text (k.moves s to o) (alike text l (step-off s n (get_or text i 0) d ∙ (rw (ends-by s to true o e)
-          (ap (λ (a : At). step_byte offers (between false a) (get_or text i 0)) (ap (λ (z : Numbers At). numbered z n s) o ∙ numbered-for w to n s e))))));
-      taken = λ e. k.taken;
+          λ s to o x. moves-on text (k.moves s to o) (alike text l (step-off s n (get_or text i 0) d ∙ (rw (ends-by s to true o e)
+          (ap (λ (a : At). step_byte offers (between false a) (get_or text i 0)) (ap (λ (z : Numbers At). numbered z n s) o ∙ numbered-for w to n s e)))));
+      taken = k.taken;
     }
 
 -- ---- where a number alone may come
@@ -191,14 +180,12 @@ number-alone : (s : At) (ns : Numbers At) (b : ℕ) → offers s ≡ offer [] ns
 unfolding step_byte byte_at begin takes_name begin_word
 number-alone s ns b e w d = rw (w, d, e) (neither (eqb b 34))
 
-pub number_behind : (text : List ℕ) (m : ℕ) (w : Wanted) (b : Begun) (r : Number) → Begins text m false b → b.ok ≡ true → ReadsDigits text b.at w r → ReadsNumber text m w r
-number_behind text m w b r g ok k = record {
-  within = k.within;
-  reads =
-      λ s to o u. moves-reads text ((g.reads s u).moves ok)
-      (k.reads s to (ap (λ (x : Offer At). x.numbers) o) (λ d. number-alone s (numbers_for w to) (get_or text b.at 0) o (ap white (sym (g.byte_is ok)) ∙ g.other ok) d));
-  taken = k.taken;
-}
-
-pub number-stopped : (text : List ℕ) (m : ℕ) (w : Wanted) (b : Begun) → Begins text m false b → b.ok ≡ false → ReadsNumber text m w (record { at = b.at; value = 0; ok = false })
-number-stopped text m w b g ok = record { within = λ e. absurd (false≢true e); reads = λ s to o u. reads-no text (between false (to 0)) ((g.reads s u).stops ok); taken = λ e. absurd (false≢true e) }
+module _ (text : List ℕ) (m : ℕ) (w : Wanted) where
+  pub number_behind : (b : Begun) (r : Result Number Stop) → Begins text m false (Ok b) → ReadsDigits text b.at w r → ReadsNumber text m w r
+  number_behind b r g k = record {
+    within = k.within;
+    reads =
+        λ s to o u. moves-reads text r (λ n. n.at) (λ n. between false (to n.value)) (g.reads s u)
+        (k.reads s to (ap (λ (x : Offer At). x.numbers) o) (λ d. number-alone s (numbers_for w to) (get_or text b.at 0) o (ap white (sym g.byte_is) ∙ g.other) d));
+    taken = k.taken;
+  }

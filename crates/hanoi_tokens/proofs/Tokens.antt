@@ -4,7 +4,7 @@ use native.Mathlib.Omega.{arith}
 use native.Mathlib.Numerals.{add-one}
 use mathlib.Core.Path.{◌≡◌, refl, sym, ap, ◌∙◌, subst}
 use mathlib.Core.Logic.{◌⊎◌, inl, inr}
-use mathlib.Core.Bool.{Bool, true, false, ◌&&◌, cond, false≢true}
+use mathlib.Core.Bool.{Bool, true, false, ◌&&◌, cond}
 use mathlib.Core.List.{List, [], ◌∷◌}
 use lib.Dec.{eqb}
 use lib.ListN.{length, get_or, drop, drop_of_length-le}
@@ -19,11 +19,12 @@ use Rattle.hanoi.specs.Reader.{At, offers, only, is_dead}
 use Rattle.hanoi.specs.Reading.{answer_at}
 use Rattle.hanoi.proofs.Digits.{word_first}
 use Rattle.hanoi.proofs.Forth.{at-white, at_other}
-use Rattle.hanoi_tokens.specs.Moves.{Moves, Stops, Reads}
+use Rattle.std.specs.Prelude.{Result, Ok, Err}
+use Rattle.hanoi_tokens.specs.declared.Stop.{Stop}
+use Rattle.hanoi_tokens.specs.Moves.{Moves, Reads}
 use Rattle.hanoi_tokens.specs.Tokens.{Skips, Begins, Spells, ReadsWord}
 use Rattle.hanoi_tokens.specs.declared.Begun.{Begun}
-use Rattle.hanoi_tokens.specs.declared.Taken.{Taken}
-use Rattle.hanoi_tokens.proofs.Moves.{stay, moves-on, moves-stops, moves-reads, one, none, breaks-off, alike, reads-yes, reads-no}
+use Rattle.hanoi_tokens.proofs.Moves.{stay, moves-on, moves-stops, moves-reads, one, none, breaks-off, alike}
 
 -- ---- white space
 step-white : (bar : Bool) (s : At) (b : ℕ) → white b ≡ true → step_byte offers (between bar s) b ≡ between false s
@@ -67,36 +68,39 @@ module _ (text : List ℕ) where
   pub skipped-all : (m i : ℕ) → Skipped m i → (i < length text → white (get_or text i 0) ≡ false) → Skips text m i
   skipped-all m i (h, l, k) o = record { later = h; within = l; moves = k; other = o }
 
+  pub skipped-end : (m i : ℕ) → Skipped m i → length text ≤ i → Skips text m (length text)
+  skipped-end m i k h = let e : i ≡ length text = omega (arith, k.1, h) in subst (λ (j : ℕ). Skips text m j) e (skipped-all m i k (λ l. absurd (omega (arith, l, h))))
+
   -- behind white space: the next token's first byte is there and not barred
-  pub begins-free : (m i : ℕ) (bar : Bool) → Skips text m i → i < length text → (bar ≡ true → i ≡ m → goes_on (get_or text i 0) ≡ true → ⊥) → Begins text m bar (record { at = i; byte = get_or text i 0; ok = true })
+  pub begins-free : (m i : ℕ) (bar : Bool) → Skips text m i → i < length text → (bar ≡ true → i ≡ m → goes_on (get_or text i 0) ≡ true → ⊥) → Begins text m bar (Ok (record { at = i; byte = get_or text i 0 }))
   begins-free m i bar k h g = record {
     later = k.later;
     reads =
-        λ s u. reads-yes text (moves-on text (k.moves bar s)
-        (alike text h (step_other (bar && eqb m i) s (get_or text i 0) (k.other h) (unbarred bar (eqb m i) (goes_on (get_or text i 0)) (λ t e. g t (sym (eqb≡ m i e)))) ∙ sym (step_other false s (get_or text i 0) (k.other h) refl))));
-    there = λ e. h;
-    byte_is = λ e. refl;
-    other = λ e. k.other h;
+        λ s u. moves-on text (k.moves bar s)
+        (alike text h (step_other (bar && eqb m i) s (get_or text i 0) (k.other h) (unbarred bar (eqb m i) (goes_on (get_or text i 0)) (λ t e. g t (sym (eqb≡ m i e)))) ∙ sym (step_other false s (get_or text i 0) (k.other h) refl)));
+    there = h;
+    byte_is = refl;
+    other = k.other h;
   }
 
-  pub begins-barred : (m i b : ℕ) (bar : Bool) → Skips text m i → i < length text → bar ≡ true → i ≡ m → goes_on (get_or text i 0) ≡ true → Begins text m bar (record { at = i; byte = b; ok = false })
-  begins-barred m i b bar k h t e g = record {
-    later = k.later;
+  pub begins-barred : (m i : ℕ) (bar : Bool) → Skips text m i → i < length text → bar ≡ true → i ≡ m → goes_on (get_or text i 0) ≡ true → Begins text m bar (Err (record { at = i }))
+  begins-barred m i bar k h t e g = record {
+    later = tt;
     reads =
-        λ s u. reads-no text (between false s) (moves-stops text (k.moves bar s)
-        (none text h (rw (t, ≡eqb m i (sym e)) (step-barred s (get_or text i 0) (k.other h) g))));
-    there = λ e. absurd (false≢true e);
-    byte_is = λ e. absurd (false≢true e);
-    other = λ e. absurd (false≢true e);
+        λ s u. moves-stops text (k.moves bar s)
+        (none text h (rw (t, ≡eqb m i (sym e)) (step-barred s (get_or text i 0) (k.other h) g)));
+    there = tt;
+    byte_is = tt;
+    other = tt;
   }
 
-  pub begins-end : (m i b : ℕ) (bar : Bool) → Skips text m i → length text ≤ i → Begins text m bar (record { at = i; byte = b; ok = false })
-  begins-end m i b bar k h = record {
-    later = k.later;
-    reads = λ s u. reads-no text (between false s) (moves-stops text (k.moves bar s) (breaks-off text h u));
-    there = λ e. absurd (false≢true e);
-    byte_is = λ e. absurd (false≢true e);
-    other = λ e. absurd (false≢true e);
+  pub begins-end : (m i : ℕ) (bar : Bool) → Skips text m i → length text ≤ i → Begins text m bar (Err (record { at = i }))
+  begins-end m i bar k h = record {
+    later = tt;
+    reads = λ s u. moves-stops text (k.moves bar s) (breaks-off text h u);
+    there = tt;
+    byte_is = tt;
+    other = tt;
   }
 
 -- ---- words
@@ -122,36 +126,44 @@ unfolding word_on
 word-whole x a = refl
 
 module _ (text rest : List ℕ) (m : ℕ) where
-  abbrev pub Spelled : ℕ → ℕ → Type 0
-  Spelled i n = (i ≤ length rest) × (n ≤ length text) × (n ≡ m + i) × ((x : Word) (a : At) → Moves text m (word_on x rest a) n (word_on x (drop i rest) a))
+  -- the first i bytes of the word are read
+  pub record Spelled (i : ℕ) : Type 0 where
+    pub within : m + i ≤ length text
+    pub moves : (x : Word) (a : At) → Moves text m (word_on x rest a) (m + i) (word_on x (drop i rest) a)
 
-  pub spelled_none : m ≤ length text → Spelled 0 m
-  spelled_none h = (omega arith, h, omega arith, λ x a. stay text m (word_on x rest a) h)
+  pub spelled_none : m ≤ length text → Spelled 0
+  spelled_none h =
+      let e : m + 0 ≡ m = omega arith in
+      record { within = omega (arith, h); moves = λ x a. rw e (stay text m (word_on x rest a) h) }
 
   to-come : (i : ℕ) → i < length rest → drop i rest ≡ get_or rest i 0 ∷ drop (i + 1) rest
   to-come i h = drop-cons rest i 0 h ∙ ap (λ (j : ℕ). get_or rest i 0 ∷ drop j rest) (sym (add-one i))
 
-  pub spelled-more : (i n : ℕ) → Spelled i n → i < length rest → n < length text → get_or text n 0 ≡ get_or rest i 0 → Spelled (i + 1) (n + 1)
-  spelled-more i n (h, l, e, k) t u b = (
-    omega arith,
-    omega arith,
-    omega arith,
-    λ x a.
-        moves-on text (k x a)
-        (one text u (ap (λ (z : List ℕ). step_byte offers (word_on x z a) (get_or text n 0)) (to-come i t) ∙ (ap (step_byte offers (word_on x (get_or rest i 0 ∷ drop (i + 1) rest) a)) b ∙ word-step x (get_or rest i 0) (drop (i + 1) rest) a))
-        (word-alive x (drop (i + 1) rest) a)),
-  )
+  module _ (i : ℕ) (k : Spelled i) where
+    pub spelled-more : i < length rest → m + i < length text → get_or text (m + i) 0 ≡ get_or rest i 0 → Spelled (i + 1)
+    spelled-more t u b =
+        let e : m + (i + 1) ≡ m + i + 1 = omega arith in
+        record {
+          within = omega (arith, u);
+          moves =
+              λ x a. rw e (moves-on text (k.moves x a)
+              (one text u (ap (λ (z : List ℕ). step_byte offers (word_on x z a) (get_or text (m + i) 0)) (to-come i t) ∙ (ap (step_byte offers (word_on x (get_or rest i 0 ∷ drop (i + 1) rest) a)) b ∙ word-step x (get_or rest i 0) (drop (i + 1) rest) a))
+              (word-alive x (drop (i + 1) rest) a)));
+        }
 
-  pub spelled-other : (i n : ℕ) → Spelled i n → i < length rest → n < length text → eqb (get_or text n 0) (get_or rest i 0) ≡ false → (x : Word) (a : At) → Stops text m (word_on x rest a) n
-  spelled-other i n (h, l, e, k) t u b x a =
-      moves-stops text (k x a) (none text u (ap (λ (z : List ℕ). step_byte offers (word_on x z a) (get_or text n 0)) (to-come i t) ∙ word-dead x (get_or text n 0) (get_or rest i 0) (drop (i + 1) rest) a b))
+    pub spelled-other : i < length rest → m + i < length text → eqb (get_or text (m + i) 0) (get_or rest i 0) ≡ false → Spells text m rest (Err (record { at = m + i }))
+    spelled-other t u b x a =
+        moves-stops text (k.moves x a) (none text u (ap (λ (z : List ℕ). step_byte offers (word_on x z a) (get_or text (m + i) 0)) (to-come i t) ∙ word-dead x (get_or text (m + i) 0) (get_or rest i 0) (drop (i + 1) rest) a b))
 
-  pub spelled-end : (i n : ℕ) → Spelled i n → i < length rest → length text ≤ n → (x : Word) (a : At) → Stops text m (word_on x rest a) n
-  spelled-end i n (h, l, e, k) t u x a =
-      moves-stops text (k x a) (breaks-off text u (λ y. ap (λ (z : List ℕ). answer_at y (word_on x z a)) (to-come i t) ∙ word-open x (get_or rest i 0) (drop (i + 1) rest) a y))
+    pub spelled-end : i < length rest → length text ≤ m + i → Spells text m rest (Err (record { at = m + i }))
+    spelled-end t u x a =
+        moves-stops text (k.moves x a) (breaks-off text u (λ y. ap (λ (z : List ℕ). answer_at y (word_on x z a)) (to-come i t) ∙ word-open x (get_or rest i 0) (drop (i + 1) rest) a y))
 
-  pub spelled-whole : (i n : ℕ) → Spelled i n → length rest ≤ i → (x : Word) (a : At) → Moves text m (word_on x rest a) n (between (open_ended x) a)
-  spelled-whole i n (h, l, e, k) t x a = subst (λ (p : Spot At). Moves text m (word_on x rest a) n p) (ap (λ (z : List ℕ). word_on x z a) (drop_of_length-le rest t) ∙ word-whole x a) (k x a)
+  pub spelled-whole : (i : ℕ) → Spelled i → i ≤ length rest → length rest ≤ i → Spells text m rest (Ok (m + length rest))
+  spelled-whole i k l h x a =
+      let e : i ≡ length rest = omega (arith, l, h) in
+      subst (λ (j : ℕ). Moves text m (word_on x rest a) (m + j) (between (open_ended x) a)) e
+      (subst (λ (p : Spot At). Moves text m (word_on x rest a) (m + i) p) (ap (λ (z : List ℕ). word_on x z a) (drop_of_length-le rest h) ∙ word-whole x a) (k.moves x a))
 
 none_of : (y z : Bool) → cond {A = Spot At} y dead (cond z dead dead) ≡ dead
 none_of true z = refl
@@ -177,7 +189,7 @@ only-word : (text : List ℕ) (m : ℕ) (s a : At) (x : Word) → m < length tex
 only-word text m s a x h w e = alike text h (only_step s a x (get_or text m 0) e w)
 
 -- a word behind white space
-pub word-behind : (text bytes : List ℕ) (m : ℕ) (bar : Bool) (b : Begun) (r : Taken) → Begins text m bar b → b.ok ≡ true → Spells text b.at bytes r → ReadsWord text m bar bytes r
-word-behind text bytes m bar b r g ok k s a x e o u =
-    moves-reads text (moves-on text ((g.reads s u).moves ok) (only-word text b.at s a x (g.there ok) (ap white (sym (g.byte_is ok)) ∙ g.other ok) o))
-    (subst (λ (l : List ℕ). Reads text b.at (word_on x l a) r.ok r.at (between (open_ended x) a)) e (k x a))
+pub word-behind : (text bytes : List ℕ) (m : ℕ) (bar : Bool) (b : Begun) (r : Result ℕ Stop) → Begins text m bar (Ok b) → Spells text b.at bytes r → ReadsWord text m bar bytes r
+word-behind text bytes m bar b r g k s a x e o u =
+    moves-reads text r (λ n. n) (λ n. between (open_ended x) a) (moves-on text (g.reads s u) (only-word text b.at s a x g.there (ap white (sym g.byte_is) ∙ g.other) o))
+    (subst (λ (l : List ℕ). Reads text b.at (word_on x l a) r (between (open_ended x) a)) e (k x a))

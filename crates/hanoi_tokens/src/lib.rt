@@ -1,66 +1,61 @@
 // Reading the tokens of a text (document 02, S-4), each from a place in the text on. What a function promises is promised of whatever place the reader of documents is at.
+// A text and a place are two parameters: each call has a place of its own, and a struct of both would be made anew for each.
 #![tactic(auto)]
 
 ghost use Rattle.std.specs.Prelude.{◌≡◌, true, ◌-◌, ◌≤◌, ◌<◌, length};
 ghost use Rattle.hanoi.specs.Texts.{white, digit, goes_on};
 ghost use Rattle.hanoi.specs.Prefixes.{prefix_of};
-ghost use Rattle.hanoi_tokens.specs.Tokens.{Skips, Begins, Spells, ReadsWord, Within, takes_by, ends_by, stopped_at, unnamed_at, ReadsDigits, ReadsNumber, ReadsName};
+ghost use Rattle.hanoi_tokens.specs.Tokens.{Skips, Begins, Spells, ReadsWord, Within, takes_by, ends_by, ReadsDigits, ReadsNumber, ReadsName};
 
-// Read up to a place; or the text stops being one of the subset there.
-#[derive(Clone, Copy)]
-pub struct Taken {
+// Where the text stops being one of the subset.
+#[derive(Clone, Copy, Debug, PartialEq, Eq)]
+pub struct Stop {
     pub at: usize,
-    pub ok: bool,
 }
 
 // The first byte of a token.
-#[derive(Clone, Copy)]
+#[derive(Clone, Copy, Debug, PartialEq, Eq)]
 pub struct Begun {
     pub at: usize,
     pub byte: u8,
-    pub ok: bool,
 }
 
 // A number below another, one from 1 to 2^31 - 1, or one alone.
-#[derive(Clone, Copy)]
+// The bound on its number is asked where it is passed: a variant has no ghost field, and a struct around the enum would be longer at each call.
+#[derive(Clone, Copy, Debug, PartialEq, Eq)]
 pub enum Wanted {
     Below(u32),
     Positive,
     Exactly(u32),
 }
 
-#[derive(Clone, Copy)]
+// A number, read up to a place.
+#[derive(Clone, Copy, Debug, PartialEq, Eq)]
 pub struct Number {
     pub at: usize,
     pub value: u32,
-    pub ok: bool,
 }
 
 // The bytes of a name, from `at` on and before `end`, where its closing quote is.
-#[derive(Clone, Copy)]
+#[derive(Clone, Copy, Debug, PartialEq, Eq)]
 pub struct Name {
     pub at: usize,
     pub end: usize,
-    pub ok: bool,
 }
 
 // ---- bytes
+#[tactic(auto, unfolding(hanoi::specs::Texts::white))]
 fn is_white(b: u8) -> bool
     ensures { result ≡ white b }
 {
-    (b == 32) | (b == 9) | (b == 10) | (b == 13)
+    matches!(b, b' ' | b'\t' | b'\n' | b'\r')
 }
 
-fn is_digit(b: u8) -> bool
-    ensures { result ≡ digit b }
-{
-    (48 <= b) & (b <= 57)
-}
-
+#[tactic(auto, unfolding(hanoi::specs::Texts::goes_on))]
 fn goes_on(b: u8) -> bool
     ensures { result ≡ goes_on b }
 {
-    ((97 <= b) & (b <= 122)) | ((65 <= b) & (b <= 90)) | is_digit(b) | (b == 95) | (b == 45)
+    matches!(b, b'a'..=b'z' | b'A'..=b'Z' | b'0'..=b'9' | b'_' | b'-')
 }
 
 // ---- white space
@@ -68,82 +63,52 @@ pub fn skip_white(text: &[u8], at: usize) -> usize
     requires { at ≤ length text.now }
     ensures { Skips text.now at result }
 {
-    let mut i = at;
-    while i < text.len() {
+    for i in at..text.len() {
         if !is_white(text[i]) {
             return i;
         }
-        i = i + 1;
     }
-    i
+    text.len()
 }
 
 // The first byte of the next token, behind one that bars bytes of names or not.
-pub fn next(text: &[u8], at: usize, bar: bool) -> Begun
+pub fn next(text: &[u8], at: usize, bar: bool) -> Result<Begun, Stop>
     requires { at ≤ length text.now }
     ensures { Begins text.now at bar result }
 {
     let i = skip_white(text, at);
     if text.len() <= i {
-        return Begun {
-            at: i,
-            byte: 0,
-            ok: false,
-        };
+        return Err(Stop { at: i });
     }
-    let b = text[i];
-    if bar {
-        if i == at {
-            if goes_on(b) {
-                return Begun {
-                    at: i,
-                    byte: b,
-                    ok: false,
-                };
-            }
-        }
+    let byte = text[i];
+    if bar && i == at && goes_on(byte) {
+        return Err(Stop { at: i });
     }
-    Begun {
-        at: i,
-        byte: b,
-        ok: true,
-    }
+    Ok(Begun { at: i, byte })
 }
 
 // ---- words
 // The bytes of a word that are still to come.
-pub fn spelled(text: &[u8], at: usize, rest: &[u8]) -> Taken
+pub fn spelled(text: &[u8], at: usize, rest: &[u8]) -> Result<usize, Stop>
     requires { at ≤ length text.now }
     ensures { Spells text.now at rest.now result }
 {
-    let mut i = 0;
-    let mut n = at;
-    while i < rest.len() {
-        if text.len() <= n {
-            return Taken { at: n, ok: false };
+    for (i, &b) in rest.iter().enumerate() {
+        let n = at + i;
+        if text.len() <= n || text[n] != b {
+            return Err(Stop { at: n });
         }
-        if text[n] != rest[i] {
-            return Taken { at: n, ok: false };
-        }
-        i = i + 1;
-        n = n + 1;
     }
-    Taken { at: n, ok: true }
+    Ok(at + rest.len())
 }
 
 // The only word that may come.
-pub fn read_word(text: &[u8], at: usize, bar: bool, bytes: &[u8]) -> Taken
+pub fn read_word(text: &[u8], at: usize, bar: bool, bytes: &[u8]) -> Result<usize, Stop>
     requires { at ≤ length text.now }
     ensures { ReadsWord text.now at bar bytes.now result }
 {
-    let n = next(text, at, bar);
-    if !n.ok {
-        return Taken {
-            at: n.at,
-            ok: false,
-        };
-    }
-    spelled(text, n.at, bytes)
+    let first = next(text, at, bar)?;
+    spelled(text, first.at, bytes)
 }
 
 // ---- numbers
@@ -157,46 +122,32 @@ fn is_prefix(n: u32, k: u32) -> bool
     }
     let mut rest = k;
     while n < rest {
-        rest = rest / 10;
+        rest /= 10;
     }
     n == rest
 }
 
-// A number of this kind may begin with n.
-fn takes(wanted: Wanted, n: u64) -> bool
-    requires { Within wanted }
-    ensures { result ≡ takes_by wanted n }
-{
-    match wanted {
-        Wanted::Below(k) => n < k as u64,
-        Wanted::Positive => (0 < n) & (n < 2147483648),
-        Wanted::Exactly(k) => {
-            if 2147483648 <= n {
-                return false;
-            }
-            is_prefix(n as u32, k)
+impl Wanted {
+    // A number of this kind may begin with n.
+    fn takes(self, n: u64) -> bool
+        requires { Within self }
+        ensures { result ≡ takes_by self n }
+    {
+        match self {
+            Wanted::Below(k) => n < u64::from(k),
+            Wanted::Positive => 0 < n && n < 2147483648,
+            Wanted::Exactly(k) => n < 2147483648 && is_prefix(n as u32, k),
         }
     }
-}
 
-// And end with it.
-fn ends(wanted: Wanted, n: u32) -> bool
-    ensures { result ≡ ends_by wanted n }
-{
-    match wanted {
-        Wanted::Below(_) => true,
-        Wanted::Positive => true,
-        Wanted::Exactly(k) => n == k,
-    }
-}
-
-fn stopped(at: usize) -> Number
-    ensures { result ≡ stopped_at at }
-{
-    Number {
-        at,
-        value: 0,
-        ok: false,
+    // And end with it.
+    fn ends(self, n: u32) -> bool
+        ensures { result ≡ ends_by self n }
+    {
+        match self {
+            Wanted::Below(_) | Wanted::Positive => true,
+            Wanted::Exactly(k) => n == k,
+        }
     }
 }
 
@@ -205,106 +156,74 @@ fn value_of(b: u8) -> u64
     requires { digit b ≡ true }
     ensures { (result ≡ b - 48) × (result < 10) }
 {
-    (b - 48) as u64
+    u64::from(b - b'0')
 }
 
 // A number from its first byte on. Its digits go on up to a byte that is none: there is one behind every number of a text of the subset.
-pub fn read_digits(text: &[u8], at: usize, wanted: Wanted) -> Number
+pub fn read_digits(text: &[u8], at: usize, wanted: Wanted) -> Result<Number, Stop>
     requires { (at < length text.now) × Within wanted }
     ensures { ReadsDigits text.now at wanted result }
 {
-    if !is_digit(text[at]) {
-        return stopped(at);
+    if !text[at].is_ascii_digit() {
+        return Err(Stop { at });
     }
-    let first = value_of(text[at]);
-    if !takes(wanted, first) {
-        return stopped(at);
+    let mut n = value_of(text[at]);
+    if !wanted.takes(n) {
+        return Err(Stop { at });
     }
-    let mut n = first;
-    let mut i = at + 1;
-    while i < text.len() {
-        if !is_digit(text[i]) {
-            if !ends(wanted, n as u32) {
-                return stopped(i);
+    for i in at + 1..text.len() {
+        if !text[i].is_ascii_digit() {
+            let value = n as u32;
+            if !wanted.ends(value) {
+                return Err(Stop { at: i });
             }
-            return Number {
-                at: i,
-                value: n as u32,
-                ok: true,
-            };
+            return Ok(Number { at: i, value });
         }
         if n == 0 {
-            return stopped(i);
+            return Err(Stop { at: i });
         }
         let more = n * 10 + value_of(text[i]);
-        if !takes(wanted, more) {
-            return stopped(i);
+        if !wanted.takes(more) {
+            return Err(Stop { at: i });
         }
         n = more;
-        i = i + 1;
     }
-    stopped(i)
+    Err(Stop { at: text.len() })
 }
 
 // A number, where nothing else may come.
-pub fn read_number(text: &[u8], at: usize, wanted: Wanted) -> Number
+pub fn read_number(text: &[u8], at: usize, wanted: Wanted) -> Result<Number, Stop>
     requires { (at ≤ length text.now) × Within wanted }
     ensures { ReadsNumber text.now at wanted result }
 {
-    let n = next(text, at, false);
-    let i = n.at;
-    if !n.ok {
-        return stopped(i);
-    }
-    read_digits(text, i, wanted)
+    let first = next(text, at, false)?;
+    read_digits(text, first.at, wanted)
 }
 
 // ---- names
-fn unnamed(at: usize) -> Name
-    ensures { result ≡ unnamed_at at }
-{
-    Name {
-        at: 0,
-        end: at,
-        ok: false,
-    }
-}
-
 // A name up to its closing quote. A backslash takes the next byte with it, which is no line feed.
-pub fn read_name(text: &[u8], at: usize) -> Name
+pub fn read_name(text: &[u8], at: usize) -> Result<Name, Stop>
     requires { at ≤ length text.now }
     ensures { ReadsName text.now at result }
 {
-    let n = next(text, at, false);
-    let first = n.at;
-    if !n.ok {
-        return unnamed(first);
+    let first = next(text, at, false)?;
+    if first.byte != b'"' {
+        return Err(Stop { at: first.at });
     }
-    if n.byte != 34 {
-        return unnamed(first);
-    }
-    let from = first + 1;
+    let from = first.at + 1;
     let mut back = false;
-    let mut i = from;
-    while i < text.len() {
+    for i in from..text.len() {
         let b = text[i];
         if back {
-            if b == 10 {
-                return unnamed(i);
+            if b == b'\n' {
+                return Err(Stop { at: i });
             }
             back = false;
-            i = i + 1;
-            continue;
+        } else if b == b'"' {
+            return Ok(Name { at: from, end: i });
+        } else {
+            back = b == b'\\';
         }
-        if b == 34 {
-            return Name {
-                at: from,
-                end: i,
-                ok: true,
-            };
-        }
-        back = b == 92;
-        i = i + 1;
     }
-    unnamed(i)
+    Err(Stop { at: text.len() })
 }

@@ -1,5 +1,5 @@
 -- States that a player holds: its letters do not lead out of them, and the other player cannot leave them for a state that is live again.
-use Rattle.std.specs.Prelude.{ℕ, ◌+◌, ◌*◌, ◌≤◌, ◌<◌, ◌≡◌, ◌⊎◌, ◌≢◌, Bool, true, false, List, length, get_or, set}
+use Rattle.std.specs.Prelude.{ℕ, ◌+◌, ◌*◌, ◌≤◌, ◌<◌, ◌≡◌, ◌⊎◌, ◌≢◌, true, false, List, length, get_or}
 use Rattle.orders.specs.Orders.{Among, Rearranged}
 use Rattle.attracting.specs.Attracting.{owns}
 use Rattle.holding.specs.declared.Hold.{Hold}
@@ -7,11 +7,6 @@ use Rattle.holding.specs.declared.Hold.{Hold}
 -- no row of the level or above, from place row on, leads to a live state
 pub record Shut (k : Hold) (targets priorities m : List ℕ) (row letters : ℕ) : Type 0 where
   pub none : (a : ℕ) → a < letters → k.level ≤ get_or priorities (row + a) 0 → get_or m (get_or targets (row + a) 0) 0 ≢ 255
-
--- a mark that is set if it is wanted
-pub record SetIf (wanted : Bool) (s b : ℕ) (m m' : List ℕ) : Type 0 where
-  pub yes : wanted ≡ true → m' ≡ set m s b
-  pub no : wanted ≡ false → m' ≡ m
 
 module _ (owners sources targets priorities : List ℕ) (letters : ℕ) (k : Hold) where
   -- s need not be let go: the player's letter there leads to a state that is held; the other player's rows lead to no live state

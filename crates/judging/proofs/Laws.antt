@@ -2,14 +2,15 @@
 -- Assumes nothing.
 use Prim.Native.Nat.{ℕ, ◌≤◌, min}
 use native.Mathlib.Omega.{arith}
-use mathlib.Core.Path.{◌≡◌, refl}
+use mathlib.Core.Path.{◌≡◌, refl, sym}
 use mathlib.Core.Logic.{◌⊎◌, inl, inr, ◌↔◌}
 use mathlib.Core.Bool.{true, false, ◌||◌, false≢true}
 use mathlib.Core.List.Memᴰ
 use mathlib.Core.List.{List, [], ◌∷◌, ◌++◌, Memᴰ}
 use lib.Dec.{ltb}
+use Rattle.std.specs.Bool.{◌==◌}
 use lib.ListN.{length}
-use Rattle.lists.proofs.Bools.{test, bool-ext}
+use Rattle.lists.proofs.Bools.{test, bool-ext, eqb≡}
 use Rattle.lists.proofs.Numbers.{cond-min}
 use Rattle.judging.specs.Judging.{non_empty, least_of}
 
@@ -83,11 +84,11 @@ pub non_empty-same : {A : Type 0} (l r : List A) → ((y : A) → Memᴰ y l ↔
 non_empty-same l r h =
     bool-ext (non_empty l) (non_empty r) (λ t. let q = some-member l t in member-some r q.0 ((h q.0).0 q.1)) (λ t. let q = some-member r t in member-some l q.0 ((h q.0).1 q.1))
 
--- by the length
-pub none_of : (l : List ℕ) → length l ≡ 0 → non_empty l ≡ false
+-- as is_empty says
+pub none_of : (l : List ℕ) → true ≡ (length l == 0) → non_empty l ≡ false
 none_of [] e = refl
-none_of (x ∷ l) e = absurd (omega arith)
+none_of (x ∷ l) e = absurd (omega (arith, eqb≡ (length (x ∷ l)) 0 (sym e)))
 
-pub some_of : (l : List ℕ) → (length l ≡ 0 → ⊥) → non_empty l ≡ true
-some_of [] h = absurd (h refl)
-some_of (x ∷ l) h = refl
+pub some_of : (l : List ℕ) → false ≡ (length l == 0) → non_empty l ≡ true
+some_of [] e = absurd (false≢true e)
+some_of (x ∷ l) e = refl

@@ -8,6 +8,11 @@ use mathlib.Core.Bool.{Bool, true, false, cond, true≢false, false≢true}
 use mathlib.Core.List.{List, [], ◌∷◌, ◌++◌, Memᴰ}
 use lib.Dec.{eqb, ltb}
 use lib.ListN.{get_or}
+use Rattle.std.specs.Prelude.{Result, Ok, Err}
+use Rattle.refusals.specs.declared.Refusal.{Refusal}
+use Rattle.refusals.specs.declared.Refusal.TheVariants.{NoSuchTarget}
+use Rattle.refusals.specs.Refusals.{number, refusal}
+use Rattle.refusals.proofs.Numbers.{refusal-number}
 use Rattle.lists.specs.Lists.{all}
 use Rattle.lists.proofs.Bools.{test, and_l, or_cases, eqb≡, lt-true, lt-false}
 use Rattle.masks.specs.Masks.{has}
@@ -21,9 +26,9 @@ use Rattle.masks.proofs.SetOf.{set-has}
 use Rattle.policy.specs.declared.Policy.{Policy}
 use Rattle.policy.specs.Policies.{legal}
 use Rattle.running.specs.declared.Run.{Run}
-use Rattle.running.specs.declared.Reading.TheVariants.{Moved, Refused as NotRead}
+use Rattle.running.specs.declared.Met.{Met}
 use Rattle.running.specs.Running.{policy_step, policy_meets, row_of, row_states, shaped, target_at, priority_at, refusal_of, reading_of, row_step, row_meets}
-use Rattle.running.proofs.Steps.{policy-within, refusal-13, refusal-none, refusal-outside, reading-moved, reading-refused, row-moves, row_within}
+use Rattle.running.proofs.Steps.{policy-within, refusal-13, refusal-none, refusal-outside, number-refusal, reading-moved, reading-refused, row-moves, row_within}
 use Rattle.judging.specs.Judging.{non_empty, in_range, least_of, recurring_colours, no_state, dangling_meets, ever_dangling, least_recurring}
 use Rattle.judging.specs.ReadsDangling.{ReadsDangling}
 use Rattle.judging.proofs.Laws.{least-le, least-mem, member-some, non_empty-append}
@@ -48,7 +53,7 @@ module _ (letters : ℕ) (targets priorities : List ℕ) where
   states = row_states letters targets priorities
 
   -- ---- one letter
-  dangling-answer : (r : Run) (a : ℕ) → non_empty (dangles r a) ≡ true → reading_of letters targets priorities r a ≡ NotRead 13 r
+  dangling-answer : (r : Run) (a : ℕ) → non_empty (dangles r a) ≡ true → reading_of letters targets priorities r a ≡ Err NoSuchTarget
   unfolding dangling_meets reading_of
   dangling-answer r a t = is (eqb n 0) (some (no_state (reading_of letters targets priorities r a)) t)
     where
@@ -59,23 +64,23 @@ module _ (letters : ℕ) (targets priorities : List ℕ) where
       some true t = refl
       some false t = absurd (false≢true t)
 
-      is : (b : Bool) → let q = cond b (Moved (record { state = target_at letters targets priorities r a }) (priority_at letters targets priorities r a)) (NotRead n r) in no_state q ≡ true → q ≡ NotRead 13 r
+      is : (b : Bool) → let q = cond {A = Result Met Refusal} b (Ok (record { run = record { state = target_at letters targets priorities r a }; priority = priority_at letters targets priorities r a })) (Err (refusal n)) in no_state q ≡ true → q ≡ Err NoSuchTarget
       is true e = absurd (false≢true e)
-      is false e = ap (λ (k : ℕ). NotRead k r) (eqb≡ n 13 e)
+      is false e = ap (λ (e : Refusal). Err e) (sym (refusal-number (refusal n)) ∙ ap refusal (eqb≡ (number (refusal n)) 13 e))
 
-  answer-dangling : (r : Run) (a : ℕ) → reading_of letters targets priorities r a ≡ NotRead 13 r → Memᴰ a (dangles r a)
+  answer-dangling : (r : Run) (a : ℕ) → reading_of letters targets priorities r a ≡ Err NoSuchTarget → Memᴰ a (dangles r a)
   unfolding dangling_meets
   answer-dangling r a e = rw e (mathlib.Core.List.Memᴰ.head refl)
 
   -- for rows of the right shape, a state and a letter of theirs: the row's target is no state
   pub dangling-target : (r : Run) (a : ℕ) → shaped letters targets priorities ≡ true → r.state < states → a < letters
-      → (reading_of letters targets priorities r a ≡ NotRead 13 r) ↔ (states ≤ target_at letters targets priorities r a)
+      → (reading_of letters targets priorities r a ≡ Err NoSuchTarget) ↔ (states ≤ target_at letters targets priorities r a)
   dangling-target r a ok s l = (to (test (ltb t states)), λ h. reading-refused letters targets priorities r a 13 (refusal-13 letters targets priorities r a ok s l h) refl)
     where
       t : ℕ
       t = target_at letters targets priorities r a
 
-      to : (ltb t states ≡ true) ⊎ (ltb t states ≡ false) → reading_of letters targets priorities r a ≡ NotRead 13 r → states ≤ t
+      to : (ltb t states ≡ true) ⊎ (ltb t states ≡ false) → reading_of letters targets priorities r a ≡ Err NoSuchTarget → states ≤ t
       to (inl y) e =
           let moved = reading-moved letters targets priorities r a (refusal-none letters targets priorities r a ok s l (lt-true t states y)) in
           absurd (false≢true (ap no_state (sym moved ∙ e)))
@@ -85,7 +90,7 @@ module _ (letters : ℕ) (targets priorities : List ℕ) where
   pub outside-answer : (r : Run) (a : ℕ) → ltb a letters ≡ false → no_state (reading_of letters targets priorities r a) ≡ false
   outside-answer r a f =
       let q = refusal-outside letters targets priorities r a f in
-      ap no_state (reading-refused letters targets priorities r a (refusal_of letters targets priorities r a) refl q.0) ∙ q.1
+      ap no_state (reading-refused letters targets priorities r a (refusal_of letters targets priorities r a) refl q.0) ∙ ap (λ (n : ℕ). eqb n 13) (number-refusal letters targets priorities r a q.0) ∙ q.1
 
   -- ---- a list of letters
   met-dangles : (w : List ℕ) (r : Run) → non_empty (met step dangles w r) ≡ true → ReadsDangling letters targets priorities r w
@@ -103,7 +108,7 @@ module _ (letters : ℕ) (targets priorities : List ℕ) where
   dangles-met w r s =
       let same = after_any step (row_meets letters targets priorities) dangles s.start r in
       let last = after step dangles s.start r in
-      let here : Memᴰ s.letter (dangles last s.letter) = answer-dangling last s.letter (subst (λ (x : Run). reading_of letters targets priorities x s.letter ≡ NotRead 13 x) same s.answered) in (
+      let here : Memᴰ s.letter (dangles last s.letter) = answer-dangling last s.letter (subst (λ (x : Run). reading_of letters targets priorities x s.letter ≡ Err NoSuchTarget) same s.answered) in (
         s.letter,
         subst (Memᴰ s.letter) (sym (ap (λ (l : List ℕ). met step dangles l r) s.letters_are ∙ met-append step dangles s.start (s.letter ∷ s.rest) r))
             (mathlib.Core.List.Memᴰ.append_right (met step dangles s.start r) (mathlib.Core.List.Memᴰ.append_left (met step dangles s.rest (step last s.letter)) here)),
@@ -184,8 +189,8 @@ module _ (letters : ℕ) (targets priorities : List ℕ) where
               inside : (at t).state < states
               inside = iter-keeps (after step meets loop) (λ x. x.state < states) (λ x l. begun-lt meets loop x l) (after step meets stem r) (begun-lt meets stem r h) t
 
-              met-here : reading_of letters targets priorities (at t) a ≡ NotRead 13 (at t) → Memᴰ a (met step dangles (a ∷ w) (iter round t begun))
-              met-here k = mathlib.Core.List.Memᴰ.append_left (met step dangles w (step (iter round t begun) a)) (answer-dangling (iter round t begun) a (subst (λ (x : Run). reading_of letters targets priorities x a ≡ NotRead 13 x) (at_same t) k))
+              met-here : reading_of letters targets priorities (at t) a ≡ Err NoSuchTarget → Memᴰ a (met step dangles (a ∷ w) (iter round t begun))
+              met-here k = mathlib.Core.List.Memᴰ.append_left (met step dangles w (step (iter round t begun) a)) (answer-dangling (iter round t begun) a (subst (λ (x : Run). reading_of letters targets priorities x a ≡ Err NoSuchTarget) (at_same t) k))
 
               target : (ltb to states ≡ true) ⊎ (ltb to states ≡ false) → to < states
               target (inl y) = lt-true to states y

@@ -25,7 +25,7 @@ use Rattle.policy.specs.Policies.{legal, edge_of, is_quiet, edge_colours, in_fam
 use Rattle.policy.proofs.Laws.{quiet-colours, edge-coloured}
 use Rattle.running.specs.Running.{policy_step, policy_meets}
 use Rattle.running.proofs.Steps.{policy-within}
-use Rattle.judging.specs.declared.PolicyVerdict.TheVariants.{Judged}
+use Rattle.std.specs.Prelude.{Ok}
 use Rattle.judging.specs.Judging.{recurring_colours, policy_refusal_of, policy_verdict}
 
 module _ (p : Policy) where
@@ -108,6 +108,6 @@ module _ (p : Policy) where
                 Memᴰ.not-nil (subst (Memᴰ c) (quiet-colours p r.0 (q r.0 ((recurring-edges r.0).1 r.1))) r.2)
 
     -- judged, it is accepted exactly if the empty set is in the family
-    pub quiet-verdict : policy_refusal_of p v stem loop ≡ 0 → QuietRun v stem loop → policy_verdict p v stem loop ≡ Judged 0 (in_family p 0)
+    pub quiet-verdict : policy_refusal_of p v stem loop ≡ 0 → QuietRun v stem loop → policy_verdict p v stem loop ≡ Ok (record { colours = 0; accepted = in_family p 0 })
     unfolding policy_verdict
     quiet-verdict n q = rw (eq-eqb (policy_refusal_of p v stem loop) 0 n, quiet-recurring.1 q)

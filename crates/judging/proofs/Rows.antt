@@ -14,8 +14,10 @@ use Rattle.recurrence.proofs.Runs.{after-keeps, after_any, through-run, through-
 use Rattle.recurrence.proofs.Repeats.{iter-any, rounds-snoc, before-first}
 use Rattle.recurrence.proofs.Seeking.{search_left, Numbered, Collects, Searched, seeking-few, seeking-within, searched-start, round-more, round-less}
 use Rattle.running.specs.declared.Run.{Run}
-use Rattle.running.specs.declared.Reading.{Reading}
-use Rattle.running.specs.declared.Reading.TheVariants.{Moved, Refused}
+use Rattle.running.specs.declared.Met.{Met}
+use Rattle.std.specs.Prelude.{Result, Ok, Err}
+use Rattle.refusals.specs.declared.Refusal.{Refusal}
+use Rattle.refusals.specs.Refusals.{number}
 use Rattle.running.specs.Running.{row_of, row_states, shaped, reading_of, row_step, row_meets, run_after, priorities_of}
 use Rattle.running.proofs.Steps.{refusal-13, refusal-none, reading-moved, reading-refused, row_within}
 use Rattle.judging.specs.declared.Seen.{Seen}
@@ -24,13 +26,13 @@ use Rattle.judging.specs.Rounds.{run_of, seen_with, seen_step, seen_after}
 use Rattle.judging.proofs.Laws.{least-with, least-append, least-same, non_empty-append, non_empty-same}
 
 -- ---- one reading
-seen-run : (s : Seen) (x : Reading) → run_of (seen_with s x) ≡ run_after x
-seen-run s (Moved r k) = refl
-seen-run s (Refused n r) = refl
+seen-run : (s : Seen) (x : Result Met Refusal) → run_of (seen_with s x) ≡ run_after (run_of s) x
+seen-run s (Ok m) = refl
+seen-run s (Err e) = refl
 
-seen-least : (s : Seen) (x : Reading) (l : List ℕ) → s.least ≡ least_of l → (seen_with s x).least ≡ least_of (l ++ priorities_of x)
-seen-least s (Moved r k) l e = least-with l k s.least e
-seen-least s (Refused n r) l e = e ∙ ap least_of (sym (append-nil l))
+seen-least : (s : Seen) (x : Result Met Refusal) (l : List ℕ) → s.least ≡ least_of l → (seen_with s x).least ≡ least_of (l ++ priorities_of x)
+seen-least s (Ok m) l e = least-with l m.priority s.least e
+seen-least s (Err q) l e = e ∙ ap least_of (sym (append-nil l))
 
 leasts : Collects least_of min
 leasts = record { same = least-same; joins = λ l r. sym (least-append l r) }
@@ -43,9 +45,9 @@ dangling-append : (b : Bool) (l r : List ℕ) → dangling_in b l || non_empty r
 dangling-append true l r = refl
 dangling-append false l r = sym (non_empty-append l r)
 
-seen-dangling : (b : Bool) (s : Seen) (x : Reading) (a : ℕ) (l : List ℕ) → s.dangling ≡ dangling_in b l → (seen_with s x).dangling ≡ dangling_in b (l ++ cond (no_state x) (a ∷ []) [])
-seen-dangling b s (Moved r k) a l e = e ∙ ap (dangling_in b) (sym (append-nil l))
-seen-dangling b s (Refused n r) a l e = ap₂ ◌||◌ e (go (eqb n 13)) ∙ dangling-append b l (cond (eqb n 13) (a ∷ []) [])
+seen-dangling : (b : Bool) (s : Seen) (x : Result Met Refusal) (a : ℕ) (l : List ℕ) → s.dangling ≡ dangling_in b l → (seen_with s x).dangling ≡ dangling_in b (l ++ cond (no_state x) (a ∷ []) [])
+seen-dangling b s (Ok m) a l e = e ∙ ap (dangling_in b) (sym (append-nil l))
+seen-dangling b s (Err q) a l e = ap₂ ◌||◌ e (go (eqb (number q) 13)) ∙ dangling-append b l (cond (eqb (number q) 13) (a ∷ []) [])
   where
     go : (b : Bool) → b ≡ non_empty (cond b (a ∷ []) [])
     go true = refl

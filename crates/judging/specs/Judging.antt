@@ -1,6 +1,8 @@
 -- Judging (document 01, the questions of judging): what a stem and then a loop without end comes to, by definitions that can be computed. proofs/ has the
 -- theorems that they have the meaning of "recurs".
-use Rattle.std.specs.Prelude.{ℕ, ◌≡◌, Bool, true, false, not, ◌&&◌, ◌||◌, cond, List, [], ◌∷◌, eqb, ltb}
+use Rattle.std.specs.Prelude.{ℕ, ◌≡◌, Bool, true, false, not, ◌&&◌, ◌||◌, cond, List, [], ◌∷◌, eqb, ltb, Result, Ok, Err}
+use Rattle.refusals.specs.declared.Refusal.{Refusal}
+use Rattle.refusals.specs.Refusals.{number, refusal}
 use Rattle.lists.specs.Lists.{all}
 use Rattle.lists.specs.Questions.{ask}
 use Rattle.masks.specs.Masks.{set_of}
@@ -9,13 +11,9 @@ use Rattle.recurrence.specs.Runs.{after, met, window}
 use Rattle.policy.specs.declared.Policy.{Policy}
 use Rattle.policy.specs.Policies.{in_family, legal}
 use Rattle.running.specs.declared.Run.{Run}
-use Rattle.running.specs.declared.Reading.{Reading}
-use Rattle.running.specs.declared.Reading.TheVariants.{Moved, Refused as NotRead}
+use Rattle.running.specs.declared.Met.{Met}
 use Rattle.running.specs.Running.{policy_step, policy_meets, row_states, shaped, reading_of, row_step, row_meets}
-use Rattle.judging.specs.declared.PolicyVerdict.{PolicyVerdict}
-use Rattle.judging.specs.declared.PolicyVerdict.TheVariants.{Judged, Refused as RefusedPolicy}
-use Rattle.judging.specs.declared.RowsVerdict.{RowsVerdict}
-use Rattle.judging.specs.declared.RowsVerdict.TheVariants.{Least, Refused as RefusedRows}
+use Rattle.judging.specs.declared.Verdict.{Verdict}
 
 -- ---- lists of letters, colours, priorities
 abbrev pub non_empty : {A : Type 0} → List A → Bool
@@ -33,28 +31,28 @@ least_of (x ∷ xs) = let r = least_of xs in cond (ltb x r) x r
 
 -- ---- document 01's number and values for each answer
 -- the number of the refusal; 0 where the policy was judged
-abbrev pub policy_number_of : PolicyVerdict → ℕ
-policy_number_of (Judged colours accepted) = 0
-policy_number_of (RefusedPolicy number) = number
+abbrev pub policy_number_of : Result Verdict Refusal → ℕ
+policy_number_of (Ok v) = 0
+policy_number_of (Err e) = number e
 
 -- the recurring colours, and yes or no; none and no after a refusal
-abbrev pub policy_colours_of : PolicyVerdict → ℕ
-policy_colours_of (Judged colours accepted) = colours
-policy_colours_of (RefusedPolicy number) = 0
+abbrev pub policy_colours_of : Result Verdict Refusal → ℕ
+policy_colours_of (Ok v) = v.colours
+policy_colours_of (Err e) = 0
 
-abbrev pub policy_accepted_of : PolicyVerdict → Bool
-policy_accepted_of (Judged colours accepted) = accepted
-policy_accepted_of (RefusedPolicy number) = false
+abbrev pub policy_accepted_of : Result Verdict Refusal → Bool
+policy_accepted_of (Ok v) = v.accepted
+policy_accepted_of (Err e) = false
 
 -- the number of the refusal; 0 where the rows were judged
-abbrev pub rows_number_of : RowsVerdict → ℕ
-rows_number_of (Least priority) = 0
-rows_number_of (RefusedRows number) = number
+abbrev pub rows_number_of : Result ℕ Refusal → ℕ
+rows_number_of (Ok priority) = 0
+rows_number_of (Err e) = number e
 
 -- the least recurring priority; 0 after a refusal
-abbrev pub rows_least_of : RowsVerdict → ℕ
-rows_least_of (Least priority) = priority
-rows_least_of (RefusedRows number) = 0
+abbrev pub rows_least_of : Result ℕ Refusal → ℕ
+rows_least_of (Ok priority) = priority
+rows_least_of (Err e) = 0
 
 -- ---- judging a policy from a state: 7, 11, 14, 12; then the recurring colours and their verdict
 module _ (p : Policy) (v : ℕ) (stem loop : List ℕ) where
@@ -70,11 +68,11 @@ module _ (p : Policy) (v : ℕ) (stem loop : List ℕ) where
       (ask (non_empty loop) 14
       (ask (in_range p.letters stem && in_range p.letters loop) 12 0)))
 
-  unfoldable pub policy_verdict : PolicyVerdict
-  policy_verdict = let s = recurring_colours in cond (eqb policy_refusal_of 0) (Judged s (in_family p s)) (RefusedPolicy policy_refusal_of)
+  unfoldable pub policy_verdict : Result Verdict Refusal
+  policy_verdict = let s = recurring_colours in cond (eqb policy_refusal_of 0) (Ok (record { colours = s; accepted = in_family p s })) (Err (refusal policy_refusal_of))
 
   -- what judge_policy promises of its answer
-  pub record JudgesPolicy (x : PolicyVerdict) : Type 0 where
+  pub record JudgesPolicy (x : Result Verdict Refusal) : Type 0 where
     pub answer_is : x ≡ policy_verdict
     pub number_is : policy_number_of x ≡ policy_refusal_of
     pub colours_are : policy_colours_of x ≡ cond (eqb policy_refusal_of 0) recurring_colours 0
@@ -82,9 +80,9 @@ module _ (p : Policy) (v : ℕ) (stem loop : List ℕ) where
 
 -- ---- judging rows from a state: running's 8 and 11, then 14, 12, 13; then the least recurring priority
 -- reading met a row whose target is no state
-abbrev pub no_state : Reading → Bool
-no_state (Moved r k) = false
-no_state (NotRead n r) = eqb n 13
+abbrev pub no_state : Result Met Refusal → Bool
+no_state (Ok m) = false
+no_state (Err e) = eqb (number e) 13
 
 module _ (letters : ℕ) (targets priorities : List ℕ) where
   -- what a letter meets, if only such rows are looked for
@@ -113,11 +111,11 @@ module _ (letters : ℕ) (targets priorities : List ℕ) where
         (ask (in_range letters stem && in_range letters loop) 12
         (ask (not ever_dangling) 13 0))))
 
-    unfoldable pub rows_verdict : RowsVerdict
-    rows_verdict = cond (eqb rows_refusal_of 0) (Least least_recurring) (RefusedRows rows_refusal_of)
+    unfoldable pub rows_verdict : Result ℕ Refusal
+    rows_verdict = cond (eqb rows_refusal_of 0) (Ok least_recurring) (Err (refusal rows_refusal_of))
 
     -- what judge_rows promises of its answer
-    pub record JudgesRows (x : RowsVerdict) : Type 0 where
+    pub record JudgesRows (x : Result ℕ Refusal) : Type 0 where
       pub answer_is : x ≡ rows_verdict
       pub number_is : rows_number_of x ≡ rows_refusal_of
       pub least_is : rows_least_of x ≡ cond (eqb rows_refusal_of 0) least_recurring 0

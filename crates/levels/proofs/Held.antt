@@ -3,7 +3,7 @@ use Prim.Native.Nat.{ℕ, ◌<◌}
 use native.Mathlib.Omega.{arith}
 use native.Mathlib.Decide.{dec_lt}
 use mathlib.Core.Path.{◌≡◌, refl, sym, ap, ◌∙◌, subst}
-use mathlib.Core.Logic.{◌⊎◌, inl, inr, ◌≢◌}
+use mathlib.Core.Logic.{◌⊎◌, inl, inr}
 use mathlib.Core.Bool.{Bool, true, false, not, ◌&&◌, cond, true≢false}
 use mathlib.Core.List.{List}
 use lib.Dec.{eqb}
@@ -97,7 +97,7 @@ module _ (h : Held) where
       go (inr f) = absurd (omega (arith, not-held l s k f, out s f, e))
 
   abbrev FirmAt : ℕ → Type 0
-  FirmAt = Firm t.owners t.sources t.targets t.priorities t.letters (hold_of t.letters t.p) n₁ l.c₃
+  FirmAt = Firm t.owners t.sources t.targets t.priorities t.letters (hold_of t.p) n₁ l.c₃
 
   firm : (s : ℕ) → H s ≡ true → FirmAt s
   firm s e = let u = Y-moved.all s (H-in s e) in go u (dec_lt u.0 h.holds.freed)
@@ -135,12 +135,12 @@ module _ (h : Held) where
   abbrev hits : ℕ → ℕ → Bool
   hits s a = H ((G t).target s a)
 
-  pub third : Outcome t.owners t.sources t.targets t.priorities t.letters t.states (held_task t.letters t.p) n₁ l.c₃ h.holds.m₂ h.c₄ (Y l) (minus (Y l) H) hits
-  third = outcome t.owners t.sources t.targets t.priorities t.letters t.states (held_task t.letters t.p) n₁ l.c₃ h.holds.m₂ h.c₄
-      (held-apart t.letters t.p t.small) (Y l) (minus (Y l) H) hits (λ s e. live_state t.states t.m s (Y-in l s e)) (minus-in (Y l) H)
+  pub third : Outcome t.owners t.sources t.targets t.priorities t.letters t.states (held_task t.p) n₁ l.c₃ h.holds.m₂ h.c₄ (Y l) (minus (Y l) H) hits
+  third = outcome t.owners t.sources t.targets t.priorities t.letters t.states (held_task t.p) n₁ l.c₃ h.holds.m₂ h.c₄
+      (held-apart t.p t.small) (Y l) (minus (Y l) H) hits (λ s e. live_state t.states t.m s (Y-in l s e)) (minus-in (Y l) H)
       (λ s k. role s k (test (Y l s)) (test (H s))) (λ s a e. into (Y l) H ((G t).target s a) e) h.holds.attracts
     where
-      role : (s : ℕ) → s < t.states → (Y l s ≡ true) ⊎ (Y l s ≡ false) → (H s ≡ true) ⊎ (H s ≡ false) → Role (held_task t.letters t.p) (get_or n₁ s 0) (Y l s) (minus (Y l) H s)
+      role : (s : ℕ) → s < t.states → (Y l s ≡ true) ⊎ (Y l s ≡ false) → (H s ≡ true) ⊎ (H s ≡ false) → Role (held_task t.p) (get_or n₁ s 0) (Y l s) (minus (Y l) H s)
       role s k (inl e) (inl q) = goal e (minus-taken (Y l) H s q) (H-mark s q)
       role s k (inl e) (inr q) = waits e (minus-both (Y l) H s e q) (inl (not-H s e q))
       role s k (inr f) q =
@@ -157,7 +157,7 @@ module _ (h : Held) where
   Z = minus (minus (Y l) H) C
 
   Z-listed : Lists Z h.again h.o''
-  Z-listed = lists-same (from_of t.owners t.sources t.targets t.priorities t.letters t.states (held_task t.letters t.p) h.holds.m₂) Z h.again h.o''
+  Z-listed = lists-same (from_of t.owners t.sources t.targets t.priorities t.letters t.states (held_task t.p) h.holds.m₂) Z h.again h.o''
       third.left h.holds.waits.listed
 
   marks : (s : ℕ) → get_or h.m₄ s 0 ≡ cond (Z s) 255 (cond (Y l s) (won_mark t.p (i t)) (get_or h.holds.m₂ s 0))

@@ -51,17 +51,17 @@ module _ (l : Lost) where
   abbrev hits : ℕ → ℕ → Bool
   hits s a = losts b ((G t).target s a)
 
-  pub second : Outcome t.owners t.sources t.targets t.priorities t.letters t.states (lost_task t.letters t.p) b.m₂ b.c₂ l.loses.m₁ l.c₃ (X t) F hits
-  second = outcome t.owners t.sources t.targets t.priorities t.letters t.states (lost_task t.letters t.p) b.m₂ b.c₂ l.loses.m₁ l.c₃
-      (lost-apart t.letters t.p) (X t) F hits
+  pub second : Outcome t.owners t.sources t.targets t.priorities t.letters t.states (lost_task t.p) b.m₂ b.c₂ l.loses.m₁ l.c₃ (X t) F hits
+  second = outcome t.owners t.sources t.targets t.priorities t.letters t.states (lost_task t.p) b.m₂ b.c₂ l.loses.m₁ l.c₃
+      (lost-apart t.p) (X t) F hits
       (λ s e. live_state t.states t.m s e) (minus-in (X t) (losts b)) (λ s h. role s h (test (X t s))) (λ s a e. into (X t) (losts b) ((G t).target s a) e) l.loses.attracts
     where
-      by-spot : (s : ℕ) → X t s ≡ true → Spot b s → Role (lost_task t.letters t.p) (get_or b.m₂ s 0) (X t s) (F s)
+      by-spot : (s : ℕ) → X t s ≡ true → Spot b s → Role (lost_task t.p) (get_or b.m₂ s 0) (X t s) (F s)
       by-spot s e (taken k q) = waits e (minus-both (X t) (losts b) s e k) (inl q)
       by-spot s e (gone k q) = goal e (minus-taken (X t) (losts b) s k) q
       by-spot s e (held k q) = waits e (minus-both (X t) (losts b) s e k) (inr q)
 
-      role : (s : ℕ) → s < t.states → (X t s ≡ true) ⊎ (X t s ≡ false) → Role (lost_task t.letters t.p) (get_or b.m₂ s 0) (X t s) (F s)
+      role : (s : ℕ) → s < t.states → (X t s ≡ true) ⊎ (X t s ≡ false) → Role (lost_task t.p) (get_or b.m₂ s 0) (X t s) (F s)
       role s h (inl e) = by-spot s e (spot b s e)
       role s h (inr f) =
           past f (minus-never (X t) (losts b) s f) (omega (arith, (same_above b s f).0, t.low s h f))
@@ -95,7 +95,7 @@ module _ (l : Lost) where
   X-not-Y s f = minus-never F B s (minus-never (X t) (losts b) s f)
 
   pub Y-listed : Lists Y l.rest l.o'
-  Y-listed = lists-same (from_of t.owners t.sources t.targets t.priorities t.letters t.states (lost_task t.letters t.p) l.loses.m₁) Y l.rest l.o'
+  Y-listed = lists-same (from_of t.owners t.sources t.targets t.priorities t.letters t.states (lost_task t.p) l.loses.m₁) Y l.rest l.o'
       second.left l.loses.waits.listed
 
   -- ---- the marks after that: theirs, and the rest held

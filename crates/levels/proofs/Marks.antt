@@ -31,11 +31,11 @@ won-other p true = λ e. absurd (omega arith)
 won-other p false = λ e. absurd (omega arith)
 
 -- ---- the marks of each task are apart
-pub rows_apart : (letters p : ℕ) → p ≤ 32 → Apart (rows_task letters p)
-rows_apart letters p h = record { not_live = λ z. absurd (omega arith); not_also = λ z. absurd (omega arith); live_in = omega arith; also_in = omega arith; to_in = omega arith }
+pub rows_apart : (p : ℕ) → p ≤ 32 → Apart (rows_task p)
+rows_apart p h = record { not_live = λ z. absurd (omega arith); not_also = λ z. absurd (omega arith); live_in = omega arith; also_in = omega arith; to_in = omega arith }
 
-pub lost-apart : (letters p : ℕ) → Apart (lost_task letters p)
-lost-apart letters p = record {
+pub lost-apart : (p : ℕ) → Apart (lost_task p)
+lost-apart p = record {
   not_live = λ z. absurd (omega (arith, z, won-low (p + 1) (not (serves p))));
   not_also = λ z. won-other (p + 1) (serves p) (sym z);
   live_in = omega arith;
@@ -43,8 +43,8 @@ lost-apart letters p = record {
   to_in = omega (arith, won-low (p + 1) (not (serves p)));
 }
 
-pub held-apart : (letters p : ℕ) → p ≤ 32 → Apart (held_task letters p)
-held-apart letters p h = record { not_live = λ z. absurd (omega arith); not_also = λ z. absurd (omega arith); live_in = omega arith; also_in = omega arith; to_in = omega arith }
+pub held-apart : (p : ℕ) → p ≤ 32 → Apart (held_task p)
+held-apart p h = record { not_live = λ z. absurd (omega arith); not_also = λ z. absurd (omega arith); live_in = omega arith; also_in = omega arith; to_in = omega arith }
 
 -- ---- live states
 module _ (states : ℕ) (m : List ℕ) (s : ℕ) where

@@ -45,7 +45,7 @@ pub record Turn : Type 0 where
   -- and after the attraction
   pub m₁ : List ℕ
   pub c₁ : List ℕ
-  pub attracts : Attracts owners sources targets priorities letters states (rows_task letters p) m c m₁ c₁
+  pub attracts : Attracts owners sources targets priorities letters states (rows_task p) m c m₁ c₁
 
 module _ (t : Turn) where
   abbrev pub G : Game
@@ -66,12 +66,12 @@ module _ (t : Turn) where
   abbrev hits : ℕ → ℕ → Bool
   hits = lowest G t.p X t.arena i refl
 
-  pub first : Outcome t.owners t.sources t.targets t.priorities t.letters t.states (rows_task t.letters t.p) t.m t.c t.m₁ t.c₁ X X hits
-  first = outcome t.owners t.sources t.targets t.priorities t.letters t.states (rows_task t.letters t.p) t.m t.c t.m₁ t.c₁
-      (rows_apart t.letters t.p t.small) X X hits (λ s e. live_state t.states t.m s e) (λ s e. e)
+  pub first : Outcome t.owners t.sources t.targets t.priorities t.letters t.states (rows_task t.p) t.m t.c t.m₁ t.c₁ X X hits
+  first = outcome t.owners t.sources t.targets t.priorities t.letters t.states (rows_task t.p) t.m t.c t.m₁ t.c₁
+      (rows_apart t.p t.small) X X hits (λ s e. live_state t.states t.m s e) (λ s e. e)
       (λ s h. role s h (test (X s))) (λ s a e. rw e refl) t.attracts
     where
-      role : (s : ℕ) → s < t.states → (X s ≡ true) ⊎ (X s ≡ false) → Role (rows_task t.letters t.p) (get_or t.m s 0) (X s) (X s)
+      role : (s : ℕ) → s < t.states → (X s ≡ true) ⊎ (X s ≡ false) → Role (rows_task t.p) (get_or t.m s 0) (X s) (X s)
       role s h (inl e) = waits e e (inl (live-mark t.states t.m s e))
       role s h (inr f) =
           past f f (omega (arith, t.low s h f))

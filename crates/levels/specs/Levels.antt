@@ -26,13 +26,12 @@ pub record Headed (states p : ℕ) (m : List ℕ) : Type 0 where
 
 -- ---- the tasks of level p
 -- the attraction to the rows of the level, for the player whom it serves
-abbrev pub rows_task : ℕ → ℕ → Task
-rows_task letters p = record { letters = letters; level = p; plant = serves p; floor = taken_mark p; live = 255; also = 255; to = taken_mark p; rows = true }
+abbrev pub rows_task : ℕ → Task
+rows_task p = record { level = p; plant = serves p; floor = taken_mark p; live = 255; also = 255; to = taken_mark p; rows = true }
 
 -- the attraction to what the other player has won above the level, from all that it has not
-abbrev pub lost_task : ℕ → ℕ → Task
-lost_task letters p = record {
-  letters = letters;
+abbrev pub lost_task : ℕ → Task
+lost_task p = record {
   level = p;
   plant = not (serves p);
   floor = taken_mark p;
@@ -43,11 +42,11 @@ lost_task letters p = record {
 }
 
 -- what the player whom the level serves holds, and the attraction to that
-abbrev pub hold_of : ℕ → ℕ → Hold
-hold_of letters p = record { letters = letters; level = p; plant = serves p; held = taken_mark p }
+abbrev pub hold_of : ℕ → Hold
+hold_of p = record { level = p; plant = serves p; held = taken_mark p }
 
-abbrev pub held_task : ℕ → ℕ → Task
-held_task letters p = record { letters = letters; level = p; plant = serves p; floor = taken_mark p; live = 255; also = 255; to = taken_mark p; rows = false }
+abbrev pub held_task : ℕ → Task
+held_task p = record { level = p; plant = serves p; floor = taken_mark p; live = 255; also = 255; to = taken_mark p; rows = false }
 
 module _ (owners sources targets priorities : List ℕ) (letters states : ℕ) where
   -- ---- a level is solved: what was live is marked by its winner, with letters for both players; nothing else is changed
@@ -71,8 +70,8 @@ module _ (owners sources targets priorities : List ℕ) (letters states : ℕ) w
   pub record Loses (p n kept : ℕ) (o m c : List ℕ) (rest : ℕ) (o' m' c' : List ℕ) : Type 0 where
     pub m₁ : List ℕ
     pub m₂ : List ℕ
-    pub attracts : Attracts owners sources targets priorities letters states (lost_task letters p) m c m₁ c'
-    pub waits : Waits owners sources targets priorities letters states (lost_task letters p) kept o rest o' m₁
+    pub attracts : Attracts owners sources targets priorities letters states (lost_task p) m c m₁ c'
+    pub waits : Waits owners sources targets priorities letters states (lost_task p) kept o rest o' m₁
     pub theirs : Painted (won_mark p (not (serves p))) n o' m₁ m₂
     pub held : Painted (taken_mark p) rest o' m₂ m'
 
@@ -83,9 +82,9 @@ module _ (owners sources targets priorities : List ℕ) (letters states : ℕ) w
     pub m₂ : List ℕ
     pub m₃ : List ℕ
     pub freed : ℕ
-    pub released : Released owners sources targets priorities letters (hold_of letters p) rest o m c freed o₁ m₁
-    pub attracts : Attracts owners sources targets priorities letters states (held_task letters p) m₁ c m₂ c'
-    pub waits : Waits owners sources targets priorities letters states (held_task letters p) freed o₁ again o' m₂
+    pub released : Released owners sources targets priorities letters (hold_of p) rest o m c freed o₁ m₁
+    pub attracts : Attracts owners sources targets priorities letters states (held_task p) m₁ c m₂ c'
+    pub waits : Waits owners sources targets priorities letters states (held_task p) freed o₁ again o' m₂
     pub own : Painted (won_mark p (serves p)) rest o' m₂ m₃
     pub remains : Painted 255 again o' m₃ m'
 

@@ -10,7 +10,7 @@ use mathlib.Core.List.{List, [], ◌∷◌, ◌++◌, map, Memᴰ}
 use lib.Bits.{bit_and, bit_or}
 use lib.Dec.{eqb}
 use lib.ListN.{length, get_or, take, drop, set, length-set, get_or-append, take-append-drop}
-use lib.Seq.{length-take-le, take-suc, take-set-le, get_or-set_same}
+use lib.Seq.{length-take-le, take-suc, take-set-le, take_all, get_or-set_same}
 use Rattle.lists.proofs.Bools.{≡eqb, neqb, or_cases, or_left, or_right}
 use Rattle.lists.proofs.Lists.{get_or-mem, mem-at}
 use Rattle.masks.specs.Masks.{has, inside}
@@ -19,11 +19,20 @@ use Rattle.policy.specs.declared.Policy.{Policy}
 use Rattle.policy.specs.Policies.{colours_of, legal}
 use Rattle.policy.specs.ByColour.{edges_in, table_edges, table_colours}
 use Rattle.policy.proofs.ByColour.{table-edges-are, table-colours-are}
+use Rattle.policy.proofs.Laws.{legal-counts}
 use Rattle.graph.specs.Cycles.{is_cycle}
+use Rattle.graph.specs.declared.Graph.{Graph}
+use Rattle.graph.proofs.CodeLaws.{own_graph}
 use Rattle.components.specs.Components.{largest_in}
+use Rattle.components.specs.Finding.{Found}
+use Rattle.components.proofs.Finding.{found_first}
 use Rattle.candidates.specs.Candidates.{wanted, is_open, is_wanted, with_cycle, with_cycles, with_set, Live}
 use Rattle.candidates.proofs.Live.{and_none, none-listed, unwanted-none, closed_none, largest-within, largest-cycle, in-largest, live-exact}
 use Rattle.listing.specs.Listing.{Hued, PartsOf, union_to, OnCycles}
+
+-- the parts of a graph
+pub parts_of : (g : Graph) → PartsOf g.policy.now g.policy.now.states g.policy.now.letters g.policy.now.target g.out g.into g.by
+parts_of g = record { graph = own_graph g.policy.now g.lawful; ends = g.ends; by_is = g.by_is }
 
 -- ---- a list with one more
 pub take-set : (t : List ℕ) (n x : ℕ) → n < length t → take (n + 1) (set t n x) ≡ take n t ++ (x ∷ [])
@@ -165,3 +174,18 @@ union-on p lawful m t n e h q w = subst (OnCycles p m) (sym w) (record {
 -- nothing was found to be off all cycles
 pub all-on : (p : Policy) (m : ℕ) → OnCycles p m m
 all-on p m = record { within = inside-refl m; cycles = λ x cy i. i }
+
+-- ---- the cycles found inside m, as a list
+module _ (p : Policy) (lawful : legal p ≡ true) (m : ℕ) {t₀ t : List ℕ} {n : ℕ} (f : Found p m t₀ t n) where
+  pub found-few : n ≤ 16
+  found-few = omega (arith, f.few, (legal-counts p lawful).states_few)
+
+  -- so many are read
+  pub found-length : length (take n t) ≡ n
+  found-length = length-take-le n t (omega (arith, found-few, f.long))
+
+  pub found-all : take (length (take n t)) (take n t) ≡ largest_in p m
+  found-all = take_all (length (take n t)) (take n t) (omega arith) ∙ found_first p lawful f
+
+  pub found-on : (e : ℕ) → e ≡ union_to (take n t) (length (take n t)) → OnCycles p m e
+  found-on e w = union-on p lawful m (take n t) (length (take n t)) e (omega arith) found-all w

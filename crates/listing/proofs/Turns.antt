@@ -14,7 +14,7 @@ use Rattle.lists.specs.Bools.{differs}
 use Rattle.lists.proofs.Bools.{test, or_cases, or-none, or-rest, lt-true, lt-false}
 use Rattle.masks.specs.Masks.{inside}
 use Rattle.policy.specs.declared.Policy.{Policy}
-use Rattle.policy.specs.Policies.{colours_of, in_family, accepting, legal}
+use Rattle.policy.specs.Policies.{colours_of, in_family, legal}
 use Rattle.policy.specs.ByColour.{by_colour, table_colours}
 use Rattle.policy.proofs.Laws.{accepting-is, colours-up}
 use Rattle.policy.proofs.ByColour.{table-colours-are}

@@ -2,17 +2,18 @@
 // stand their colour sets, accepted and rejected.
 #![tactic(auto)]
 
-ghost use Rattle.std.specs.Prelude.{◌≡◌, ◌⊎◌, true, false, cond, ℕ, ◌+◌, ◌-◌, ◌<◌, ◌≤◌, eqb, length, get_or, take};
+ghost use Rattle.std.specs.Prelude.{◌≡◌, ◌⊎◌, true, false, cond, ℕ, ◌+◌, ◌-◌, ◌<◌, ◌≤◌, eqb, length, get_or, set, take};
 ghost use mathlib.Core.List.{List, map, Memᴰ};
-ghost use Rattle.policy.specs.declared.Policy.{Policy};
-ghost use Rattle.policy.specs.Policies.{colours_of, in_family, legal};
-ghost use Rattle.policy.specs.ByColour.{by_colour, edges_in, table_colours};
+ghost use Rattle.policy.specs.Policies.{colours_of, in_family};
+ghost use Rattle.policy.specs.ByColour.{edges_in, table_colours};
 ghost use Rattle.components.specs.Components.{largest_in};
 ghost use Rattle.forest.specs.Forest.{roots};
 ghost use Rattle.candidates.specs.Candidates.{with_cycle, with_cycles, Live};
 ghost use Rattle.masks.specs.Masks.{inside};
 ghost use Rattle.looks.specs.Spans.{upper};
-ghost use Rattle.listing.specs.Listing.{Hued, PartsOf, union_to, OnCycles, Settled, Listed, lacks_room, Outcome};
+ghost use Rattle.listing.specs.Listing.{Hued, union_to, OnCycles, Settled, Listed, lacks_room, Outcome};
+
+use graph::Graph;
 
 // How many masks each list holds.
 #[derive(Clone, Copy)]
@@ -21,7 +22,7 @@ pub struct Counts {
     pub rejecting: usize,
 }
 
-// The same, and whether the listing is whole.
+// The same, and whether the listing is whole. The counts are promised where it is not, too, so they are not in an Option.
 #[derive(Clone, Copy)]
 pub struct Listing {
     pub counts: Counts,
@@ -43,7 +44,7 @@ struct Step {
 }
 
 // The cycle x after the first `count` masks of a list, if its colours by the table are exactly c and it is wanted. It has many parameters, as those below: both lists with their
-// colours.
+// colours. Of a struct with these `&mut`s the proof did not close: after a slice is lent, what stands behind them was not known.
 fn append_cycle(
     by: &[u64; 9],
     c: u8,
@@ -70,70 +71,53 @@ fn append_cycle(
     count
 }
 
-// The first n cycles in turn.
+// Some cycles in turn.
 fn append_cycles(
     by: &[u64; 9],
     c: u8,
-    cycles: &[u64; 16],
-    n: usize,
+    cycles: &[u64],
     other: &[u64],
     hues: &[u8],
     same: &mut [u64],
     own: &mut [u8],
     count: usize,
 ) -> usize
-    requires cycles { (n ≤ 16) × (length cycles.now ≡ 16) }
     requires other { hues.now ≡ map (table_colours by.now) other.now }
-    requires room { Hued (table_colours by.now) same.old own.old count × (count + n ≤ length same.old) × (count + n ≤ length own.old) }
-    ensures masks { take result same.new ≡ with_cycles (table_colours by.now) c other.now (take count same.old) (take n cycles.now) }
+    requires room { Hued (table_colours by.now) same.old own.old count × (count + length cycles.now ≤ length same.old) × (count + length cycles.now ≤ length own.old) }
+    ensures masks { take result same.new ≡ with_cycles (table_colours by.now) c other.now (take count same.old) cycles.now }
     ensures hues { Hued (table_colours by.now) same.new own.new result }
 {
     let mut next = count;
-    for i in 0..n {
-        next = append_cycle(by, c, cycles[i], other, hues, same, own, next);
+    for &x in cycles {
+        next = append_cycle(by, c, x, other, hues, same, own, next);
     }
     next
 }
 
-// The first n cycles as one edge set.
-fn union_of(cycles: &[u64; 16], n: usize) -> u64
-    requires { (n ≤ 16) × (length cycles.now ≡ 16) }
-    ensures { result ≡ union_to cycles.now n }
+// Some cycles as one edge set.
+fn union_of(cycles: &[u64]) -> u64
+    ensures { result ≡ union_to cycles.now (length cycles.now) }
 {
     let mut edges: u64 = 0;
-    for i in 0..n {
-        edges = masks::either(edges, cycles[i]);
+    for &x in cycles {
+        edges = masks::either(edges, x);
     }
     edges
 }
 
 // The edges of m that are on cycles inside it.
-fn edges_on_cycles(
-    states: usize,
-    letters: usize,
-    heads: &[u8; 64],
-    out: &[u64; 16],
-    into: &[u64; 16],
-    m: u64,
-) -> u64
-    requires { (p : Policy) × (by : List ℕ) × PartsOf p states letters heads.now out.now into.now by }
-    ensures { (p : Policy) (by : List ℕ) → PartsOf p states letters heads.now out.now into.now by → OnCycles p m result }
+fn edges_on_cycles(g: &Graph<'_>, m: u64) -> u64
+    ensures { OnCycles g.now.policy.now m result }
 {
     let mut rows = [0u16; 16];
     let mut cycles = [0u64; 16];
-    let n = components::fill_cycles(states, letters, heads, out, into, m, &mut rows, &mut cycles);
-    union_of(&cycles, n)
+    let n = components::fill_cycles(g, m, &mut rows, &mut cycles);
+    union_of(&cycles[..n])
 }
 
-// The wanted ones of the largest cycles inside m whose colours are exactly c, after the first `count` masks of a list. Beside the lists stand the parts of the policy, which
-// itself would be copied.
+// The wanted ones of the largest cycles inside m whose colours are exactly c, after the first `count` masks of a list.
 fn list_cycles(
-    states: usize,
-    letters: usize,
-    heads: &[u8; 64],
-    out: &[u64; 16],
-    into: &[u64; 16],
-    by: &[u64; 9],
+    g: &Graph<'_>,
     c: u8,
     m: u64,
     other: &[u64],
@@ -142,29 +126,23 @@ fn list_cycles(
     own: &mut [u8],
     count: usize,
 ) -> Cycles
-    requires policy { (p : Policy) × PartsOf p states letters heads.now out.now into.now by.now }
-    requires other { hues.now ≡ map (table_colours by.now) other.now }
-    requires room { Hued (table_colours by.now) same.old own.old count × (count + 16 ≤ length same.old) × (count + 16 ≤ length own.old) }
-    ensures masks { (p : Policy) → PartsOf p states letters heads.now out.now into.now by.now → take result.count same.new ≡ with_cycles (table_colours by.now) c other.now (take count same.old) (largest_in p m) }
-    ensures hues { Hued (table_colours by.now) same.new own.new result.count }
-    ensures edges { (p : Policy) → PartsOf p states letters heads.now out.now into.now by.now → OnCycles p m result.edges }
+    requires other { hues.now ≡ map (table_colours g.now.by) other.now }
+    requires room { Hued (table_colours g.now.by) same.old own.old count × (count + 16 ≤ length same.old) × (count + 16 ≤ length own.old) }
+    ensures masks { take result.count same.new ≡ with_cycles (table_colours g.now.by) c other.now (take count same.old) (largest_in g.now.policy.now m) }
+    ensures hues { Hued (table_colours g.now.by) same.new own.new result.count }
+    ensures edges { OnCycles g.now.policy.now m result.edges }
 {
     let mut rows = [0u16; 16];
     let mut cycles = [0u64; 16];
-    let n = components::fill_cycles(states, letters, heads, out, into, m, &mut rows, &mut cycles);
-    let edges = union_of(&cycles, n);
-    let next = append_cycles(by, c, &cycles, n, other, hues, same, own, count);
+    let n = components::fill_cycles(g, m, &mut rows, &mut cycles);
+    let edges = union_of(&cycles[..n]);
+    let next = append_cycles(&g.by, c, &cycles[..n], other, hues, same, own, count);
     Cycles { count: next, edges }
 }
 
 // The same, where m is wanted; elsewhere there are none.
 fn list_wanted(
-    states: usize,
-    letters: usize,
-    heads: &[u8; 64],
-    out: &[u64; 16],
-    into: &[u64; 16],
-    by: &[u64; 9],
+    g: &Graph<'_>,
     c: u8,
     m: u64,
     other: &[u64],
@@ -173,17 +151,14 @@ fn list_wanted(
     own: &mut [u8],
     count: usize,
 ) -> Cycles
-    requires policy { (p : Policy) × PartsOf p states letters heads.now out.now into.now by.now }
-    requires other { hues.now ≡ map (table_colours by.now) other.now }
-    requires room { Hued (table_colours by.now) same.old own.old count × (count + 16 ≤ length same.old) × (count + 16 ≤ length own.old) }
-    ensures masks { (p : Policy) → PartsOf p states letters heads.now out.now into.now by.now → take result.count same.new ≡ with_cycles (table_colours by.now) c other.now (take count same.old) (largest_in p m) }
-    ensures hues { Hued (table_colours by.now) same.new own.new result.count }
-    ensures edges { (p : Policy) → PartsOf p states letters heads.now out.now into.now by.now → OnCycles p m result.edges }
+    requires other { hues.now ≡ map (table_colours g.now.by) other.now }
+    requires room { Hued (table_colours g.now.by) same.old own.old count × (count + 16 ≤ length same.old) × (count + 16 ≤ length own.old) }
+    ensures masks { take result.count same.new ≡ with_cycles (table_colours g.now.by) c other.now (take count same.old) (largest_in g.now.policy.now m) }
+    ensures hues { Hued (table_colours g.now.by) same.new own.new result.count }
+    ensures edges { OnCycles g.now.policy.now m result.edges }
 {
     if looks::is_wanted(c, m, other, hues, &same[..count]) {
-        return list_cycles(
-            states, letters, heads, out, into, by, c, m, other, hues, same, own, count,
-        );
+        return list_cycles(g, c, m, other, hues, same, own, count);
     }
     Cycles { count, edges: m }
 }
@@ -202,13 +177,7 @@ fn left_after(edges: u64, up: u8, c: u8) -> u8
 // After a search of the set c with the verdict v that left the edges e: the sets from the answer up to c are settled. That is told where all of them have this verdict, and of the
 // cycles found those that may be children of listed masks have colours below. Where they begin is undecided.
 fn past_settled(
-    states: usize,
-    letters: usize,
-    heads: &[u8; 64],
-    out: &[u64; 16],
-    into: &[u64; 16],
-    by: &[u64; 9],
-    family: &[bool; 256],
+    g: &Graph<'_>,
     v: bool,
     up: u8,
     c: u8,
@@ -217,32 +186,25 @@ fn past_settled(
     hues: &[u8],
     same: &[u64],
 ) -> u8
-    requires policy { (p : Policy) × PartsOf p states letters heads.now out.now into.now by.now }
-    requires other { (hues.now ≡ map (table_colours by.now) other.now) × (up ≤ c) }
-    ensures settled { (p : Policy) → PartsOf p states letters heads.now out.now into.now by.now → family.now ≡ p.family → inside (colours_of p e) c ≡ true → Settled p v up c e other.now same.now result }
+    requires other { (hues.now ≡ map (table_colours g.now.by) other.now) × (up ≤ c) }
+    ensures settled { inside (colours_of g.now.policy.now e) c ≡ true → Settled g.now.policy.now v up c e other.now same.now result }
     ensures left { (up ≤ result) × (result ≤ c) }
 {
     if !looks::are_above(up, c, hues) {
         return c;
     }
-    if !looks::is_uniform(family, looks::first_from(by, up), c, v) {
+    if !looks::is_uniform(&g.policy.family, looks::first_from(&g.by, up), c, v) {
         return c;
     }
     let mut rows = [0u16; 16];
     let mut cycles = [0u64; 16];
-    let n = components::fill_cycles(states, letters, heads, out, into, e, &mut rows, &mut cycles);
-    looks::past_all(by, &cycles, n, other, hues, same, up, c)
+    let n = components::fill_cycles(g, e, &mut rows, &mut cycles);
+    looks::past_all(&g.by, &cycles[..n], other, hues, same, up, c)
 }
 
 // The same, where it can gain: not in small spans, nor where the lists are long. Where no edge is left the whole span is settled.
 fn left_settled(
-    states: usize,
-    letters: usize,
-    heads: &[u8; 64],
-    out: &[u64; 16],
-    into: &[u64; 16],
-    by: &[u64; 9],
-    family: &[bool; 256],
+    g: &Graph<'_>,
     v: bool,
     up: u8,
     c: u8,
@@ -251,9 +213,8 @@ fn left_settled(
     hues: &[u8],
     same: &[u64],
 ) -> u8
-    requires policy { (p : Policy) × PartsOf p states letters heads.now out.now into.now by.now }
-    requires other { (hues.now ≡ map (table_colours by.now) other.now) × (up ≤ c) }
-    ensures settled { (p : Policy) → PartsOf p states letters heads.now out.now into.now by.now → family.now ≡ p.family → inside (colours_of p e) c ≡ true → Settled p v up c e other.now same.now result }
+    requires other { (hues.now ≡ map (table_colours g.now.by) other.now) × (up ≤ c) }
+    ensures settled { inside (colours_of g.now.policy.now e) c ≡ true → Settled g.now.policy.now v up c e other.now same.now result }
     ensures left { (up ≤ result) × (result ≤ c) }
 {
     if e == 0 {
@@ -265,20 +226,49 @@ fn left_settled(
     if looks::are_long(other.len(), same.len()) {
         return c;
     }
-    past_settled(
-        states, letters, heads, out, into, by, family, v, up, c, e, other, hues, same,
-    )
+    past_settled(g, v, up, c, e, other, hues, same)
+}
+
+// The list of one verdict after a set: how many masks it holds, the edges that have the cycles of the set, and of its span those below `left` are left.
+#[derive(Clone, Copy)]
+struct Side {
+    cycles: Cycles,
+    left: u8,
+}
+
+// A set c with the verdict v, for the lists of its verdict and of the other one: the wanted ones of its cycles, which are looked for in m, are listed.
+fn list_side(
+    g: &Graph<'_>,
+    v: bool,
+    up: u8,
+    c: u8,
+    m: u64,
+    other: &[u64],
+    hues: &[u8],
+    same: &mut [u64],
+    own: &mut [u8],
+    live: &mut [u64],
+    count: usize,
+) -> Side
+    requires other { hues.now ≡ map (table_colours g.now.by) other.now }
+    requires room { Hued (table_colours g.now.by) same.old own.old count × (count + 16 ≤ length same.old) × (count + 16 ≤ length own.old) }
+    requires live { (c < length live.old) × (up ≤ c) }
+    ensures masks { take result.cycles.count same.new ≡ with_cycles (table_colours g.now.by) c other.now (take count same.old) (largest_in g.now.policy.now m) }
+    ensures hues { Hued (table_colours g.now.by) same.new own.new result.cycles.count }
+    ensures edges { OnCycles g.now.policy.now m result.cycles.edges × (live.new ≡ set live.old c result.cycles.edges) }
+    ensures settled { inside (colours_of g.now.policy.now result.cycles.edges) c ≡ true → Settled g.now.policy.now v up c result.cycles.edges other.now (take result.cycles.count same.new) result.left }
+    ensures left { (up ≤ result.left) × (result.left ≤ c) }
+{
+    let cycles = list_wanted(g, c, m, other, hues, same, own, count);
+    live[c as usize] = cycles.edges;
+    let listed = &same[..cycles.count];
+    let left = left_settled(g, v, up, c, cycles.edges, other, hues, listed);
+    Side { cycles, left }
 }
 
 // An open set c with the verdict v: the wanted ones of its cycles, which are looked for in m, go into the list of the verdict.
 fn list_set(
-    states: usize,
-    letters: usize,
-    heads: &[u8; 64],
-    out: &[u64; 16],
-    into: &[u64; 16],
-    by: &[u64; 9],
-    family: &[bool; 256],
+    g: &Graph<'_>,
     v: bool,
     up: u8,
     c: u8,
@@ -290,105 +280,62 @@ fn list_set(
     live: &mut [u64],
     listed: Counts,
 ) -> Step
-    requires policy { (p : Policy) × PartsOf p states letters heads.now out.now into.now by.now }
-    requires accepting { Hued (table_colours by.now) accepting.old accepted.old listed.accepting × (listed.accepting + 16 ≤ length accepting.old) × (listed.accepting + 16 ≤ length accepted.old) }
-    requires rejecting { Hued (table_colours by.now) rejecting.old rejected.old listed.rejecting × (listed.rejecting + 16 ≤ length rejecting.old) × (listed.rejecting + 16 ≤ length rejected.old) }
+    requires accepting { Hued (table_colours g.now.by) accepting.old accepted.old listed.accepting × (listed.accepting + 16 ≤ length accepting.old) × (listed.accepting + 16 ≤ length accepted.old) }
+    requires rejecting { Hued (table_colours g.now.by) rejecting.old rejected.old listed.rejecting × (listed.rejecting + 16 ≤ length rejecting.old) × (listed.rejecting + 16 ≤ length rejected.old) }
     requires live { (c < length live.old) × (up ≤ c) }
-    ensures listed { (p : Policy) (root used : ℕ) → PartsOf p states letters heads.now out.now into.now by.now → family.now ≡ p.family → used ≡ colours_of p root → c < used → inside c used ≡ true → v ≡ in_family p c → up ≡ upper used c → Live p root c m → inside m (edges_in p c) ≡ true → Listed p by.now root (used - 1 - c) accepting.old accepted.old rejecting.old rejected.old live.old listed → Listed p by.now root (used - result.left) accepting.new accepted.new rejecting.new rejected.new live.new result.counts }
+    ensures listed { (root used : ℕ) → used ≡ colours_of g.now.policy.now root → c < used → inside c used ≡ true → v ≡ in_family g.now.policy.now c → up ≡ upper used c → Live g.now.policy.now root c m → inside m (edges_in g.now.policy.now c) ≡ true → Listed g.now.policy.now g.now.by root (used - 1 - c) accepting.old accepted.old rejecting.old rejected.old live.old listed → Listed g.now.policy.now g.now.by root (used - result.left) accepting.new accepted.new rejecting.new rejected.new live.new result.counts }
     ensures left { result.left ≤ c }
 {
     let a = listed.accepting;
     let b = listed.rejecting;
     if v {
-        let n = list_wanted(
-            states,
-            letters,
-            heads,
-            out,
-            into,
-            by,
+        let n = list_side(
+            g,
+            v,
+            up,
             c,
             m,
             &rejecting[..b],
             &rejected[..b],
             accepting,
             accepted,
+            live,
             a,
         );
-        live[c as usize] = n.edges;
         return Step {
             counts: Counts {
-                accepting: n.count,
+                accepting: n.cycles.count,
                 rejecting: b,
             },
-            left: left_settled(
-                states,
-                letters,
-                heads,
-                out,
-                into,
-                by,
-                family,
-                v,
-                up,
-                c,
-                n.edges,
-                &rejecting[..b],
-                &rejected[..b],
-                &accepting[..n.count],
-            ),
+            left: n.left,
         };
     }
-    let n = list_wanted(
-        states,
-        letters,
-        heads,
-        out,
-        into,
-        by,
+    let n = list_side(
+        g,
+        v,
+        up,
         c,
         m,
         &accepting[..a],
         &accepted[..a],
         rejecting,
         rejected,
+        live,
         b,
     );
-    live[c as usize] = n.edges;
     Step {
         counts: Counts {
             accepting: a,
-            rejecting: n.count,
+            rejecting: n.cycles.count,
         },
-        left: left_settled(
-            states,
-            letters,
-            heads,
-            out,
-            into,
-            by,
-            family,
-            v,
-            up,
-            c,
-            n.edges,
-            &accepting[..a],
-            &accepted[..a],
-            &rejecting[..n.count],
-        ),
+        left: n.left,
     }
 }
 
 // The next set c below the colours `used` of the root. A set that is not open is passed, and its span with it where that can be told; where the span is large its live edges are
 // looked for all the same. Where the live edges lack a colour, the sets with that colour are passed.
 fn list_next(
-    states: usize,
-    letters: usize,
-    heads: &[u8; 64],
-    out: &[u64; 16],
-    into: &[u64; 16],
-    by: &[u64; 9],
-    family: &[bool; 256],
+    g: &Graph<'_>,
     used: u8,
     c: u8,
     accepting: &mut [u64],
@@ -398,14 +345,13 @@ fn list_next(
     live: &mut [u64],
     listed: Counts,
 ) -> Step
-    requires policy { (p : Policy) × PartsOf p states letters heads.now out.now into.now by.now }
-    requires accepting { Hued (table_colours by.now) accepting.old accepted.old listed.accepting × (listed.accepting + 16 ≤ length accepting.old) × (listed.accepting + 16 ≤ length accepted.old) }
-    requires rejecting { Hued (table_colours by.now) rejecting.old rejected.old listed.rejecting × (listed.rejecting + 16 ≤ length rejecting.old) × (listed.rejecting + 16 ≤ length rejected.old) }
+    requires accepting { Hued (table_colours g.now.by) accepting.old accepted.old listed.accepting × (listed.accepting + 16 ≤ length accepting.old) × (listed.accepting + 16 ≤ length accepted.old) }
+    requires rejecting { Hued (table_colours g.now.by) rejecting.old rejected.old listed.rejecting × (listed.rejecting + 16 ≤ length rejecting.old) × (listed.rejecting + 16 ≤ length rejected.old) }
     requires live { (c < used) × (used < length live.old) }
-    ensures listed { (p : Policy) (root : ℕ) → PartsOf p states letters heads.now out.now into.now by.now → family.now ≡ p.family → used ≡ colours_of p root → Listed p by.now root (used - 1 - c) accepting.old accepted.old rejecting.old rejected.old live.old listed → Listed p by.now root (used - result.left) accepting.new accepted.new rejecting.new rejected.new live.new result.counts }
+    ensures listed { (root : ℕ) → used ≡ colours_of g.now.policy.now root → Listed g.now.policy.now g.now.by root (used - 1 - c) accepting.old accepted.old rejecting.old rejected.old live.old listed → Listed g.now.policy.now g.now.by root (used - result.left) accepting.new accepted.new rejecting.new rejected.new live.new result.counts }
     ensures left { result.left ≤ c }
 {
-    if !masks::set_inside(c, used) {
+    if !masks::inside(c, used) {
         return Step {
             counts: listed,
             left: c,
@@ -413,11 +359,11 @@ fn list_next(
     }
     let a = listed.accepting;
     let b = listed.rejecting;
-    let v = family[c as usize];
+    let v = g.policy.family[c as usize];
     let up = looks::upper(used, c);
     let open = looks::is_open_for(v, c, &accepted[..a], &rejected[..b]);
     if !open {
-        if looks::is_passed(by, family, v, up, c, &accepted[..a], &rejected[..b]) {
+        if looks::is_passed(g, v, up, c, &accepted[..a], &rejected[..b]) {
             return Step {
                 counts: listed,
                 left: up,
@@ -430,9 +376,9 @@ fn list_next(
             };
         }
     }
-    let m = looks::edges_of(by, live, used, c);
-    let hue = policy::colours_in(by, m);
-    if !masks::set_inside(up, hue) {
+    let m = looks::edges_of(g, live, used, c);
+    let hue = policy::colours_in(&g.by, m);
+    if !masks::inside(up, hue) {
         return Step {
             counts: listed,
             left: up,
@@ -447,11 +393,10 @@ fn list_next(
     }
     if open {
         return list_set(
-            states, letters, heads, out, into, by, family, v, up, c, m, accepting, accepted,
-            rejecting, rejected, live, listed,
+            g, v, up, c, m, accepting, accepted, rejecting, rejected, live, listed,
         );
     }
-    let edges = edges_on_cycles(states, letters, heads, out, into, m);
+    let edges = edges_on_cycles(g, m);
     live[c as usize] = edges;
     Step {
         counts: listed,
@@ -461,18 +406,15 @@ fn list_next(
 
 // The sets to look at are those below: all sets below the colours `used` of the root, or none where all that cycles can have share its verdict. Few
 // are not looked at.
-fn sets_left(by: &[u64; 9], family: &[bool; 256], used: u8) -> u8
-    ensures { (result ≡ used) ⊎ ((result ≡ 0) × ((s : ℕ) → s < used → inside s used ≡ true → ((s ≡ 0) × (get_or by.now 8 0 ≡ 0)) ⊎ (get_or family.now s false ≡ get_or family.now used false))) }
+fn sets_left(g: &Graph<'_>, used: u8) -> u8
+    ensures { (result ≡ used) ⊎ ((result ≡ 0) × ((s : ℕ) → s < used → inside s used ≡ true → ((s ≡ 0) × (get_or g.now.by 8 0 ≡ 0)) ⊎ (get_or g.now.policy.now.family s false ≡ get_or g.now.policy.now.family used false))) }
 {
     if used < 16 {
         return used;
     }
-    if looks::is_uniform(
-        family,
-        looks::first_from(by, 0),
-        used,
-        family[used as usize],
-    ) {
+    let family = &g.policy.family;
+    let from = looks::first_from(&g.by, 0);
+    if looks::is_uniform(family, from, used, family[used as usize]) {
         return 0;
     }
     used
@@ -482,7 +424,7 @@ fn sets_left(by: &[u64; 9], family: &[bool; 256], used: u8) -> u8
 fn next_left(used: u8, left: u8) -> u8
     ensures { (result ≤ left) × ((x : ℕ) → result ≤ x → x < left → inside x used ≡ false) }
 {
-    if (0 < left) & masks::set_inside(left, used) {
+    if (0 < left) & masks::inside(left, used) {
         return ((left - 1) & used) + 1;
     }
     left
@@ -490,8 +432,7 @@ fn next_left(used: u8, left: u8) -> u8
 
 // The root alone is listed.
 fn begin(
-    by: &[u64; 9],
-    family: &[bool; 256],
+    g: &Graph<'_>,
     root: u64,
     accepting: &mut [u64],
     accepted: &mut [u8],
@@ -499,10 +440,10 @@ fn begin(
     rejected: &mut [u8],
 ) -> Counts
     requires { (0 < length accepting.old) × (0 < length accepted.old) × (0 < length rejecting.old) × (0 < length rejected.old) }
-    ensures { (p : Policy) → legal p ≡ true → by.now ≡ by_colour p → family.now ≡ p.family → (live : List ℕ) → ((d : ℕ) → d < length live → get_or live d 0 ≡ root) → Listed p by.now root 0 accepting.new accepted.new rejecting.new rejected.new live result }
+    ensures { (live : List ℕ) → ((d : ℕ) → d < length live → get_or live d 0 ≡ root) → Listed g.now.policy.now g.now.by root 0 accepting.new accepted.new rejecting.new rejected.new live result }
 {
-    let used = policy::colours_in(by, root);
-    if family[used as usize] {
+    let used = policy::colours_in(&g.by, root);
+    if g.policy.family[used as usize] {
         accepting[0] = root;
         accepted[0] = used;
         return Counts {
@@ -529,13 +470,7 @@ fn lacks_room(accepting: usize, rejecting: usize, listed: Counts) -> bool
 // The candidates of a root, each list by falling masks of their colours and then by their lowest states. Where a list may have no room for the next set, the listing ends before
 // it and is not whole. Places past the masks are undecided.
 fn fill_lists(
-    states: usize,
-    letters: usize,
-    heads: &[u8; 64],
-    out: &[u64; 16],
-    into: &[u64; 16],
-    by: &[u64; 9],
-    family: &[bool; 256],
+    g: &Graph<'_>,
     root: u64,
     accepting: &mut [u64],
     accepted: &mut [u8],
@@ -543,17 +478,14 @@ fn fill_lists(
     rejected: &mut [u8],
     live: &mut [u64],
 ) -> Listing
-    requires policy { (p : Policy) × PartsOf p states letters heads.now out.now into.now by.now × (family.now ≡ p.family) × Memᴰ root (roots p) }
+    requires root { Memᴰ root (roots g.now.policy.now) }
     requires places { (0 < length accepting.old) × (length accepted.old ≡ length accepting.old) × (0 < length rejecting.old) × (length rejected.old ≡ length rejecting.old) }
-    requires live { (table_colours by.now root < length live.old) × ((d : ℕ) → d < length live.old → get_or live.old d 0 ≡ root) }
-    ensures { (p : Policy) → PartsOf p states letters heads.now out.now into.now by.now → family.now ≡ p.family → Memᴰ root (roots p) → Outcome p root accepting.new rejecting.new result.whole result.counts }
+    requires live { (table_colours g.now.by root < length live.old) × ((d : ℕ) → d < length live.old → get_or live.old d 0 ≡ root) }
+    ensures { Outcome g.now.policy.now root accepting.new rejecting.new result.whole result.counts }
 {
-    let table = *by;
-    let used = policy::colours_in(&table, root);
-    let mut listed = begin(
-        &table, family, root, accepting, accepted, rejecting, rejected,
-    );
-    let mut left = sets_left(&table, family, used);
+    let used = policy::colours_in(&g.by, root);
+    let mut listed = begin(g, root, accepting, accepted, rejecting, rejected);
+    let mut left = sets_left(g, used);
     while 0 < left {
         if lacks_room(accepting.len(), rejecting.len(), listed) {
             return Listing {
@@ -562,13 +494,7 @@ fn fill_lists(
             };
         }
         let step = list_next(
-            states,
-            letters,
-            heads,
-            out,
-            into,
-            &table,
-            family,
+            g,
             used,
             left - 1,
             accepting,
@@ -587,35 +513,23 @@ fn fill_lists(
     }
 }
 
-// The same, with space for the live edges of each set of the root's colours. This is an inner layer: its callers lend the parts of a legal policy, and one of its roots.
+// The same, with space for the live edges of each set of the root's colours. This is an inner layer: its callers lend one of the roots.
 pub fn fill_candidates(
-    states: usize,
-    letters: usize,
-    heads: &[u8; 64],
-    out: &[u64; 16],
-    into: &[u64; 16],
-    by: &[u64; 9],
-    family: &[bool; 256],
+    g: &Graph<'_>,
     root: u64,
     accepting: &mut [u64],
     accepted: &mut [u8],
     rejecting: &mut [u64],
     rejected: &mut [u8],
 ) -> Listing
-    requires policy { (p : Policy) × PartsOf p states letters heads.now out.now into.now by.now × (family.now ≡ p.family) × Memᴰ root (roots p) }
+    requires root { Memᴰ root (roots g.now.policy.now) }
     requires places { (0 < length accepting.old) × (length accepted.old ≡ length accepting.old) × (0 < length rejecting.old) × (length rejected.old ≡ length rejecting.old) }
-    ensures { (p : Policy) → PartsOf p states letters heads.now out.now into.now by.now → family.now ≡ p.family → Memᴰ root (roots p) → Outcome p root accepting.new rejecting.new result.whole result.counts }
+    ensures { Outcome g.now.policy.now root accepting.new rejecting.new result.whole result.counts }
 {
-    if policy::colours_in(by, root) < 16 {
+    if policy::colours_in(&g.by, root) < 16 {
         let mut live = [root; 16];
-        return fill_lists(
-            states, letters, heads, out, into, by, family, root, accepting, accepted, rejecting,
-            rejected, &mut live,
-        );
+        return fill_lists(g, root, accepting, accepted, rejecting, rejected, &mut live);
     }
     let mut live = [root; 256];
-    fill_lists(
-        states, letters, heads, out, into, by, family, root, accepting, accepted, rejecting,
-        rejected, &mut live,
-    )
+    fill_lists(g, root, accepting, accepted, rejecting, rejected, &mut live)
 }

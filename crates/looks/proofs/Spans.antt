@@ -5,14 +5,13 @@ use native.Mathlib.Decide.{ℕ_discrete, dec_lt}
 use native.Mathlib.Nat.{mod-lt, div-add-mod', add-mod-mod, add-zero}
 use mathlib.Core.Path.{◌≡◌, refl, sym, ap, ◌∙◌, subst}
 use mathlib.Core.Logic.{◌⊎◌, inl, inr}
-use mathlib.Core.Bool.{Bool, true, false, not, ◌&&◌, ◌||◌, cond, true≢false, false≢true}
+use mathlib.Core.Bool.{Bool, true, false, not, ◌&&◌, ◌||◌, cond, true≢false, false≢true, beq}
 use mathlib.Core.List.{List}
 use lib.Arith.{digits_div, digits_mod}
 use lib.Bits.{bit_and}
 use lib.Dec.{eqb}
 use lib.ListN.{get_or}
 use lib.Pow.{shr-shr, pow_pos}
-use Rattle.lists.specs.Bools.{differs}
 use Rattle.lists.specs.Lists.{any, all, below}
 use Rattle.lists.proofs.Bools.{eqb≡, and_l, and_r, or_cases, or_left}
 use Rattle.lists.proofs.Lists.{any_some, all-each, mem_below, below-lt}
@@ -131,25 +130,22 @@ coloured u c i {b} {r} e k q = go b e q
         more d (inr t) = ap (has u) (sym (eqb≡ i d t)) ∙ sym e
 
 -- ---- all have one verdict, and the next one
-pub uniform-next : (family : List Bool) (from s c : ℕ) (v : Bool) {same d i : Bool} → d ≡ differs (get_or family s false) v → i ≡ inside s c
+pub uniform-next : (family : List Bool) (from s c : ℕ) (v : Bool) {same i : Bool} → i ≡ inside s c
     → (same ≡ true → (x : ℕ) → from ≤ x → x < s → inside x c ≡ true → get_or family x false ≡ v)
-    → same && (not d || not i) ≡ true → (x : ℕ) → from ≤ x → x < s + 1 → inside x c ≡ true → get_or family x false ≡ v
-uniform-next family from s c v {same} {d} {i} ed ei before t x a b k = go (ℕ_discrete x s)
+    → same && (beq (get_or family s false) v || not i) ≡ true → (x : ℕ) → from ≤ x → x < s + 1 → inside x c ≡ true → get_or family x false ≡ v
+uniform-next family from s c v {same} {i} ei before t x a b k = go (ℕ_discrete x s)
   where
-    equal : (y z : Bool) → differs y z ≡ false → y ≡ z
-    equal true true e = refl
-    equal true false e = absurd (true≢false e)
-    equal false true e = absurd (true≢false e)
-    equal false false e = refl
-
-    here : (d i : Bool) → not d || not i ≡ true → i ≡ true → d ≡ false
-    here false i e q = refl
-    here true true e q = absurd (false≢true e)
-    here true false e q = absurd (false≢true q)
+    equal : (y z i : Bool) → beq y z || not i ≡ true → i ≡ true → y ≡ z
+    equal true true i e q = refl
+    equal true false true e q = absurd (false≢true e)
+    equal true false false e q = absurd (false≢true q)
+    equal false true true e q = absurd (false≢true e)
+    equal false true false e q = absurd (false≢true q)
+    equal false false i e q = refl
 
     go : Dec (x ≡ s) → get_or family x false ≡ v
-    go (yes e) = ap (λ (y : ℕ). get_or family y false) e ∙ equal (get_or family s false) v (sym ed ∙ here d i (and_r same (not d || not i) t) (ei ∙ ap (λ (y : ℕ). inside y c) (sym e) ∙ k))
-    go (no e) = before (and_l same (not d || not i) t) x a (omega arith) k
+    go (yes e) = ap (λ (y : ℕ). get_or family y false) e ∙ equal (get_or family s false) v i (and_r same (beq (get_or family s false) v || not i) t) (ei ∙ ap (λ (y : ℕ). inside y c) (sym e) ∙ k)
+    go (no e) = before (and_l same (beq (get_or family s false) v || not i) t) x a (omega arith) k
 
 -- ---- what is passed of a span
 pub span-passed : (family : List Bool) (quiet up first s c : ℕ) (v : Bool) (hues : List ℕ) (k : ℕ) → (up ≤ first) × (up < first → (up ≡ 0) × (first ≡ 1) × (quiet ≡ 0))

@@ -4,22 +4,23 @@
 
 ghost use Rattle.std.specs.Prelude.{◌≡◌, ◌⊎◌, true, false, cond, ℕ, ◌≤◌, ◌<◌, length, get_or};
 ghost use mathlib.Core.List.{Memᴰ};
-ghost use Rattle.lists.specs.Bools.{differs};
 ghost use Rattle.lists.specs.Lists.{any};
 ghost use Rattle.masks.specs.Masks.{inside};
 ghost use Rattle.policy.specs.declared.Policy.{Policy};
 ghost use Rattle.policy.specs.Policies.{legal};
-ghost use Rattle.policy.specs.ByColour.{by_colour, edges_in, table_colours};
+ghost use Rattle.policy.specs.ByColour.{edges_in, table_colours};
 ghost use Rattle.candidates.specs.Candidates.{covers, may_hold, are_long, wanted, is_open, Live};
 ghost use Rattle.looks.specs.Spans.{lowest, upper};
+
+use graph::Graph;
 
 // ---- what is wanted
 // Whether e lies inside a mask of the list that itself lies inside y.
 fn is_covered(same: &[u64], e: u64, y: u64) -> bool
     ensures { result ≡ any (covers e y) same.now }
 {
-    for i in 0..same.len() {
-        if masks::inside(e, same[i]) & masks::inside(same[i], y) {
+    for &k in same {
+        if masks::inside(e, k) & masks::inside(k, y) {
             return true;
         }
     }
@@ -31,7 +32,7 @@ fn may_hold(c: u8, m: u64, same: &[u64], h: u8, y: u64) -> bool
     ensures { result ≡ may_hold c m same.now h y }
 {
     let e = masks::both(m, y);
-    if masks::set_inside(c, h) & (e != 0) {
+    if masks::inside(c, h) & (e != 0) {
         return !is_covered(same, e, y);
     }
     false
@@ -68,8 +69,8 @@ fn is_open(c: u8, hues: &[u8], same: usize) -> bool
     if are_long(hues.len(), same) {
         return true;
     }
-    for i in 0..hues.len() {
-        if masks::set_inside(c, hues[i]) {
+    for &hue in hues {
+        if masks::inside(c, hue) {
             return true;
         }
     }
@@ -92,7 +93,7 @@ fn with_colour(used: u8, c: u8, i: u8) -> u8
     requires { (i < 8) × (inside c used ≡ true) }
     ensures { (inside c result ≡ true) × (inside result used ≡ true) }
 {
-    masks::set_with_if(c, i, masks::set_has(used, i))
+    masks::with_if(c, i as usize, masks::has(used, i as usize))
 }
 
 // The live edges that the set c and those with one colour more have in common. Which edges these are is undecided; they are live for c.
@@ -108,11 +109,11 @@ fn live_in(live: &[u64], used: u8, c: u8) -> u64
 }
 
 // Those of them with colours in c; as undecided, and live for c.
-pub fn edges_of(by: &[u64; 9], live: &[u64], used: u8, c: u8) -> u64
+pub fn edges_of(g: &Graph<'_>, live: &[u64], used: u8, c: u8) -> u64
     requires { (inside c used ≡ true) × (used < length live.now) }
-    ensures { (p : Policy) (root : ℕ) → legal p ≡ true → by.now ≡ by_colour p → ((d : ℕ) → d < length live.now → Live p root d (get_or live.now d 0)) → Live p root c result × (inside result (edges_in p c) ≡ true) }
+    ensures { (root : ℕ) → ((d : ℕ) → d < length live.now → Live g.now.policy.now root d (get_or live.now d 0)) → Live g.now.policy.now root c result × (inside result (edges_in g.now.policy.now c) ≡ true) }
 {
-    masks::both(policy::edges_in(by, c), live_in(live, used, c))
+    masks::both(policy::edges_in(&g.by, c), live_in(live, used, c))
 }
 
 // ---- the span of a set
@@ -133,23 +134,13 @@ pub fn upper(used: u8, c: u8) -> u8
     c & (255 - lowest(used, c) + 1)
 }
 
-// Whether two verdicts are not the same.
-fn differs(a: bool, b: bool) -> bool
-    ensures { result ≡ differs a b }
-{
-    if a {
-        return !b;
-    }
-    b
-}
-
 // If yes, all sets inside c, from one on, have the verdict v; no is undecided. Without a branch, so that many are looked at together.
 pub fn is_uniform(family: &[bool; 256], from: u8, c: u8, v: bool) -> bool
     ensures { result ≡ true → (s : ℕ) → from ≤ s → s < c → inside s c ≡ true → get_or family.now s false ≡ v }
 {
     let mut same = true;
     for s in from..c {
-        same = same & (!differs(family[s as usize], v) | !masks::set_inside(s, c));
+        same = same & ((family[s as usize] == v) | !masks::inside(s, c));
     }
     same
 }
@@ -166,17 +157,9 @@ pub fn first_from(by: &[u64; 9], up: u8) -> u8
 
 // If yes, nothing is listed at any set from `up` up to c, where c has the verdict v: they have this verdict and nothing is open for them, or no cycle has their colours. No is
 // undecided; few sets are not looked at.
-pub fn is_passed(
-    by: &[u64; 9],
-    family: &[bool; 256],
-    v: bool,
-    up: u8,
-    c: u8,
-    accepted: &[u8],
-    rejected: &[u8],
-) -> bool
+pub fn is_passed(g: &Graph<'_>, v: bool, up: u8, c: u8, accepted: &[u8], rejected: &[u8]) -> bool
     requires { up ≤ c }
-    ensures { result ≡ true → (s : ℕ) → up ≤ s → s < c → inside up s ≡ true → inside s c ≡ true → ((s ≡ 0) × (get_or by.now 8 0 ≡ 0)) ⊎ ((get_or family.now s false ≡ v) × (is_open s (cond v rejected.now accepted.now) (length (cond v accepted.now rejected.now)) ≡ false)) }
+    ensures { result ≡ true → (s : ℕ) → up ≤ s → s < c → inside up s ≡ true → inside s c ≡ true → ((s ≡ 0) × (get_or g.now.by 8 0 ≡ 0)) ⊎ ((get_or g.now.policy.now.family s false ≡ v) × (is_open s (cond v rejected.now accepted.now) (length (cond v accepted.now rejected.now)) ≡ false)) }
 {
     if c - up < 3 {
         return false;
@@ -184,7 +167,7 @@ pub fn is_passed(
     if is_open_for(v, up, accepted, rejected) {
         return false;
     }
-    is_uniform(family, first_from(by, up), c, v)
+    is_uniform(&g.policy.family, first_from(&g.by, up), c, v)
 }
 
 // ---- what a search settles of it
@@ -192,8 +175,8 @@ pub fn is_passed(
 pub fn are_above(up: u8, c: u8, hues: &[u8]) -> bool
     ensures { result ≡ true → (h : ℕ) → Memᴰ h hues.now → inside up h ≡ true → inside c h ≡ true }
 {
-    for i in 0..hues.len() {
-        if masks::set_inside(up, hues[i]) & !masks::set_inside(c, hues[i]) {
+    for &hue in hues {
+        if masks::inside(up, hue) & !masks::inside(c, hue) {
             return false;
         }
     }
@@ -226,23 +209,22 @@ fn past_wanted(
     left
 }
 
-// The same for the first n cycles in turn.
+// The same for some cycles in turn.
 pub fn past_all(
     by: &[u64; 9],
-    cycles: &[u64; 16],
-    n: usize,
+    cycles: &[u64],
     other: &[u64],
     hues: &[u8],
     same: &[u64],
     up: u8,
     c: u8,
 ) -> u8
-    requires { (n ≤ 16) × (length cycles.now ≡ 16) × (length other.now ≤ length hues.now) × (up ≤ c) }
-    ensures { (up ≤ result) × (result ≤ c) × (result < c → (i : ℕ) → i < n → (table_colours by.now (get_or cycles.now i 0) < result) ⊎ (wanted (table_colours by.now (get_or cycles.now i 0)) (get_or cycles.now i 0) other.now hues.now same.now ≡ false)) }
+    requires { (length other.now ≤ length hues.now) × (up ≤ c) }
+    ensures { (up ≤ result) × (result ≤ c) × (result < c → (i : ℕ) → i < length cycles.now → (table_colours by.now (get_or cycles.now i 0) < result) ⊎ (wanted (table_colours by.now (get_or cycles.now i 0)) (get_or cycles.now i 0) other.now hues.now same.now ≡ false)) }
 {
     let mut left = up;
-    for i in 0..n {
-        left = past_wanted(by, cycles[i], other, hues, same, left, c);
+    for &x in cycles {
+        left = past_wanted(by, x, other, hues, same, left, c);
     }
     left
 }

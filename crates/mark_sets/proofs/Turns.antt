@@ -1,39 +1,54 @@
 -- The loops that number mark sets: a search among those so far, and one edge more, whose mark set is new, a ninth, or one of those so far. Assumes nothing.
-use Prim.Native.Nat.{ℕ, suc, ◌+◌, ◌-◌, ◌≤◌, ◌<◌, min}
+use Prim.Native.Nat.{ℕ, suc, ◌+◌, ◌-◌, ◌≤◌, ◌<◌}
 use native.Mathlib.Omega.{arith}
-use native.Mathlib.Numerals.{add-one}
 use mathlib.Core.Path.{◌≡◌, refl, sym, ap, ap₂, ◌∙◌, subst}
 use mathlib.Core.Logic.{◌⊎◌, inl, inr, ◌≢◌}
-use mathlib.Core.Bool.{false}
+use mathlib.Core.Bool.{Bool, true, false, not, cond}
 use mathlib.Core.List.{List, [], ◌∷◌, ◌++◌, map, map-append, append_assoc, Memᴰ}
-use lib.Dec.{eqb}
+use lib.Dec.{eqb, ltb}
 use lib.ListN.{length, get_or, set, take, drop, replicate, length-append, length-map}
-use lib.Seq.{take-suc, take-take, take-add, take_at, set_at, split_at, get_or-take, length-take-le}
+use lib.Seq.{take_at, set_at, split_at, length-take-le}
+use Rattle.std.specs.Prelude.{Some, None}
+use Rattle.std.specs.List as std
+use Rattle.std.proofs.lemmas.List.Recursion.{is_position_or_len}
+use Rattle.std.proofs.lemmas.List.Sums.{prefix_len-le-length}
 use Rattle.lists.specs.Lists.{any, position}
-use Rattle.lists.proofs.Bools.{≡eqb, neqb}
+use Rattle.lists.proofs.Bools.{test, eqb≡, ≡eqb, bool-ext, lt-true, lt-false}
 use Rattle.lists.proofs.Lists.{map_same}
 use Rattle.mark_sets.specs.declared.Colouring.{Colouring}
 use Rattle.mark_sets.specs.MarkSets.{firsts, colour_in, Coloured}
 use Rattle.mark_sets.proofs.Firsts.{position-missed, met, firsts-old, firsts-new, firsts-grow, colour-below, colour-kept, colour-none}
 
--- ---- the search for a mark set: x does not stand among the first i
-pub place-passed : (l : List ℕ) (x i : ℕ) → i < length l → get_or l i 0 ≢ x → position (eqb x) (take i l) ≡ i → position (eqb x) (take (i + 1) l) ≡ i + 1
-place-passed l x i h n e =
-    let long : length (take i l) ≡ i = length-take-le i l (omega arith) in
-    ap (λ (k : ℕ). position (eqb x) (take k l)) (add-one i)
-    ∙ ap (position (eqb x)) (take-suc l i 0 h)
-    ∙ position-missed (eqb x) (take i l) (get_or l i 0 ∷ []) (e ∙ sym long)
-    ∙ rw (neqb x (get_or l i 0) (λ k. n (sym k))) (omega (arith, long))
+-- ---- the search for a mark set: what std finds
+place-is : (l : List ℕ) (x : ℕ) → position (eqb x) l ≡ std.position_or_len (λ y. eqb y x) l
+place-is l x = is_position_or_len (position (eqb x)) (λ (y : ℕ). eqb y x) refl (λ y ys. ap (λ (b : Bool). cond b 0 (suc (position (eqb x) ys))) (turned y) ∙ one (eqb y x) (position (eqb x) ys)) l
+  where
+    turned : (y : ℕ) → eqb x y ≡ eqb y x
+    turned y = bool-ext (eqb x y) (eqb y x) (λ t. ≡eqb y x (sym (eqb≡ x y t))) (λ t. ≡eqb x y (sym (eqb≡ y x t)))
 
-pub place_here : (l : List ℕ) (x n i : ℕ) → i < n → n ≤ length l → get_or l i 0 ≡ x → position (eqb x) (take i l) ≡ i → i ≡ position (eqb x) (take n l)
-place_here l x n i h g k e =
-    let few : length (take n l) ≡ n = length-take-le n l g in
-    let long : length (take i l) ≡ i = length-take-le i l (omega arith) in
-    let rest = drop (suc i) (take n l) in
-    sym
-    (ap (position (eqb x)) (split_at (take n l) i 0 (omega arith) ∙ ap₂ (λ (a : List ℕ) (y : ℕ). a ++ y ∷ rest) (take-take i n l (omega arith)) (get_or-take n l i 0 h ∙ k))
-    ∙ position-missed (eqb x) (take i l) (x ∷ rest) (e ∙ sym long)
-    ∙ rw (≡eqb x x refl) (omega (arith, long)))
+    one : (b : Bool) (n : ℕ) → cond b 0 (suc n) ≡ cond b 0 (1 + n)
+    one true n = refl
+    one false n = omega arith
+
+place-found : (l : List ℕ) (x c : ℕ) → std.position (λ y. eqb y x) l ≡ Some c → (c < length l) × (c ≡ position (eqb x) l)
+place-found l x c e = go (test (ltb k (length l)))
+  where
+    k : ℕ
+    k = std.position_or_len (λ y. eqb y x) l
+
+    go : (ltb k (length l) ≡ true) ⊎ (ltb k (length l) ≡ false) → (c < length l) × (c ≡ position (eqb x) l)
+    go (inl t) = let f : Some c ≡ Some k = sym e ∙ rw t refl in let g : c ≡ k = cc in (omega (arith, g, lt-true k (length l) t), g ∙ sym (place-is l x))
+    go (inr t) = let f : Some c ≡ None = sym e ∙ rw t refl in absurd (cc)
+
+place-none : (l : List ℕ) (x : ℕ) → std.position (λ y. eqb y x) l ≡ None → length l ≡ position (eqb x) l
+place-none l x e = go (test (ltb k (length l)))
+  where
+    k : ℕ
+    k = std.position_or_len (λ y. eqb y x) l
+
+    go : (ltb k (length l) ≡ true) ⊎ (ltb k (length l) ≡ false) → length l ≡ position (eqb x) l
+    go (inl t) = let f : None ≡ Some k = sym e ∙ rw t refl in absurd (cc)
+    go (inr t) = omega (arith, place-is l x, lt-false k (length l) t, prefix_len-le-length (λ (y : ℕ). not (eqb y x)) l)
 
 -- ---- one number more in a list that is filled with 0
 filled_more : (l : List ℕ) (x n k : ℕ) → length l ≡ k → k < n → set (l ++ replicate (n - k) 0) k x ≡ (l ++ (x ∷ [])) ++ replicate (n - (k + 1)) 0
@@ -44,18 +59,12 @@ filled_more l x n k long h =
 -- ---- one edge more, whose mark set is x
 pub coloured-none : Coloured [] (record { colour = replicate 64 0; sets = replicate 8 0; count = 0 })
 unfolding firsts
-coloured-none = record { count_is = refl; colours_are = λ h. refl; sets_are = λ h. refl }
+coloured-none = record { few = omega arith; count_is = refl; colours_are = refl; sets_are = refl }
 
-module _ (l : List ℕ) (s : Colouring) (x c : ℕ) (is : Coloured l s) (few : s.count ≤ 8) (at : c ≡ position (eqb x) (take s.count s.sets)) (e : ℕ) (long : length l ≡ e) (fits : e < 64) where
-  counted : s.count ≡ length (firsts l)
-  counted = omega (arith, is.count_is)
-
-  few_sets : length (firsts l) ≤ 8
-  few_sets = omega (arith, counted)
-
+module _ (l : List ℕ) (s : Colouring) (x c : ℕ) (is : Coloured l s) (at : c ≡ position (eqb x) (take s.count s.sets)) (e : ℕ) (long : length l ≡ e) (fits : e < 64) where
   is-colour : c ≡ colour_in l x
   unfolding colour_in
-  is-colour = at ∙ ap (position (eqb x)) (ap (take s.count) (is.sets_are few_sets) ∙ take_at (firsts l) (replicate (8 - length (firsts l)) 0) s.count (sym counted))
+  is-colour = at ∙ ap (position (eqb x)) (ap (take s.count) is.sets_are ∙ take_at (firsts l) (replicate (8 - length (firsts l)) 0) s.count (sym is.count_is))
 
   -- the colours of the edges before, and of this one
   colours : map (colour_in (l ++ (x ∷ []))) (l ++ (x ∷ [])) ≡ map (colour_in l) l ++ (colour_in (l ++ (x ∷ [])) x ∷ [])
@@ -65,7 +74,7 @@ module _ (l : List ℕ) (s : Colouring) (x c : ℕ) (is : Coloured l s) (few : s
 
   stored : colour_in (l ++ (x ∷ [])) x ≡ c → set s.colour e c ≡ map (colour_in (l ++ (x ∷ []))) (l ++ (x ∷ [])) ++ replicate (64 - length (l ++ (x ∷ []))) 0
   stored k =
-      ap₂ (λ (a : List ℕ) (i : ℕ). set a i c) (is.colours_are few_sets) (sym long)
+      ap₂ (λ (a : List ℕ) (i : ℕ). set a i c) is.colours_are (sym long)
       ∙ filled_more (map (colour_in l) l) c 64 (length l) (length-map l (colour_in l)) (omega (arith, long))
       ∙ ap₂ (λ (a : List ℕ) (n : ℕ). a ++ replicate (64 - n) 0) (sym (colours ∙ ap (λ (y : ℕ). map (colour_in l) l ++ (y ∷ [])) k)) (sym (length-append l (x ∷ [])))
 
@@ -90,48 +99,63 @@ module _ (l : List ℕ) (s : Colouring) (x c : ℕ) (is : Coloured l s) (few : s
   length_more : c ≡ length (firsts l) → length (firsts (l ++ (x ∷ []))) ≡ length (firsts l) + 1
   length_more k = ap length (one_more k) ∙ length-append (firsts l) (x ∷ [])
 
-  pub coloured-old : c ≢ s.count → Coloured (l ++ (x ∷ [])) (record { colour = set s.colour e c; sets = s.sets; count = s.count })
-  coloured-old n =
-      let m = found (λ k. n (k ∙ sym counted)) in
+  colours-old : c ≢ s.count → Coloured (l ++ (x ∷ [])) (record { colour = set s.colour e c; sets = s.sets; count = s.count })
+  colours-old n =
+      let m = found (λ k. n (k ∙ sym is.count_is)) in
       let same = sym (firsts-old l x m) in
       record {
-        count_is = is.count_is ∙ ap (λ (a : List ℕ). min (length a) 9) same;
-        colours_are = λ h. stored (colour-kept l (x ∷ []) x m ∙ sym is-colour);
-        sets_are = λ h. is.sets_are few_sets ∙ ap (λ (a : List ℕ). a ++ replicate (8 - length a) 0) same;
+        few = subst (λ (a : List ℕ). length a ≤ 8) same is.few;
+        count_is = is.count_is ∙ ap length same;
+        colours_are = stored (colour-kept l (x ∷ []) x m ∙ sym is-colour);
+        sets_are = is.sets_are ∙ ap (λ (a : List ℕ). a ++ replicate (8 - length a) 0) same;
       }
 
-  pub coloured-new : c ≡ s.count → c ≢ 8 → Coloured (l ++ (x ∷ [])) (record { colour = set s.colour e c; sets = set s.sets c x; count = s.count + 1 })
+  colours-new : c ≡ s.count → c ≢ 8 → Coloured (l ++ (x ∷ [])) (record { colour = set s.colour e c; sets = set s.sets c x; count = s.count + 1 })
   unfolding colour_in
-  coloured-new last n =
-      let k : c ≡ length (firsts l) = last ∙ counted in
+  colours-new last n =
+      let k : c ≡ length (firsts l) = last ∙ is.count_is in
       let more = one_more k in
       record {
-        count_is = omega (arith, length_more k, counted);
-        colours_are = λ h.
+        few = omega (arith, length_more k, is.few, k, n);
+        count_is = omega (arith, length_more k, is.count_is);
+        colours_are =
             stored
             (ap (position (eqb x)) more ∙ position-missed (eqb x) (firsts l) (x ∷ []) (sym is-colour ∙ k) ∙ rw (≡eqb x x refl) (omega (arith, k)));
-        sets_are = λ h.
-            ap₂ (λ (a : List ℕ) (n : ℕ). set a n x) (is.sets_are few_sets) k
-            ∙ filled_more (firsts l) x 8 (length (firsts l)) refl (omega (arith, k))
+        sets_are =
+            ap₂ (λ (a : List ℕ) (n : ℕ). set a n x) is.sets_are k
+            ∙ filled_more (firsts l) x 8 (length (firsts l)) refl (omega (arith, k, is.few, n))
             ∙ ap₂ (λ (a : List ℕ) (n : ℕ). a ++ replicate (8 - n) 0) (sym more) (sym (length_more k));
       }
 
-  pub coloured-ninth : (r : Colouring) → c ≡ s.count → c ≡ 8 → r.count ≡ 9 → Coloured (l ++ (x ∷ [])) r
-  coloured-ninth r last n nine =
-      let many : length (firsts (l ++ (x ∷ []))) ≡ 9 = omega (arith, length_more (last ∙ counted), counted) in
-      record { count_is = omega (arith, nine, many); colours_are = λ h. absurd (omega (arith, many)); sets_are = λ h. absurd (omega (arith, many)) }
+  ninth : c ≡ s.count → c ≡ 8 → 8 < length (firsts (l ++ (x ∷ [])))
+  ninth last n = let k : c ≡ length (firsts l) = last ∙ is.count_is in omega (arith, length_more k, n, k)
 
--- ---- the edges in their order
-pub coloured-turn : (marks : List ℕ) (e : ℕ) (s r : Colouring) → e < length marks → ((l : List ℕ) → length l ≡ e → Coloured l s → Coloured (l ++ (get_or marks e 0 ∷ [])) r)
-    → Coloured (take e marks) s → Coloured (take (e + 1) marks) r
-coloured-turn marks e s r h more is =
-    subst (λ (l : List ℕ). Coloured l r) (sym (ap (λ (k : ℕ). take k marks) (add-one e) ∙ take-suc marks e 0 h)) (more (take e marks) (length-take-le e marks (omega arith)) is)
+-- the same by what std finds among the mark sets so far
+module _ (l : List ℕ) (s : Colouring) (x : ℕ) (is : Coloured l s) (n : ℕ) (counted : n ≡ s.count) (e : ℕ) (long : length l ≡ e) (fits : e < 64) where
+  few-sets : length (take n s.sets) ≡ n
+  few-sets =
+      length-take-le n s.sets
+      (omega (arith, counted, is.count_is, ap length is.sets_are, length-append (firsts l) (replicate (8 - length (firsts l)) 0)))
 
--- a ninth mark set is too many whatever follows
-pub coloured-many : (marks : List ℕ) (e n : ℕ) (r : Colouring) → e ≤ n → 8 < r.count → Coloured (take e marks) r → Coloured (take n marks) r
-coloured-many marks e n r h k is =
-    let rest = take (n - e) (drop e marks) in
-    let all : e + (n - e) ≡ n = omega arith in
-    let whole : take e marks ++ rest ≡ take n marks = sym (take-add e (n - e) marks) ∙ ap (λ (i : ℕ). take i marks) all in
-    let many : 9 ≤ length (firsts (take n marks)) = omega (arith, is.count_is, firsts-grow (take e marks) rest, ap (λ (l : List ℕ). length (firsts l)) whole) in
-    record { count_is = omega (arith, is.count_is, many); colours_are = λ h. absurd (omega (arith, many)); sets_are = λ h. absurd (omega (arith, many)) }
+  not-found : std.position (λ y. eqb y x) (take n s.sets) ≡ None → n ≡ position (eqb x) (take s.count s.sets)
+  not-found h = sym few-sets ∙ place-none (take n s.sets) x h ∙ ap (λ (k : ℕ). position (eqb x) (take k s.sets)) counted
+
+  pub coloured-old : (c : ℕ) → std.position (λ y. eqb y x) (take n s.sets) ≡ Some c → Coloured (l ++ (x ∷ [])) (record { colour = set s.colour e c; sets = s.sets; count = s.count })
+  coloured-old c h =
+      let f = place-found (take n s.sets) x c h in
+      colours-old l s x c is (f.1 ∙ ap (λ (k : ℕ). position (eqb x) (take k s.sets)) counted) e long fits (omega (arith, f.0, few-sets, counted))
+
+  pub coloured-new : std.position (λ y. eqb y x) (take n s.sets) ≡ None → n ≢ 8 → Coloured (l ++ (x ∷ [])) (record { colour = set s.colour e n; sets = set s.sets n x; count = s.count + 1 })
+  coloured-new h = colours-new l s x n is (not-found h) e long fits counted
+
+  pub coloured-ninth : std.position (λ y. eqb y x) (take n s.sets) ≡ None → n ≡ 8 → 8 < length (firsts (l ++ (x ∷ [])))
+  coloured-ninth h = ninth l s x n is (not-found h) e long fits counted
+
+-- ---- a ninth mark set is too many whatever follows
+pub coloured-many : (marks : List ℕ) (e : ℕ) (s : Colouring) → e < length marks → ((l : List ℕ) → length l ≡ e → Coloured l s → 8 < length (firsts (l ++ (get_or marks e 0 ∷ [])))) → Coloured (take e marks) s
+    → 8 < length (firsts marks)
+coloured-many marks e s h more is =
+    let l = take e marks in
+    let rest = drop (suc e) marks in
+    let whole : marks ≡ (l ++ (get_or marks e 0 ∷ [])) ++ rest = split_at marks e 0 h ∙ sym (append_assoc l (get_or marks e 0 ∷ []) rest) in
+    omega (arith, more l (length-take-le e marks (omega arith)) is, firsts-grow (l ++ (get_or marks e 0 ∷ [])) rest, ap (λ (m : List ℕ). length (firsts m)) whole)

@@ -1,16 +1,17 @@
 -- The laws of `has`: of and, or, difference, one bit, inclusion, the full set; two masks with the same bits are equal; counts; a shifted 1. Assumes nothing.
 use Prim.Native.Nat.{ℕ, zero, suc, ◌+◌, ◌*◌, ◌-◌, ◌/◌, ◌%◌, ◌^◌, ◌≤◌, ◌<◌, min, max}
-use native.Mathlib.Nat.{one-mul, pow-suc, mod-lt, div-add-mod', div-one, add_comm}
+use native.Mathlib.Nat.{one-mul, zero-mul, pow-suc, mod-lt, div-add-mod', div-one, add_comm}
 use native.Mathlib.Omega.{arith}
 use native.Mathlib.Decide.{dec_lt}
 use native.Mathlib.Numerals.{add-one}
 use mathlib.Core.Path.{◌≡◌, refl, sym, ap, ◌∙◌, subst}
 use mathlib.Core.Logic.{◌⊎◌, inl, inr}
-use mathlib.Core.Bool.{Bool, true, false, not, ◌&&◌, ◌||◌, true≢false, false≢true}
+use mathlib.Core.Bool.{Bool, true, false, not, ◌&&◌, ◌||◌, cond, true≢false, false≢true}
 use lib.Dec.{eqb, lit<}
 use lib.Arith.{digits_mod}
 use lib.Pow.{shr-shr, shl_exact, pow_pos, pow-lt, field, mod-mod-pow}
-use lib.Bits.{bit_and, bit_or, bit_xor, and_step, or_step, and_shr, or_shr, or_lt, xor_shr, xor_mod}
+use lib.Bits.{bit_and, bit_or, bit_xor, and_step, or_step, and_shr, or_shr, or_lt, or_zero_r, xor_shr, xor_mod}
+use mir.Val.{bool_byte}
 use lib.Count.{ones, ones_step}
 use Rattle.lists.proofs.Bools.{test, eqb≡, ≡eqb, and_l, and_r, not-true, bool-ext, and-absorb}
 use Rattle.lists.specs.Bools.{differs}
@@ -244,3 +245,16 @@ has-full (suc n) (suc e) h = has-suc (2 ^ suc n - 1) e ∙ ap (λ (x : ℕ). has
 -- `1 << e` in a word of n bits
 pub shl_one : (n e : ℕ) → e < n → 1 * 2 ^ e % 2 ^ n ≡ 2 ^ e
 shl_one n e h = shl_exact 1 e n (lit< tt) (omega arith) ∙ one-mul (2 ^ e)
+
+-- a bit set, always or where a flag holds
+pub with-bit : {x m : ℕ} (e : ℕ) → x ≡ m → e < 64 → bit_or x (1 * 2 ^ e % 2 ^ 64) ≡ insert m e
+unfolding insert
+with-bit {x} {m} e k h = ap (bit_or x) (shl_one 64 e h) ∙ ap (λ (y : ℕ). bit_or y (2 ^ e)) k
+
+pub with-bit-if : {x m : ℕ} (e : ℕ) (b : Bool) → x ≡ m → e < 64 → bit_or x (bool_byte b * 2 ^ e % 2 ^ 64) ≡ cond b (insert m e) m
+with-bit-if e true k h = with-bit e k h
+with-bit-if {x} {m} e false k h = ap (λ (y : ℕ). bit_or x (y % 2 ^ 64)) (zero-mul (2 ^ e)) ∙ or_zero_r x ∙ k
+
+pub insert-if-lt : (m e n : ℕ) (b : Bool) → m < 2 ^ n → e < n → cond b (insert m e) m < 2 ^ n
+insert-if-lt m e n true h l = insert-lt m e n h l
+insert-if-lt m e n false h l = h

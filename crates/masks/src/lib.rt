@@ -2,31 +2,80 @@
 #![tactic(auto)]
 
 ghost use Rattle.std.specs.Prelude.{ℕ, ◌≡◌, ◌≢◌, true, false, cond, ◌-◌, ◌<◌, ◌≤◌, ◌^◌};
+ghost use Rattle.std.proofs.Common.{rules};
 ghost use Rattle.std.specs.Int.Bits.{bit_and, bit_or};
 ghost use Rattle.masks.specs.Masks.{has, insert, minus, inside, properly};
 
-// Whether m has edge e.
-pub fn has(m: u64, e: usize) -> bool
-    requires { e < 64 }
-    ensures { result ≡ has m e }
-{
-    (m >> e) % 2 == 1
+// A set as a number of `width` bits.
+pub trait Mask: Copy {
+    ghost width: { ℕ };
+
+    ghost number: { Self → ℕ };
+
+    fn wide(self) -> u64
+        ensures { (result ≡ number self) × (number self < 2 ^ width) };
+
+    fn narrow(m: u64) -> Self
+        requires { m < 2 ^ width }
+        ensures { number result ≡ m };
+
+    ghost width_fits: { width ≤ 64 };
 }
 
-// m with edge e.
-pub fn with(m: u64, e: usize) -> u64
-    requires { e < 64 }
-    ensures { result ≡ insert m e }
-{
-    m | (1 << e)
+impl Mask for u64 {
+    ghost width = { 64 };
+
+    ghost number = { λ m. m };
+
+    fn wide(self) -> u64 {
+        self
+    }
+
+    fn narrow(m: u64) -> u64 {
+        m
+    }
+
+    ghost width_fits = { Prim.search rules };
 }
 
-// m, with edge e where b holds; without a branch, which would often be foretold wrongly.
-pub fn with_if(m: u64, e: usize, b: bool) -> u64
-    requires { e < 64 }
-    ensures { result ≡ cond b (insert m e) m }
+impl Mask for u8 {
+    ghost width = { 8 };
+
+    ghost number = { λ m. m };
+
+    fn wide(self) -> u64 {
+        self as u64
+    }
+
+    fn narrow(m: u64) -> u8 {
+        m as u8
+    }
+
+    ghost width_fits = { Prim.search rules };
+}
+
+// Whether m has member e.
+pub fn has<M: Mask>(m: M, e: usize) -> bool
+    requires { e < M.width }
+    ensures { result ≡ has (M.number m) e }
 {
-    m | ((b as u64) << e)
+    (m.wide() >> e) % 2 == 1
+}
+
+// m with member e.
+pub fn with<M: Mask>(m: M, e: usize) -> M
+    requires { e < M.width }
+    ensures { M.number result ≡ insert (M.number m) e }
+{
+    M::narrow(m.wide() | (1 << e))
+}
+
+// m, with member e where b holds; without a branch, which would often be foretold wrongly.
+pub fn with_if<M: Mask>(m: M, e: usize, b: bool) -> M
+    requires { e < M.width }
+    ensures { M.number result ≡ cond b (insert (M.number m) e) (M.number m) }
+{
+    M::narrow(m.wide() | ((b as u64) << e))
 }
 
 // What is in a and in b.
@@ -50,11 +99,12 @@ pub fn without(a: u64, b: u64) -> u64
     a ^ (a & b)
 }
 
-// Whether every edge of a is one of b.
-pub fn inside(a: u64, b: u64) -> bool
-    ensures { result ≡ inside a b }
+// Whether every member of a is one of b.
+pub fn inside<M: Mask>(a: M, b: M) -> bool
+    ensures { result ≡ inside (M.number a) (M.number b) }
 {
-    a & b == a
+    let a = a.wide();
+    a & b.wide() == a
 }
 
 // Whether a is inside b and not equal to it.
@@ -81,35 +131,4 @@ pub fn lowest(m: u64) -> usize
     ensures { (has m result ≡ true) × (result < 64) × ((e : ℕ) → e < result → has m e ≡ false) }
 {
     m.trailing_zeros() as usize
-}
-
-// Whether the colour set s has c.
-pub fn set_has(s: u8, c: u8) -> bool
-    requires { c < 8 }
-    ensures { result ≡ has s c }
-{
-    (s >> c) % 2 == 1
-}
-
-// The colour set s with c.
-pub fn set_with(s: u8, c: u8) -> u8
-    requires { c < 8 }
-    ensures { result ≡ insert s c }
-{
-    s | (1 << c)
-}
-
-// The colour set s, with c where b holds; without a branch.
-pub fn set_with_if(s: u8, c: u8, b: bool) -> u8
-    requires { c < 8 }
-    ensures { result ≡ cond b (insert s c) s }
-{
-    s | ((b as u8) << c)
-}
-
-// Whether every colour of a is one of b.
-pub fn set_inside(a: u8, b: u8) -> bool
-    ensures { result ≡ inside a b }
-{
-    a & b == a
 }

@@ -46,9 +46,8 @@ use Rattle.siblings.specs.Positions.{masks_at, Positions, carried, outside}
 use Rattle.siblings.proofs.Carrying.{carried-length, carried-place, carried-in}
 use Rattle.pool.specs.Pool.{SpanOf, Pool, Extends, SetListed}
 use Rattle.pool.proofs.Pool.{pool-room, extends-same, extends-on}
-use Rattle.offspring.specs.declared.Search.{Search}
+use Rattle.std.proofs.Common.{Option, None, Some}
 use Rattle.offspring.specs.Offspring.{Around, StatesIn, ChildrenAt, Offspring}
-use Rattle.offspring.specs.declared.Listing.{Listing}
 use Rattle.offspring.specs.Looking.{WaitsIn, LiesAt, Looking, Looked, Node, NodeAmong, Span, Greatest, NowListed, SetSearched}
 
 -- ---- lists in order
@@ -447,6 +446,13 @@ module _ (p : Policy) (lawful : legal p ≡ true) where
         go x (inr (inl w)) = absurd (none w.0 w.1 w.2)
         go x (inr (inr a)) = absurd (omega (arith, a.2))
 
+-- ---- options
+none-some : (r : Option ℕ) {k : ℕ} → r ≡ None → r ≡ Some k → ⊥
+none-some r a b = cc
+
+some-is : {a k : ℕ} → Some a ≡ Some k → a ≡ k
+some-is e = cc
+
 -- ---- the same, as the code goes by it
 other-verdict : (a v : Bool) → a ≢ v → a ≡ not v
 other-verdict true true d = absurd (d refl)
@@ -507,16 +513,16 @@ module _ {p : Policy} {family : List Bool} {within : List ℕ} {n : ℕ} {v : Bo
     at-found room = looking-found p g.lawful n g.full v g.verdict l r.of_node low r.cycles exact same_verdict in-n none (omega (arith, low, r.listed)) room
 
     -- there is no place for it
-    pub at-full : length kids ≤ found → Looked p n pool count s (i + 1) to todo kids (found + 1)
-    at-full h = record { looking = λ q. absurd (omega arith); fits = λ q. absurd (omega (arith, at_room, r.long)) }
+    pub at-full : length kids ≤ found → Looked p n pool count s (i + 1) to todo kids None
+    at-full h = record { looking = λ k e. absurd (none-some None refl e); fits = λ q. absurd (omega (arith, at_room, r.long)) }
 
 -- what is found has a place
-pub looked-of : {p : Policy} {n : ℕ} {pool : List ℕ} {count s from to : ℕ} {todo kids : List ℕ} {found : ℕ} → Looking p n pool count s from to todo kids found → Looked p n pool count s from to todo kids found
-looked-of l = record { looking = λ _. l; fits = λ _. l.long }
+pub looked-of : {p : Policy} {n : ℕ} {pool : List ℕ} {count s from to : ℕ} {todo kids : List ℕ} {found : ℕ} → Looking p n pool count s from to todo kids found → Looked p n pool count s from to todo kids (Some found)
+looked-of {p} {n} {pool} {count} {s} {from} {to} {todo} {kids} {found} l = record { looking = λ k e. subst (λ (x : ℕ). Looking p n pool count s from to todo kids x) (some-is e) l; fits = λ _ e. none-some _ e refl }
 
 -- the rest is not looked at where a child has no place
-pub looked-over : {p : Policy} {n : ℕ} {pool : List ℕ} {count s from to : ℕ} {todo kids : List ℕ} {found : ℕ} → Looked p n pool count s from to todo kids found → length kids < found → Looked p n pool count s 0 0 todo kids found
-looked-over l h = record { looking = λ q. absurd (omega arith); fits = l.fits }
+pub looked-over : {p : Policy} {n : ℕ} {pool : List ℕ} {count s from to i j : ℕ} {todo kids : List ℕ} → Looked p n pool count s i j todo kids None → Looked p n pool count s from to todo kids None
+looked-over l = record { looking = λ k e. absurd (none-some None refl e); fits = l.fits }
 
 -- ---- two verdicts compared
 pub beq-other : (a b : Bool) → not (beq a b) ≡ true → a ≢ b
@@ -561,7 +567,7 @@ pub span-from : {p : Policy} {n s : ℕ} {pool hues : List ℕ} {count from to :
 span-from r i h = record { of_node = r.of_node; listed = r.listed; long = r.long; hued = r.hued; cycles = λ j b t. r.cycles j (omega arith) t }
 
 -- ---- a colour set is listed
-pub listed-short : {p : Policy} {among s : ℕ} {pool hues spans : List ℕ} {count : ℕ} → Pool p among pool hues spans count → s < 255 → get_or spans (2 * s + 1) 0 ≡ 0 → length pool - count < 16 → NowListed p among s pool count pool hues spans (record { count = count; whole = false })
+pub listed-short : {p : Policy} {among s : ℕ} {pool hues spans : List ℕ} {count : ℕ} → Pool p among pool hues spans count → s < 255 → get_or spans (2 * s + 1) 0 ≡ 0 → length pool - count < 16 → NowListed p among s pool count pool hues spans count false
 listed-short {p} {among} {s} {pool} {hues} {spans} {count} l h e r = record {
   pool_is = l;
   extends = extends-same pool count;
@@ -569,7 +575,7 @@ listed-short {p} {among} {s} {pool} {hues} {spans} {count} l h e r = record {
   enough = λ m. absurd (omega (arith, pool-room l s h e m));
 }
 
-pub listed-now : {p : Policy} {among s : ℕ} {pool₀ : List ℕ} {count₀ : ℕ} {pool hues spans : List ℕ} {count : ℕ} → SetListed p among s pool₀ count₀ pool hues spans count → NowListed p among s pool₀ count₀ pool hues spans (record { count = count; whole = true })
+pub listed-now : {p : Policy} {among s : ℕ} {pool₀ : List ℕ} {count₀ : ℕ} {pool hues spans : List ℕ} {count : ℕ} → SetListed p among s pool₀ count₀ pool hues spans count → NowListed p among s pool₀ count₀ pool hues spans count true
 listed-now l = record { pool_is = l.pool_is; extends = l.extends; has_span = λ t. l.has_span; enough = λ m. refl }
 
 greatest-in : {p : Policy} {n s : ℕ} {pool : List ℕ} {count : ℕ} {todo kids : List ℕ} {found : ℕ} → Greatest p n s pool count todo kids found → s < 255 → inside s (colours_of p n) ≡ true
@@ -578,30 +584,26 @@ greatest-in {s = s} gr byte = (gr.looking.lower s (omega arith) gr.here).1
 -- ---- a colour set is searched
 module _ {p : Policy} {among : ℕ} {family : List Bool} {within : List ℕ} {n : ℕ} {v : Bool} {s : ℕ} {pool₀ : List ℕ} {count₀ : ℕ} {todo kids : List ℕ} {found : ℕ} (g : NodeAmong p among family within n v) (gr : Greatest p n s pool₀ count₀ todo kids found) (byte : s < 255)
     (todo' : List ℕ) (four : length todo' ≡ 4) (out : (d : ℕ) → d < 256 → has_set todo' d ≡ (has_set todo d && not (eqb d s))) where
-  module _ {pool hues spans : List ℕ} {r : Listing} (w : NowListed p among s pool₀ count₀ pool hues spans r) where
+  module _ {pool hues spans : List ℕ} {count : ℕ} {whole : Bool} (w : NowListed p among s pool₀ count₀ pool hues spans count whole) where
     -- the space was too short
-    pub set-short : r.whole ≡ false → SetSearched p among n s pool₀ count₀ pool hues spans todo' kids (record { found = found; count = r.count; whole = false })
+    pub set-short : whole ≡ false → SetSearched p among n s pool₀ count₀ pool hues spans count todo' kids None
     set-short f = record {
       listed = w.pool_is;
       extends = w.extends;
-      looking = λ t. absurd (true≢false (sym t));
+      looking = λ k e. absurd (none-some None refl e);
       enough = λ m _. absurd (true≢false (sym (w.enough m) ∙ f));
     }
 
     -- its cycles are looked at
-    module _ (t : r.whole ≡ true) where
-      pub set-span : Span p n s pool hues r.count (get_or spans (2 * s) 0) (get_or spans (2 * s) 0 + get_or spans (2 * s + 1) 0 - 1)
+    module _ (t : whole ≡ true) where
+      pub set-span : Span p n s pool hues count (get_or spans (2 * s) 0) (get_or spans (2 * s) 0 + get_or spans (2 * s + 1) 0 - 1)
       set-span = listed-span w.pool_is s (w.has_span t) n (greatest-in gr byte)
 
-      pub set-looking : Looking p n pool r.count s (get_or spans (2 * s) 0) (get_or spans (2 * s) 0 + get_or spans (2 * s + 1) 0 - 1) todo' kids found
+      pub set-looking : Looking p n pool count s (get_or spans (2 * s) 0) (get_or spans (2 * s) 0 + get_or spans (2 * s + 1) 0 - 1) todo' kids found
       set-looking = looking-set p g.node.lawful n g.node.full v g.node.verdict (looking-extends p g.node.lawful n g.node.full v g.node.verdict gr.looking w.extends) s todo' four out gr.last among g.states_in _ _ (listed-all w.pool_is s (w.has_span t))
 
-      pub set-searched : {todo'' kids'' : List ℕ} {next : ℕ} → Looking p n pool r.count s 0 0 todo'' kids'' next → SetSearched p among n s pool₀ count₀ pool hues spans todo'' kids'' (record { found = next; count = r.count; whole = true })
-      set-searched l = record { listed = w.pool_is; extends = w.extends; looking = λ q. l; enough = λ m k. refl }
-
-      -- more are found than there are places for
-      pub set-over : {todo'' kids'' : List ℕ} {next : ℕ} → Looked p n pool r.count s 0 0 todo'' kids'' next → length kids'' < next → SetSearched p among n s pool₀ count₀ pool hues spans todo'' kids'' (record { found = found; count = r.count; whole = false })
-      set-over l h = record { listed = w.pool_is; extends = w.extends; looking = λ q. absurd (true≢false (sym q)); enough = λ m k. absurd (omega (arith, l.fits k)) }
+      pub set-searched : {todo'' kids'' : List ℕ} {next : Option ℕ} → Looked p n pool count s 0 0 todo'' kids'' next → SetSearched p among n s pool₀ count₀ pool hues spans count todo'' kids'' next
+      set-searched l = record { listed = w.pool_is; extends = w.extends; looking = l.looking; enough = λ m k. l.fits k }
 
 -- ---- set by set: the sets to be looked at are below `end`
 pub record Searching (p : Policy) (among n : ℕ) (pool₀ : List ℕ) (count₀ : ℕ) (pool hues spans : List ℕ) (count : ℕ) (todo kids : List ℕ) (found end : ℕ) : Type 0 where
@@ -635,23 +637,23 @@ module _ {p : Policy} {among n : ℕ} {pool₀ : List ℕ} {count₀ : ℕ} {poo
     pub searching-greatest : Greatest p n (end - 1) pool count todo kids found
     searching-greatest = record { left = w.left; looking = w.looking; here = here; last = λ d b a. let q = w.end_is.past d b a in omega arith }
 
-    pub searching-more : {pool' hues' spans' todo' kids' : List ℕ} {r : Search} {end' : ℕ} → SetSearched p among n (end - 1) pool count pool' hues' spans' todo' kids' r → r.whole ≡ true → End todo' end'
-        → Searching p among n pool₀ count₀ pool' hues' spans' r.count todo' kids' r.found end' × (end' < end)
-    searching-more {end' = end'} x t e = (record { listed = x.listed; extends = extends-on w.extends x.extends; left = end - 1; low = omega (arith, searching-low); looking = x.looking t; end_is = e }, less (ℕ_discrete end' 0))
+    pub searching-more : {pool' hues' spans' todo' kids' : List ℕ} {count' next : ℕ} {end' : ℕ} → SetSearched p among n (end - 1) pool count pool' hues' spans' count' todo' kids' (Some next) → End todo' end'
+        → Searching p among n pool₀ count₀ pool' hues' spans' count' todo' kids' next end' × (end' < end)
+    searching-more {next = next} {end' = end'} x e = (record { listed = x.listed; extends = extends-on w.extends x.extends; left = end - 1; low = omega (arith, searching-low); looking = x.looking next refl; end_is = e }, less (ℕ_discrete end' 0))
       where
         less : Dec (end' ≡ 0) → end' < end
         less (yes z) = omega arith
-        less (no z) = omega (arith, ((x.looking t).lower (end' - 1) (let m = e.most in omega arith) (e.last z)).0)
+        less (no z) = omega (arith, ((x.looking next refl).lower (end' - 1) (let m = e.most in omega arith) (e.last z)).0)
 
-    pub searching-short : {pool' hues' spans' todo' kids' : List ℕ} {r : Search} → SetSearched p among n (end - 1) pool count pool' hues' spans' todo' kids' r → r.whole ≡ false → Offspring p among n pool₀ count₀ pool' hues' spans' kids' r
-    searching-short x f = record { listed = x.listed; extends = extends-on w.extends x.extends; children_at = λ t. absurd (true≢false (sym t ∙ f)); enough = x.enough }
+    pub searching-short : {pool' hues' spans' todo' kids' : List ℕ} {count' : ℕ} → SetSearched p among n (end - 1) pool count pool' hues' spans' count' todo' kids' None → Offspring p among n pool₀ count₀ pool' hues' spans' count' kids' None
+    searching-short x = record { listed = x.listed; extends = extends-on w.extends x.extends; children_at = λ k e. absurd (none-some None refl e); enough = x.enough }
 
-  pub searching-all : {family : List Bool} {within : List ℕ} {v : Bool} → Node p family within n v → end ≤ 0 → Offspring p among n pool₀ count₀ pool hues spans kids (record { found = found; count = count; whole = true })
+  pub searching-all : {family : List Bool} {within : List ℕ} {v : Bool} → Node p family within n v → end ≤ 0 → Offspring p among n pool₀ count₀ pool hues spans count kids (Some found)
   searching-all {v = v} g z = record {
     listed = w.listed;
     extends = w.extends;
-    children_at = λ t. looking-all p g.lawful n g.full v g.verdict w.looking (λ d b a. let q = w.end_is.past d b a in omega arith);
-    enough = λ m k. refl;
+    children_at = λ k e. subst (λ (x : ℕ). ChildrenAt p n pool count kids x) (some-is e) (looking-all p g.lawful n g.full v g.verdict w.looking (λ d b a. let q = w.end_is.past d b a in omega arith));
+    enough = λ m k e. none-some _ e refl;
   }
 
 -- ---- the node

@@ -1,5 +1,5 @@
 -- The search for the children of a node n, colour set by colour set, by falling mask: what is found, and where the rest is looked for.
-use Rattle.std.specs.Prelude.{ℕ, ◌+◌, ◌*◌, ◌≤◌, ◌<◌, ◌≡◌, ◌⊎◌, ◌≢◌, Bool, true, not, length, get_or, take}
+use Rattle.std.specs.Prelude.{ℕ, ◌+◌, ◌*◌, ◌≤◌, ◌<◌, ◌≡◌, ◌⊎◌, ◌≢◌, Bool, true, not, length, get_or, take, Option, None, Some}
 use mathlib.Core.List.{List, Memᴰ}
 use Rattle.masks.specs.Masks.{inside}
 use Rattle.collections.specs.Collections.{has_set}
@@ -13,8 +13,6 @@ use Rattle.full_cycles.specs.Full.{Full}
 use Rattle.siblings.specs.Positions.{masks_at}
 use Rattle.pool.specs.Pool.{Pool, Extends}
 use Rattle.offspring.specs.Offspring.{HasAround, StatesIn}
-use Rattle.offspring.specs.declared.Listing.{Listing}
-use Rattle.offspring.specs.declared.Search.{Search}
 
 -- a colour set of the collection has all the colours of x
 abbrev pub WaitsIn : Policy → List ℕ → ℕ → Type 0
@@ -34,10 +32,10 @@ pub record Looking (p : Policy) (n : ℕ) (pool : List ℕ) (count s from to : �
   pub lower : (t : ℕ) → t < 256 → has_set todo t ≡ true → (t < s) × (inside t (colours_of p n) ≡ true)
   pub waits : (x : ℕ) → Memᴰ x (children p n) → Memᴰ x (masks_at pool (take found kids)) ⊎ (WaitsIn p todo x ⊎ LiesAt pool from to x)
 
--- after a look: r of them are found, or one more than there are places for, which cannot be where there is a place for each cycle
-pub record Looked (p : Policy) (n : ℕ) (pool : List ℕ) (count s from to : ℕ) (todo kids : List ℕ) (r : ℕ) : Type 0 where
-  pub looking : r ≤ length kids → Looking p n pool count s from to todo kids r
-  pub fits : length pool ≤ length kids → r ≤ length kids
+-- after a look: so many of them are found, or none is said where there is no place for one, which cannot be where there is a place for each cycle
+pub record Looked (p : Policy) (n : ℕ) (pool : List ℕ) (count s from to : ℕ) (todo kids : List ℕ) (r : Option ℕ) : Type 0 where
+  pub looking : (found : ℕ) → r ≡ Some found → Looking p n pool count s from to todo kids found
+  pub fits : length pool ≤ length kids → r ≢ None
 
 -- ---- what the search goes by
 -- n is a node, its children have the verdict v, and `within` has the colour sets with a set of that verdict inside them
@@ -69,15 +67,15 @@ pub record NodeAmong (p : Policy) (among : ℕ) (family : List Bool) (within : L
   pub states_in : StatesIn p among n
 
 -- where the space did, the colour set s is listed
-pub record NowListed (p : Policy) (among s : ℕ) (pool₀ : List ℕ) (count₀ : ℕ) (pool hues spans : List ℕ) (r : Listing) : Type 0 where
-  pub pool_is : Pool p among pool hues spans r.count
-  pub extends : Extends pool₀ count₀ pool r.count
-  pub has_span : r.whole ≡ true → get_or spans (2 * s + 1) 0 ≢ 0
-  pub enough : 4096 ≤ length pool → r.whole ≡ true
+pub record NowListed (p : Policy) (among s : ℕ) (pool₀ : List ℕ) (count₀ : ℕ) (pool hues spans : List ℕ) (count : ℕ) (whole : Bool) : Type 0 where
+  pub pool_is : Pool p among pool hues spans count
+  pub extends : Extends pool₀ count₀ pool count
+  pub has_span : whole ≡ true → get_or spans (2 * s + 1) 0 ≢ 0
+  pub enough : 4096 ≤ length pool → whole ≡ true
 
 -- ---- one colour set s is searched, from pool₀ with count₀ cycles: where the space did, sets below s are left
-pub record SetSearched (p : Policy) (among n s : ℕ) (pool₀ : List ℕ) (count₀ : ℕ) (pool hues spans todo kids : List ℕ) (r : Search) : Type 0 where
-  pub listed : Pool p among pool hues spans r.count
-  pub extends : Extends pool₀ count₀ pool r.count
-  pub looking : r.whole ≡ true → Looking p n pool r.count s 0 0 todo kids r.found
-  pub enough : 4096 ≤ length pool → length pool ≤ length kids → r.whole ≡ true
+pub record SetSearched (p : Policy) (among n s : ℕ) (pool₀ : List ℕ) (count₀ : ℕ) (pool hues spans : List ℕ) (count : ℕ) (todo kids : List ℕ) (r : Option ℕ) : Type 0 where
+  pub listed : Pool p among pool hues spans count
+  pub extends : Extends pool₀ count₀ pool count
+  pub looking : (found : ℕ) → r ≡ Some found → Looking p n pool count s 0 0 todo kids found
+  pub enough : 4096 ≤ length pool → length pool ≤ length kids → r ≢ None

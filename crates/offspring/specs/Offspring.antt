@@ -1,5 +1,5 @@
 -- The children of a node, found from the node itself: colours are taken away, and what is left falls into the largest cycles of a colour set, which are listed when it is first asked for.
-use Rattle.std.specs.Prelude.{ℕ, ◌^◌, ◌≤◌, ◌<◌, ◌≡◌, ◌⊎◌, ◌≢◌, Bool, true, false, List, length, get_or, take}
+use Rattle.std.specs.Prelude.{ℕ, ◌^◌, ◌≤◌, ◌<◌, ◌≡◌, ◌⊎◌, ◌≢◌, Bool, true, false, List, length, get_or, take, Option, None, Some}
 use Rattle.masks.specs.Masks.{has, inside}
 use Rattle.collections.specs.Collections.{has_set}
 use Rattle.policy.specs.declared.Policy.{Policy}
@@ -8,7 +8,6 @@ use Rattle.graph.specs.Cycles.{contains}
 use Rattle.forest.specs.Forest.{children}
 use Rattle.siblings.specs.Positions.{masks_at}
 use Rattle.pool.specs.Pool.{Pool, Extends}
-use Rattle.offspring.specs.declared.Search.{Search}
 
 -- t has the colour sets that have the verdict v, or a set with it inside them; the empty set counts only where some edge is quiet
 abbrev pub HasAround : Policy → Bool → List ℕ → Type 0
@@ -29,9 +28,9 @@ pub record ChildrenAt (p : Policy) (n : ℕ) (pool : List ℕ) (count : ℕ) (ki
   pub each : (j : ℕ) → j < found → get_or kids j 0 < count
   pub masks_are : masks_at pool (take found kids) ≡ children p n
 
--- after a search for the children of n, from pool₀ with count₀ cycles: where it is whole, they are found
-pub record Offspring (p : Policy) (among n : ℕ) (pool₀ : List ℕ) (count₀ : ℕ) (pool hues spans kids : List ℕ) (r : Search) : Type 0 where
-  pub listed : Pool p among pool hues spans r.count
-  pub extends : Extends pool₀ count₀ pool r.count
-  pub children_at : r.whole ≡ true → ChildrenAt p n pool r.count kids r.found
-  pub enough : 4096 ≤ length pool → length pool ≤ length kids → r.whole ≡ true
+-- after a search for the children of n, from pool₀ with count₀ cycles: where the space did, so many are found
+pub record Offspring (p : Policy) (among n : ℕ) (pool₀ : List ℕ) (count₀ : ℕ) (pool hues spans : List ℕ) (count : ℕ) (kids : List ℕ) (r : Option ℕ) : Type 0 where
+  pub listed : Pool p among pool hues spans count
+  pub extends : Extends pool₀ count₀ pool count
+  pub children_at : (found : ℕ) → r ≡ Some found → ChildrenAt p n pool count kids found
+  pub enough : 4096 ≤ length pool → length pool ≤ length kids → r ≢ None

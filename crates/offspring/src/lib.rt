@@ -1,33 +1,31 @@
 // The children of a node, found from the node itself: colours are taken away, and what is left falls into the largest cycles of a colour set. One of the other verdict is a child, or
-// lies inside one; one of the node's verdict loses colours in turn. Sets are looked at by falling mask, so that a cycle comes after those that it lies in. For a policy stand its
-// parts, lent, since it would be copied, and beside them the pool of cycles, so there are many parameters.
+// lies inside one; one of the node's verdict loses colours in turn. Sets are looked at by falling mask, so that a cycle comes after those that it lies in.
 #![tactic(auto)]
 
-ghost use Rattle.std.specs.Prelude.{◌≡◌, true, false, ℕ, ◌+◌, ◌*◌, ◌≤◌, ◌<◌, length};
-ghost use Rattle.policy.specs.declared.Policy.{Policy};
-ghost use Rattle.policy.specs.Policies.{colours_of};
-ghost use Rattle.masks.specs.Masks.{inside};
+ghost use Rattle.std.specs.Prelude.{◌≡◌, ℕ, ◌+◌, ◌*◌, ◌≤◌, ◌<◌, length};
 ghost use Rattle.full_cycles.specs.Full.{Full};
 ghost use Rattle.siblings.specs.Positions.{Positions};
-ghost use Rattle.pool.specs.Pool.{PartsOf, Pool};
-ghost use Rattle.offspring.specs.Offspring.{Around, StatesIn, Offspring};
+ghost use Rattle.pool.specs.Pool.{Pool};
+ghost use Rattle.pool.specs.Graphs.{policy_in};
+ghost use Rattle.policy.specs.Policies.{colours_of};
+ghost use Rattle.offspring.specs.Offspring.{Around as IsAround, StatesIn, Offspring};
 ghost use Rattle.offspring.specs.Looking.{Looking, Looked, Node, NodeAmong, Span, Greatest, NowListed, SetSearched};
 
-// How many children are found, how many cycles are listed, and whether the space did.
-#[derive(Clone, Copy)]
-pub struct Search {
-    pub found: usize,
-    pub count: usize,
-    pub whole: bool,
+use collections::Around;
+use pool::RootGraph;
+
+// A node of the tree of a root, the verdict of its children, and the colour sets with a set of that verdict inside.
+#[derive(Drop)]
+pub struct Parent<'a> {
+    pub root: &'a RootGraph<'a>,
+    pub mask: u64,
+    pub verdict: bool,
+    pub within: &'a [u64; 4],
 }
 
-// The cycle at position i, one of the set s: it is passed, or found, or its colours are to be looked at, or sets with one colour fewer. Children have the verdict v, and `within` has
-// the sets with such a set inside.
+// The cycle at position i, one of the set s: it is passed, or found, or its colours are to be looked at, or sets with one colour fewer. None where there is no place for it.
 fn look_at(
-    family: &[bool; 256],
-    within: &[u64; 4],
-    n: u64,
-    v: bool,
+    node: &Parent<'_>,
     s: u8,
     pool: &[u64],
     hues: &[u8],
@@ -35,40 +33,39 @@ fn look_at(
     todo: &mut [u64; 4],
     kids: &mut [u16],
     found: usize,
-) -> usize
+) -> Option<usize>
+    requires node { Node (policy_in node.now.root.now) (policy_in node.now.root.now).family node.now.within.now node.now.mask node.now.verdict }
     requires places { (i < length pool.now) × (length hues.now ≡ length pool.now) × (length pool.now ≤ 4096) × Positions pool.now kids.old found × (length todo.old ≡ 4) }
-    requires room { (p : Policy) × (count : ℕ) × (to : ℕ) × Node p family.now within.now n v × Span p n s pool.now hues.now count i to × (i < to) × Looking p n pool.now count s i to todo.old kids.old found }
-    ensures { (p : Policy) (count to : ℕ) → Node p family.now within.now n v → Span p n s pool.now hues.now count i to → i < to → Looking p n pool.now count s i to todo.old kids.old found → Looked p n pool.now count s (i + 1) to todo.new kids.new result }
+    requires room { (count : ℕ) × (to : ℕ) × Span (policy_in node.now.root.now) node.now.mask s pool.now hues.now count i to × (i < to) × Looking (policy_in node.now.root.now) node.now.mask pool.now count s i to todo.old kids.old found }
+    ensures { (count to : ℕ) → Span (policy_in node.now.root.now) node.now.mask s pool.now hues.now count i to → i < to → Looking (policy_in node.now.root.now) node.now.mask pool.now count s i to todo.old kids.old found → Looked (policy_in node.now.root.now) node.now.mask pool.now count s (i + 1) to todo.new kids.new result }
 {
     let x = pool[i];
-    if !masks::inside(x, n) {
-        return found;
+    if !masks::inside(x, node.mask) {
+        return Some(found);
     }
     if !siblings::is_outside(pool, kids, found, x) {
-        return found;
+        return Some(found);
     }
     let h = hues[i];
-    if family[h as usize] != v {
-        collections::add_smaller(within, h, todo);
-        return found;
+    let verdict = node.root.graph.policy.family[h as usize];
+    if verdict != node.verdict {
+        collections::add_smaller(node.within, h, todo);
+        return Some(found);
     }
     if h == s {
         if kids.len() <= found {
-            return found + 1;
+            return None;
         }
         siblings::insert(pool, kids, found, i);
-        return found + 1;
+        return Some(found + 1);
     }
     collections::add_if(todo, h, true);
-    found
+    Some(found)
 }
 
 // The cycles at the positions from one up to another, those of the set s.
 fn look_through(
-    family: &[bool; 256],
-    within: &[u64; 4],
-    n: u64,
-    v: bool,
+    node: &Parent<'_>,
     s: u8,
     pool: &[u64],
     hues: &[u8],
@@ -77,216 +74,130 @@ fn look_through(
     todo: &mut [u64; 4],
     kids: &mut [u16],
     found: usize,
-) -> usize
+) -> Option<usize>
+    requires node { Node (policy_in node.now.root.now) (policy_in node.now.root.now).family node.now.within.now node.now.mask node.now.verdict }
     requires places { (length hues.now ≡ length pool.now) × (length pool.now ≤ 4096) }
-    requires span { (p : Policy) × (count : ℕ) × Node p family.now within.now n v × Span p n s pool.now hues.now count from to × Looking p n pool.now count s from to todo.old kids.old found }
-    ensures { (p : Policy) (count : ℕ) → Node p family.now within.now n v → Span p n s pool.now hues.now count from to → Looking p n pool.now count s from to todo.old kids.old found → Looked p n pool.now count s 0 0 todo.new kids.new result }
+    requires span { (count : ℕ) × Span (policy_in node.now.root.now) node.now.mask s pool.now hues.now count from to × Looking (policy_in node.now.root.now) node.now.mask pool.now count s from to todo.old kids.old found }
+    ensures { (count : ℕ) → Span (policy_in node.now.root.now) node.now.mask s pool.now hues.now count from to → Looking (policy_in node.now.root.now) node.now.mask pool.now count s from to todo.old kids.old found → Looked (policy_in node.now.root.now) node.now.mask pool.now count s 0 0 todo.new kids.new result }
 {
     let mut next = found;
     for i in from..to {
-        if kids.len() < next {
-            return next;
-        }
-        next = look_at(family, within, n, v, s, pool, hues, i, todo, kids, next);
+        next = look_at(node, s, pool, hues, i, todo, kids, next)?;
     }
-    next
+    Some(next)
 }
 
-// How many cycles are listed, and whether the space did.
-#[derive(Clone, Copy)]
-struct Listing {
-    count: usize,
-    whole: bool,
-}
-
-// The cycles of the set s, unless it is listed.
+// The cycles of the set s, unless it is listed: whether the space did.
 fn list_new(
-    states: usize,
-    steps: &[u64; 36],
-    out: &[u64; 16],
-    into: &[u64; 16],
-    by: &[u64; 9],
-    among: u64,
+    r: &RootGraph<'_>,
     s: u8,
     pool: &mut [u64],
     hues: &mut [u8],
     spans: &mut [u16],
-    count: usize,
-) -> Listing
-    requires policy { (p : Policy) × PartsOf p states steps.now out.now into.now by.now × Pool p among pool.old hues.old spans.old count }
+    count: &mut usize,
+) -> bool
+    requires pool { Pool (policy_in r.now) r.now.among pool.old hues.old spans.old count.old }
     requires places { (s < 255) × (2 * s + 1 < length spans.old) }
-    ensures { (p : Policy) → PartsOf p states steps.now out.now into.now by.now → Pool p among pool.old hues.old spans.old count → NowListed p among s pool.old count pool.new hues.new spans.new result }
+    ensures { NowListed (policy_in r.now) r.now.among s pool.old count.old pool.new hues.new spans.new count.new result }
 {
     if spans[2 * s as usize + 1] != 0 {
-        return Listing { count, whole: true };
+        return true;
     }
-    if pool.len() - count < 16 {
-        return Listing {
-            count,
-            whole: false,
-        };
+    if pool.len() - *count < 16 {
+        return false;
     }
-    let next = pool::list_set(
-        states, steps, out, into, by, among, s, pool, hues, spans, count,
-    );
-    Listing {
-        count: next,
-        whole: true,
-    }
+    *count = pool::list_set(r, s, pool, hues, spans, *count);
+    true
 }
 
 // The set s, the greatest one to be looked at.
 fn search_set(
-    states: usize,
-    steps: &[u64; 36],
-    out: &[u64; 16],
-    into: &[u64; 16],
-    by: &[u64; 9],
-    among: u64,
-    family: &[bool; 256],
-    within: &[u64; 4],
-    n: u64,
-    v: bool,
+    node: &Parent<'_>,
     s: u8,
     pool: &mut [u64],
     hues: &mut [u8],
     spans: &mut [u16],
-    count: usize,
+    count: &mut usize,
     todo: &mut [u64; 4],
     kids: &mut [u16],
     found: usize,
-) -> Search
-    requires policy { (p : Policy) × PartsOf p states steps.now out.now into.now by.now × NodeAmong p among family.now within.now n v × Pool p among pool.old hues.old spans.old count × Greatest p n s pool.old count todo.old kids.old found }
+) -> Option<usize>
+    requires node { NodeAmong (policy_in node.now.root.now) node.now.root.now.among (policy_in node.now.root.now).family node.now.within.now node.now.mask node.now.verdict }
+    requires pool { Pool (policy_in node.now.root.now) node.now.root.now.among pool.old hues.old spans.old count.old }
+    requires greatest { Greatest (policy_in node.now.root.now) node.now.mask s pool.old count.old todo.old kids.old found }
     requires places { (s < 255) × (2 * s + 1 < length spans.old) }
-    ensures { (p : Policy) → PartsOf p states steps.now out.now into.now by.now → NodeAmong p among family.now within.now n v → Pool p among pool.old hues.old spans.old count → Greatest p n s pool.old count todo.old kids.old found → SetSearched p among n s pool.old count pool.new hues.new spans.new todo.new kids.new result }
+    ensures { SetSearched (policy_in node.now.root.now) node.now.root.now.among node.now.mask s pool.old count.old pool.new hues.new spans.new count.new todo.new kids.new result }
 {
     collections::remove(todo, s);
-    let listed = list_new(
-        states, steps, out, into, by, among, s, pool, hues, spans, count,
-    );
-    if !listed.whole {
-        return Search {
-            found,
-            count: listed.count,
-            whole: false,
-        };
+    if !list_new(node.root, s, pool, hues, spans, count) {
+        return None;
     }
     let at = 2 * s as usize;
     let from = spans[at] as usize;
     let to = from + spans[at + 1] as usize - 1;
-    let next = look_through(
-        family, within, n, v, s, pool, hues, from, to, todo, kids, found,
-    );
-    if kids.len() < next {
-        return Search {
-            found,
-            count: listed.count,
-            whole: false,
-        };
-    }
-    Search {
-        found: next,
-        count: listed.count,
-        whole: true,
-    }
+    look_through(node, s, pool, hues, from, to, todo, kids, found)
 }
 
-// The positions of the children of n, which have the verdict v: sets are looked at until none is left.
+// The positions of the children of a node whose colours are h: sets are looked at until none is left.
 fn search_sets(
-    states: usize,
-    steps: &[u64; 36],
-    out: &[u64; 16],
-    into: &[u64; 16],
-    by: &[u64; 9],
-    among: u64,
-    family: &[bool; 256],
-    within: &[u64; 4],
-    n: u64,
+    node: &Parent<'_>,
     h: u8,
-    v: bool,
     pool: &mut [u64],
     hues: &mut [u8],
     spans: &mut [u16],
-    count: usize,
+    count: &mut usize,
     kids: &mut [u16],
-) -> Search
-    requires policy { (p : Policy) × PartsOf p states steps.now out.now into.now by.now × NodeAmong p among family.now within.now n v × (h ≡ colours_of p n) × Pool p among pool.old hues.old spans.old count }
-    requires places { 2 * h ≤ length spans.old }
-    ensures { (p : Policy) → PartsOf p states steps.now out.now into.now by.now → NodeAmong p among family.now within.now n v → h ≡ colours_of p n → Pool p among pool.old hues.old spans.old count → Offspring p among n pool.old count pool.new hues.new spans.new kids.new result }
+) -> Option<usize>
+    requires node { NodeAmong (policy_in node.now.root.now) node.now.root.now.among (policy_in node.now.root.now).family node.now.within.now node.now.mask node.now.verdict }
+    requires pool { Pool (policy_in node.now.root.now) node.now.root.now.among pool.old hues.old spans.old count.old }
+    requires places { (h ≡ colours_of (policy_in node.now.root.now) node.now.mask) × (2 * h ≤ length spans.old) }
+    ensures { Offspring (policy_in node.now.root.now) node.now.root.now.among node.now.mask pool.old count.old pool.new hues.new spans.new count.new kids.new result }
 {
     let mut todo = [0u64; 4];
-    collections::add_smaller(within, h, &mut todo);
+    collections::add_smaller(node.within, h, &mut todo);
     let mut found: usize = 0;
-    let mut listed = count;
     let mut end = collections::end(&todo);
     while 0 < end {
-        let r = search_set(
-            states,
-            steps,
-            out,
-            into,
-            by,
-            among,
-            family,
-            within,
-            n,
-            v,
-            (end - 1) as u8,
-            pool,
-            hues,
-            spans,
-            listed,
-            &mut todo,
-            kids,
-            found,
-        );
-        if !r.whole {
-            return r;
-        }
-        found = r.found;
-        listed = r.count;
+        let s = (end - 1) as u8;
+        found = search_set(node, s, pool, hues, spans, count, &mut todo, kids, found)?;
         end = collections::end(&todo);
     }
-    Search {
-        found,
-        count: listed,
-        whole: true,
-    }
+    Some(found)
 }
 
-// The positions of the children of the node n, whose colours are h, in sibling order. `accepted` and `rejected` have the colour sets with an accepted and with a rejected set inside
-// them. Where the space is too short the search is not whole, and what stands in `kids` is undecided; so is what stands past the children. This is an inner layer: its callers lend the
-// parts of a legal policy, one of its nodes, and a pool.
+// The positions of the children of the node n, in sibling order. `around` has the colour sets with an accepted and with a rejected set inside them. None where the space is too short:
+// then what stands in `kids` is undecided, and so is what stands past the children. This is an inner layer: its callers lend one of the nodes of a root, and a pool.
 pub fn find_children(
-    states: usize,
-    steps: &[u64; 36],
-    out: &[u64; 16],
-    into: &[u64; 16],
-    by: &[u64; 9],
-    among: u64,
-    family: &[bool; 256],
-    accepted: &[u64; 4],
-    rejected: &[u64; 4],
+    r: &RootGraph<'_>,
+    around: &Around,
     n: u64,
-    h: u8,
     pool: &mut [u64],
     hues: &mut [u8],
     spans: &mut [u16],
-    count: usize,
+    count: &mut usize,
     kids: &mut [u16],
-) -> Search
-    requires policy { (p : Policy) × PartsOf p states steps.now out.now into.now by.now × (family.now ≡ p.family) × Around p accepted.now rejected.now × Full p n × StatesIn p among n × (h ≡ colours_of p n) × Pool p among pool.old hues.old spans.old count }
-    requires places { 2 * h ≤ length spans.old }
-    ensures { (p : Policy) → PartsOf p states steps.now out.now into.now by.now → family.now ≡ p.family → Around p accepted.now rejected.now → Full p n → StatesIn p among n → h ≡ colours_of p n → Pool p among pool.old hues.old spans.old count → Offspring p among n pool.old count pool.new hues.new spans.new kids.new result }
+) -> Option<usize>
+    requires node { Full (policy_in r.now) n × StatesIn (policy_in r.now) r.now.among n }
+    requires around { IsAround (policy_in r.now) around.now.accepted around.now.rejected }
+    requires pool { Pool (policy_in r.now) r.now.among pool.old hues.old spans.old count.old }
+    requires places { 2 * colours_of (policy_in r.now) n ≤ length spans.old }
+    ensures { Offspring (policy_in r.now) r.now.among n pool.old count.old pool.new hues.new spans.new count.new kids.new result }
 {
-    if family[h as usize] {
-        return search_sets(
-            states, steps, out, into, by, among, family, rejected, n, h, false, pool, hues, spans,
-            count, kids,
-        );
+    let h = policy::colours_in(&r.graph.by, n);
+    if r.graph.policy.family[h as usize] {
+        let accepting = Parent {
+            root: r,
+            mask: n,
+            verdict: false,
+            within: &around.rejected,
+        };
+        return search_sets(&accepting, h, pool, hues, spans, count, kids);
     }
-    search_sets(
-        states, steps, out, into, by, among, family, accepted, n, h, true, pool, hues, spans,
-        count, kids,
-    )
+    let rejecting = Parent {
+        root: r,
+        mask: n,
+        verdict: true,
+        within: &around.accepted,
+    };
+    search_sets(&rejecting, h, pool, hues, spans, count, kids)
 }

@@ -6,8 +6,7 @@ use mathlib.Core.Path.{◌≡◌, refl, sym, ap, ◌∙◌, subst}
 use mathlib.Core.Logic.{◌⊎◌, inl, inr, ◌≢◌}
 use mathlib.Core.Bool.{Bool, true, false, true≢false}
 use mathlib.Core.List.{List}
-use lib.ListN.{length, get_or, set, length-set}
-use lib.Seq.{get_or-set_same, get_or-set_other}
+use lib.ListN.{get_or}
 use Rattle.lists.proofs.Bools.{test}
 use Rattle.orders.specs.Orders.{Among, Lists, Rearranged, Swapped, Kept}
 
@@ -60,21 +59,6 @@ in-front Q n r o others s e h = go (dec_lt h.0 r)
     go (no q) = absurd (true≢false (sym e ∙ ap Q (sym h.2) ∙ others h.0 (omega arith) h.1))
 
 -- ---- two entries change places
-module _ (w i : ℕ) (o : List ℕ) (le : w ≤ i) (lt : i < length o) where
-  pub swapped : Swapped w i o (set (set o i (get_or o w 0)) w (get_or o i 0))
-  swapped = record {
-    long = length-set (set o i (get_or o w 0)) w (get_or o i 0) ∙ length-set o i (get_or o w 0);
-    first = get_or-set_same (set o i (get_or o w 0)) w (get_or o i 0) 0 (omega (arith, length-set o i (get_or o w 0)));
-    second = second (ℕ_discrete i w);
-    rest = λ h a b. get_or-set_other (set o i (get_or o w 0)) w h (get_or o i 0) 0 a ∙ get_or-set_other o i h (get_or o w 0) 0 b;
-  }
-    where
-      second : Dec (i ≡ w) → get_or (set (set o i (get_or o w 0)) w (get_or o i 0)) i 0 ≡ get_or o w 0
-      second (yes e) =
-          ap (λ (z : ℕ). get_or (set (set o i (get_or o w 0)) w (get_or o i 0)) z 0) e ∙ get_or-set_same (set o i (get_or o w 0)) w (get_or o i 0) 0 (omega (arith, length-set o i (get_or o w 0)))
-          ∙ ap (λ (z : ℕ). get_or o z 0) e
-      second (no e) = get_or-set_other (set o i (get_or o w 0)) w i (get_or o i 0) 0 e ∙ get_or-set_same o i (get_or o w 0) 0 lt
-
 -- the first n places hold the same entries
 swap-among : (n w i : ℕ) (o o' : List ℕ) → w < n → i < n → get_or o' w 0 ≡ get_or o i 0 → get_or o' i 0 ≡ get_or o w 0 → ((h : ℕ) → h ≢ w → h ≢ i → get_or o' h 0 ≡ get_or o h 0)
     → (s : ℕ) → Among o n s → Among o' n s
@@ -99,9 +83,6 @@ pub record Parted (n : ℕ) (o o' : List ℕ) (w i : ℕ) : Type 0 where
   pub few : i ≤ n
   pub moved : Rearranged n o o'
   pub unseen : (h : ℕ) → i ≤ h → get_or o' h 0 ≡ get_or o h 0
-
-pub parted-none : (n : ℕ) (o : List ℕ) → Parted n o o 0 0
-parted-none n o = record { before = omega arith; few = omega arith; moved = same-order n o; unseen = λ h l. refl }
 
 module _ (n : ℕ) (o o' o'' : List ℕ) (w i r : ℕ) (wanted : Bool) (x : Parted n o o' w i) (lt : i < n) (k : Kept wanted w i o' r o'') where
   pub parted-more : Parted n o o'' r (i + 1)

@@ -10,8 +10,8 @@ use mathlib.Core.Bool.{Bool, true, false, not, ◌&&◌, cond, true≢false, fal
 use mathlib.Core.List.{List, Memᴰ}
 use lib.Bits.{bit_and, bit_or, or_zero_r}
 use lib.Dec.{eqb}
-use lib.ListN.{length, get_or, set, replicate, length-set}
-use lib.Seq.{ext_get_or, get_or-set_same, get_or-set_other}
+use lib.ListN.{length, get_or, set, take, replicate, length-set, length-take}
+use lib.Seq.{ext_get_or, get_or-take, get_or-set_same, get_or-set_other}
 use Rattle.lists.specs.Lists.{all}
 use Rattle.lists.proofs.Bools.{test, and_l, and_r, and-absent, and-absorb, both, or_cases, or_left, or_right, eqb≡, ≡eqb, neqb, bool-ext}
 use Rattle.lists.proofs.Lists.{get_or-map-below, all-each, each_all}
@@ -253,6 +253,21 @@ module _ (p : Policy) where
   module _ (lawful : legal p ≡ true) where
     pub colour-few : (e : ℕ) → e < edges p → colour_of p e < 8
     colour-few e l = omega (arith, legal-colour p lawful e l, (legal-counts p lawful).colours_few)
+
+    -- of the colours of the first n places, all the edges: one place more
+    module _ (n e : ℕ) where
+      taken-at : e < length (take n p.colour) → get_or (take n p.colour) e 0 ≡ get_or p.colour e 0
+      taken-at h = get_or-take n p.colour e 0 (omega (arith, length-take n p.colour))
+
+      pub taken-few : n ≡ edges p → e < length (take n p.colour) → get_or (take n p.colour) e 0 < 8
+      unfolding colour_of
+      taken-few k h = omega (arith, taken-at h, colour-few e (omega (arith, length-take n p.colour)))
+
+      pub by-more-taken : (t : List ℕ) (x : ℕ) → n ≡ edges p → e < length (take n p.colour) → t ≡ by_colour_to p.colour e → x ≡ insert (get_or t (get_or (take n p.colour) e 0) 0) e
+          → set t (get_or (take n p.colour) e 0) x ≡ by_colour_to p.colour (e + 1)
+      by-more-taken t x k h u v =
+          let l : get_or p.colour e 0 < 9 = omega (arith, taken-few k h, taken-at h) in
+          rw (v, u, taken-at h) (by-more p.colour e l)
 
     -- the table gives the edges of a colour set
     pub table-edges-are : (c : ℕ) → table_edges (by_colour p) c ≡ edges_in p c

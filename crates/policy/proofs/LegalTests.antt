@@ -1,10 +1,12 @@
 -- One turn of the loops that test every number below n. Assumes nothing.
-use Prim.Native.Nat.{ℕ, ◌+◌, ◌^◌, ◌≤◌, ◌<◌}
+use Prim.Native.Nat.{ℕ, ◌+◌, ◌-◌, ◌^◌, ◌≤◌, ◌<◌}
 use native.Mathlib.Omega.{arith}
 use mathlib.Core.Path.{◌≡◌, refl, sym, ap, ap₂, ◌∙◌}
 use mathlib.Core.Logic.{◌⊎◌, inl, inr}
 use mathlib.Core.Bool.{Bool, true, false, not, ◌&&◌, ◌||◌, true≢false, or-true, or-false, and_comm}
 use lib.Dec.{eqb, ltb}
+use lib.ListN.{length, get_or, take, drop, length-take, length-drop}
+use lib.Seq.{get_or-take, get_or-drop}
 use borrow.Author.Tests.{lt-ltb, le-ltb}
 use Rattle.lists.specs.Lists.{all, below}
 use Rattle.lists.proofs.Bools.{both}
@@ -59,6 +61,20 @@ module _ (p : Policy) where
   pub legal-set-outside : (s : ℕ) → 2 ^ p.colours ≤ s → legal_set p s ≡ not (in_family p s)
   unfolding legal_set
   legal-set-outside s l = rw (le-ltb s (2 ^ p.colours) l) (or-false (not (in_family p s)))
+
+  -- one more of a part of the family that starts past the sets of the colours
+  pub family-turn : (a k i : ℕ) (b : Bool) → 2 ^ p.colours ≤ a → i < length (take k (drop a p.family)) → b ≡ all (legal_set p) (below (a + i)) → b && not (get_or (take k (drop a p.family)) i false) ≡ all (legal_set p) (below (a + (i + 1)))
+  unfolding in_family
+  family-turn a k i b h l e =
+      let few : i < k = omega (arith, length-take k (drop a p.family)) in
+      let at : get_or (take k (drop a p.family)) i false ≡ get_or p.family (a + i) false = get_or-take k (drop a p.family) i false few ∙ get_or-drop a p.family i false in
+      let next : a + i + 1 ≡ a + (i + 1) = omega arith in
+      let far : 2 ^ p.colours ≤ a + i = omega arith in
+      all-turn (legal_set p) (a + i) _ _ e (ap not at ∙ sym (legal-set-outside (a + i) far)) ∙ ap (λ (n : ℕ). all (legal_set p) (below n)) next
+
+  -- a part of the family, passed whole
+  pub family-passed : (a e i : ℕ) → a ≤ e → e ≤ length p.family → i ≤ length (take (e - a) (drop a p.family)) → length (take (e - a) (drop a p.family)) ≤ i → a + i ≡ e
+  family-passed a e i h l m n = omega (arith, length-take (e - a) (drop a p.family), length-drop a p.family)
 
   -- every set of the colours is legal
   pub legal-sets-within : (n : ℕ) → n ≡ 2 ^ p.colours → true ≡ all (legal_set p) (below n)

@@ -3,10 +3,10 @@
 // colour, and a recorded colour of 0.
 #![tactic(auto)]
 
-ghost use Rattle.std.specs.Prelude.{◌≡◌, ◌<◌, ◌≤◌, true, cond, replicate};
+ghost use Rattle.std.specs.Prelude.{◌≡◌, ◌<◌, ◌≤◌, true, cond};
 ghost use Rattle.masks.specs.Masks.{has};
 ghost use Rattle.policy.specs.ByColour.{by_colour, table_edges, table_colours};
-ghost use Rattle.policy.specs.Making.{counted, shape_of, from_parts};
+ghost use Rattle.policy.specs.Making.{counted};
 ghost use Rattle.policy.specs.Policies.{accepting, counts_fit, edges, legal, legal_counts, legal_edges, legal_family, legal_graph, legal_quiet};
 
 #[derive(Clone, Copy)]
@@ -21,7 +21,7 @@ pub struct Policy {
     pub quiet: u64,
 }
 
-// A policy's counts, and the state begun in.
+// A policy's counts, and the state begun in: the definitions name a policy by its shape and the rest.
 #[derive(Clone, Copy)]
 pub struct Shape {
     pub states: u8,
@@ -31,36 +31,27 @@ pub struct Shape {
 }
 
 // How many edges there are.
-pub fn edges(p: Policy) -> usize
-    ensures { result ≡ edges p }
+pub fn edges(p: &Policy) -> usize
+    ensures { result ≡ edges p.now }
 {
     p.states as usize * p.letters as usize
 }
 
 // ---- the edges by colour
 
-// The edges of each colour, and the quiet ones, in a table that is all 0. A quiet edge has the recorded colour 0, so it is taken from there in the end. A table that is given
-// back by value may be copied.
-pub fn collect_by_colour(p: Policy, colours: &[u8; 64], t: &mut [u64; 9])
-    requires { (legal p ≡ true) × (colours.now ≡ p.colour) × (t.old ≡ replicate 9 0) }
-    ensures { t.new ≡ by_colour p }
+// The edges of each colour, and the quiet ones. A quiet edge has the recorded colour 0, so it is taken from there in the end.
+pub fn by_colour(p: &Policy) -> [u64; 9]
+    requires { legal p.now ≡ true }
+    ensures { result ≡ by_colour p.now }
 {
-    let n = edges(p);
-    for e in 0..n {
-        let c = colours[e] as usize;
+    let mut t = [0; 9];
+    let colours = &p.colour[..edges(p)];
+    for (e, c) in colours.iter().enumerate() {
+        let c = *c as usize;
         t[c] = masks::with(t[c], e);
     }
     t[0] = masks::without(t[0], p.quiet);
     t[8] = p.quiet;
-}
-
-// The same by value.
-pub fn by_colour(p: Policy, colours: &[u8; 64]) -> [u64; 9]
-    requires { (legal p ≡ true) × (colours.now ≡ p.colour) }
-    ensures { result ≡ by_colour p }
-{
-    let mut t = [0u64; 9];
-    collect_by_colour(p, colours, &mut t);
     t
 }
 
@@ -88,19 +79,19 @@ pub fn colours_in(t: &[u64; 9], m: u64) -> u8
     ensures { result ≡ table_colours t.now m }
 {
     let mut s: u8 = 0;
-    for k in 0..8u8 {
-        s = masks::set_with_if(s, k, masks::both(m, t[k as usize]) != 0);
+    for k in 0..8 {
+        s = masks::with_if(s, k, masks::both(m, t[k]) != 0);
     }
     s
 }
 
-// The verdict of an edge set, by such a table and the family.
-pub fn accepts(p: Policy, by: &[u64; 9], family: &[bool; 256], m: u64) -> bool
-    requires { (legal p ≡ true) × (by.now ≡ by_colour p) × (family.now ≡ p.family) }
-    ensures { result ≡ accepting p m }
+// The verdict of an edge set, by such a table.
+pub fn accepts(p: &Policy, by: &[u64; 9], m: u64) -> bool
+    requires { (legal p.now ≡ true) × (by.now ≡ by_colour p.now) }
+    ensures { result ≡ accepting p.now m }
 {
     let c = colours_in(by, m) as usize;
-    family[c]
+    p.family[c]
 }
 
 // ---- making a policy
@@ -121,41 +112,6 @@ pub fn counted(states: u8, letters: u8, colours: u8, initial: u8) -> Policy
     }
 }
 
-// The shape of a policy.
-pub fn shape_of(p: Policy) -> Shape
-    ensures { result ≡ shape_of p }
-{
-    Shape {
-        states: p.states,
-        letters: p.letters,
-        colours: p.colours,
-        initial: p.initial,
-    }
-}
-
-// The policy of a shape, its quiet edges and arrays that are lent: the targets and the colours of its edges, and its family. A function that is not compiled into its
-// caller takes these in place of the policy, which would be copied.
-pub fn from_parts(
-    shape: Shape,
-    quiet: u64,
-    heads: &[u8; 64],
-    colours: &[u8; 64],
-    family: &[bool; 256],
-) -> Policy
-    ensures { result ≡ from_parts shape quiet heads.now colours.now family.now }
-{
-    Policy {
-        states: shape.states,
-        letters: shape.letters,
-        colours: shape.colours,
-        initial: shape.initial,
-        target: *heads,
-        colour: *colours,
-        family: *family,
-        quiet,
-    }
-}
-
 // ---- legal policies
 
 // Whether counts are within the limits.
@@ -173,16 +129,16 @@ pub fn counts_fit(states: u8, letters: u8, colours: u8, initial: u8) -> bool
         & (initial < states)
 }
 
-fn has_legal_counts(p: Policy) -> bool
-    ensures { result ≡ legal_counts p }
+fn has_legal_counts(p: &Policy) -> bool
+    ensures { result ≡ legal_counts p.now }
 {
     counts_fit(p.states, p.letters, p.colours, p.initial)
 }
 
-// Whether every edge leads to a state and has a recorded colour, and every entry past the last edge is 0. Numbers of one byte throughout, so that many edges are looked at together.
-fn has_legal_edges(p: Policy) -> bool
-    requires { edges p ≤ 64 }
-    ensures { result ≡ legal_edges p }
+// Whether every edge leads to a state and has a recorded colour, and every entry past the last edge is 0. Numbers of one byte throughout, so that many edges are looked at together; by index, since both arrays and the number are read side by side.
+fn has_legal_edges(p: &Policy) -> bool
+    requires { edges p.now ≤ 64 }
+    ensures { result ≡ legal_edges p.now }
 {
     let n = edges(p) as u8;
     let mut b = true;
@@ -195,40 +151,40 @@ fn has_legal_edges(p: Policy) -> bool
 }
 
 // Whether every quiet edge has the recorded colour 0, and nothing past the last edge is quiet. Most policies have no quiet edge.
-fn has_legal_quiet(p: Policy) -> bool
-    requires { edges p ≤ 64 }
-    ensures { result ≡ legal_quiet p }
+fn has_legal_quiet(p: &Policy) -> bool
+    requires { edges p.now ≤ 64 }
+    ensures { result ≡ legal_quiet p.now }
 {
     if p.quiet == 0 {
         return true;
     }
     let mut b = masks::inside(p.quiet, masks::full(edges(p)));
-    for e in 0..64 {
-        b = b & (!masks::has(p.quiet, e) | (p.colour[e] == 0));
+    for (e, c) in p.colour.iter().enumerate() {
+        b = b & (!masks::has(p.quiet, e) | (*c == 0));
     }
     b
 }
 
 // Whether the family has no set outside the colours. In two parts, so that what is looked at together was written together.
-fn has_legal_family(p: Policy) -> bool
-    requires { p.colours ≤ 8 }
-    ensures { result ≡ legal_family p }
+fn has_legal_family(p: &Policy) -> bool
+    requires { p.now.colours ≤ 8 }
+    ensures { result ≡ legal_family p.now }
 {
     let top: usize = 1 << p.colours;
     let mut b = true;
-    let from = if top < 16 { 16 } else { top };
-    for s in top..from {
-        b = b & !p.family[s];
+    let from = top.max(16);
+    for accepted in &p.family[top..from] {
+        b = b & !*accepted;
     }
-    for s in from..256 {
-        b = b & !p.family[s];
+    for accepted in &p.family[from..] {
+        b = b & !*accepted;
     }
     b
 }
 
 // Whether a policy is legal but for its family.
-pub fn is_legal_graph(p: Policy) -> bool
-    ensures { result ≡ legal_graph p }
+pub fn is_legal_graph(p: &Policy) -> bool
+    ensures { result ≡ legal_graph p.now }
 {
     if has_legal_counts(p) {
         return has_legal_quiet(p) & has_legal_edges(p);
@@ -237,8 +193,8 @@ pub fn is_legal_graph(p: Policy) -> bool
 }
 
 // Whether a policy is legal. The edges and the family are looked at without a branch between them.
-pub fn is_legal(p: Policy) -> bool
-    ensures { result ≡ legal p }
+pub fn is_legal(p: &Policy) -> bool
+    ensures { result ≡ legal p.now }
 {
     if has_legal_counts(p) {
         return has_legal_quiet(p) & has_legal_edges(p) & has_legal_family(p);

@@ -4,18 +4,18 @@ use native.Mathlib.Omega.{arith}
 use native.Mathlib.Decide.{ℕ_discrete, dec_lt}
 use mathlib.Core.Path.{◌≡◌, refl, sym, ap, ap₂, ◌∙◌, subst, fun_ext}
 use mathlib.Core.Logic.{◌≢◌}
-use mathlib.Core.Bool.{cond}
+use mathlib.Core.Bool.{true, cond}
 use mathlib.Core.List.{List, Memᴰ}
 use lib.Dec.{eqb}
 use lib.ListN.{length, get_or, set, length-set}
 use lib.Seq.{get_or-set_same, get_or-set_other}
 use Rattle.lists.proofs.Bools.{≡eqb, neqb}
 use Rattle.policy.specs.declared.Policy.{Policy}
-use Rattle.policy.specs.Policies.{colours_of}
-use Rattle.policy.specs.ByColour.{edges_in, table_edges, table_colours}
+use Rattle.policy.specs.Policies.{colours_of, legal}
+use Rattle.policy.specs.ByColour.{by_colour, edges_in, table_edges, table_colours}
 use Rattle.policy.proofs.ByColour.{table-edges-are, table-colours-are}
 use Rattle.components.specs.Components.{largest_in}
-use Rattle.pool.specs.Pool.{PartsOf, Lists, SpanOf, listed_to, Pool, Extends, Appended, SetListed}
+use Rattle.pool.specs.Pool.{Lists, SpanOf, listed_to, Pool, Extends, Appended, SetListed}
 
 -- ---- how many sets are listed
 -- 1 for a set that is listed
@@ -158,11 +158,11 @@ module _ {p : Policy} {among : ℕ} {pool₀ hues₀ spans₀ : List ℕ} {count
       go d e (no q) = rw (other-first d q, other-many d q) (old-span d (l.listed d (λ z. e (other-many d q ∙ z))))
 
 -- ---- what is found
-pub hue-is : {p : Policy} {states : ℕ} {steps out into by : List ℕ} → PartsOf p states steps out into by → table_colours by ≡ colours_of p
-hue-is {p} s = ap table_colours s.by_is ∙ fun_ext (table-colours-are p s.graph.lawful)
+pub hue-is : (p : Policy) → legal p ≡ true → (by : List ℕ) → by ≡ by_colour p → table_colours by ≡ colours_of p
+hue-is p legal by e = ap table_colours e ∙ fun_ext (table-colours-are p legal)
 
-pub edges_are : {p : Policy} {states : ℕ} {steps out into by : List ℕ} → PartsOf p states steps out into by → (c : ℕ) → table_edges by c ≡ edges_in p c
-edges_are {p} s c = ap (λ (t : List ℕ). table_edges t c) s.by_is ∙ table-edges-are p s.graph.lawful c
+pub edges_are : (p : Policy) → legal p ≡ true → (by : List ℕ) → by ≡ by_colour p → (c : ℕ) → table_edges by c ≡ edges_in p c
+edges_are p legal by e c = ap (λ (t : List ℕ). table_edges t c) e ∙ table-edges-are p legal c
 
 pub appended-is : {p : Policy} {among m n : ℕ} {pool₀ hues₀ : List ℕ} {count₀ : ℕ} {pool hues : List ℕ} {count : ℕ} → m ≡ n → Appended p among m pool₀ hues₀ count₀ pool hues count → Appended p among n pool₀ hues₀ count₀ pool hues count
 appended-is {p} {among} {m} {n} {pool₀} {hues₀} {count₀} {pool} {hues} {count} e a = subst (λ (k : ℕ). Appended p among k pool₀ hues₀ count₀ pool hues count) e a

@@ -3,8 +3,10 @@
 
 ghost use Rattle.std.specs.Prelude.{◌≤◌, length};
 
-use builder::Translation;
+use builder::Counts;
+use policy::Policy;
 use reading::Outcome;
+use refusals::Refusal;
 
 fn show(text: &[u8], n: u64) {
     io::write_all(1, text);
@@ -57,33 +59,25 @@ fn show_nodes(
     parents: &[u16; 1024],
     node_priorities: &[u8; 1024],
 ) {
-    let mut n: usize = 0;
-    while n < 1024 && n < count as usize {
+    for n in 0..usize::from(count).min(1024) {
         show_node(n as u64, masks[n], parents[n], node_priorities[n]);
-        n += 1;
     }
 }
 
 fn show_states(count: u16, sources: &[u8; 1024], leaves: &[u16; 1024]) {
-    let mut s: usize = 0;
-    while s < 1024 && s < count as usize {
+    for s in 0..usize::from(count).min(1024) {
         show_state(s as u64, sources[s], leaves[s]);
-        s += 1;
     }
 }
 
 // The rows of the states, in the order of the tables: row = built state times letters plus letter.
 fn show_rows(count: u16, letters: u8, targets: &[u16; 8192], priorities: &[u8; 8192]) {
-    let mut s: u64 = 0;
-    let mut letter: u64 = 0;
-    let mut row: usize = 0;
-    while row < 8192 && s < count as u64 {
-        show_row(s, letter, targets[row], priorities[row]);
-        row += 1;
-        letter += 1;
-        if letter == letters as u64 {
-            letter = 0;
-            s += 1;
+    for s in 0..count {
+        for letter in 0..letters {
+            let row = s as usize * letters as usize + letter as usize;
+            if row < 8192 {
+                show_row(s as u64, letter as u64, targets[row], priorities[row]);
+            }
         }
     }
 }
@@ -97,16 +91,12 @@ fn show_refusal(number: u8) {
 fn row_places(letters: u8) -> usize
     ensures { result ≤ 8192 }
 {
-    if letters <= 8 {
-        1024 * (letters as usize)
-    } else {
-        8192
-    }
+    1024 * usize::from(letters.min(8))
 }
 
 // The translation, in a beginning of the row tables.
 fn translate_rows(
-    p: policy::Policy,
+    p: &Policy,
     masks: &mut [u64],
     parents: &mut [u16],
     node_priorities: &mut [u8],
@@ -115,7 +105,7 @@ fn translate_rows(
     targets: &mut [u16],
     priorities: &mut [u8],
     rows: usize,
-) -> Translation
+) -> Result<Counts, Refusal>
     requires { (rows ≤ length targets.old) × (rows ≤ length priorities.old) }
 {
     builder::translate(
@@ -131,7 +121,7 @@ fn translate_rows(
 }
 
 // The translation of a policy, in tables of 1,024 nodes and 1,024 states.
-fn show_translation(p: policy::Policy) {
+fn show_translation(p: &Policy) {
     let letters = p.letters;
     let mut masks = [0u64; 1024];
     let mut parents = [0u16; 1024];
@@ -153,16 +143,16 @@ fn show_translation(p: policy::Policy) {
         rows,
     );
     match answer {
-        Translation::Translated(nodes, states, start) => {
-            show(b"nodes ", nodes as u64);
-            show(b" states ", states as u64);
+        Ok(counts) => {
+            show(b"nodes ", counts.nodes as u64);
+            show(b" states ", counts.states as u64);
             end_line();
-            show_nodes(nodes, &masks, &parents, &node_priorities);
-            show_states(states, &sources, &leaves);
-            show_rows(states, letters, &targets, &priorities);
-            show(b"start ", start as u64);
+            show_nodes(counts.nodes, &masks, &parents, &node_priorities);
+            show_states(counts.states, &sources, &leaves);
+            show_rows(counts.states, letters, &targets, &priorities);
+            show(b"start ", counts.start as u64);
         }
-        Translation::Refused(number) => show_refusal(number),
+        Err(refusal) => show_refusal(refusal.number()),
     }
     end_line();
 }
@@ -173,7 +163,7 @@ pub fn show_policy(bytes: &[u8]) {
     let outcome = a.outcome;
     let p = a.policy;
     match outcome {
-        Outcome::Read(_) => show_translation(p),
+        Outcome::Read(_) => show_translation(&p),
         Outcome::Refused(number, at) => {
             show_refusal(number);
             show(b" ", at as u64);
@@ -188,7 +178,7 @@ pub fn show_text(text: &[u8]) {
     let outcome = a.outcome;
     let p = a.policy;
     match outcome {
-        hanoi::Outcome::Read => show_translation(p),
+        hanoi::Outcome::Read => show_translation(&p),
         hanoi::Outcome::Refused(number, at) => {
             show_refusal(number);
             if number == 18 {

@@ -42,12 +42,6 @@ pub struct Answer {
     pub policy: policy::Policy,
 }
 
-fn wide(x: u8) -> usize
-    ensures { (result ≡ x) × (result < 256) }
-{
-    x as usize
-}
-
 // ---- commands
 fn is_known(code: u8) -> bool
     ensures { result ≡ command_known code }
@@ -112,9 +106,9 @@ fn sets_of(colours: u8) -> usize
     1 << colours
 }
 
-fn is_within_limits(p: policy::Policy, c: Command) -> bool
-    requires { Bounded p }
-    ensures { result ≡ within_limits p c }
+fn is_within_limits(p: &policy::Policy, c: Command) -> bool
+    requires { Bounded p.now }
+    ensures { result ≡ within_limits p.now c }
 {
     match c {
         Command::End => true,
@@ -124,33 +118,29 @@ fn is_within_limits(p: policy::Policy, c: Command) -> bool
         Command::Edge(state, letter, target, colour) => {
             (state < p.states) & (letter < p.letters) & (target < p.states) & (colour < p.colours)
         }
-        Command::Accept(set) => wide(set) < sets_of(p.colours),
+        Command::Accept(set) => (set as usize) < sets_of(p.colours),
         Command::Quiet(state, letter, target) => {
             (state < p.states) & (letter < p.letters) & (target < p.states)
         }
     }
 }
 
-fn edge_of(p: policy::Policy, state: u8, letter: u8) -> usize
-    ensures { result ≡ edge_of p state letter }
+fn edge_of(p: &policy::Policy, state: u8, letter: u8) -> usize
+    ensures { result ≡ edge_of p.now state letter }
 {
-    wide(state) * wide(p.letters) + wide(letter)
+    state as usize * p.letters as usize + letter as usize
 }
 
-// The draft's family is lent beside it: indexed in the draft itself it would be copied.
-fn is_first_time(d: Draft, family: &[bool; 256], c: Command) -> bool
-    requires { (Bounded d.policy) × (within_limits d.policy c ≡ true) × (family.now ≡ d.policy.family) }
-    ensures { result ≡ first_time d c }
+fn is_first_time(d: &Draft, c: Command) -> bool
+    requires { (Bounded d.now.policy) × (within_limits d.now.policy c ≡ true) }
+    ensures { result ≡ first_time d.now c }
 {
-    let p = d.policy;
+    let p = &d.policy;
     match c {
         Command::End => true,
         Command::Shape(_, _, _, _) => true,
         Command::Edge(state, letter, _, _) => !masks::has(d.given, edge_of(p, state, letter)),
-        Command::Accept(set) => {
-            let i = wide(set);
-            !family[i]
-        }
+        Command::Accept(set) => !p.family[set as usize],
         Command::Quiet(state, letter, _) => !masks::has(d.given, edge_of(p, state, letter)),
     }
 }
@@ -162,13 +152,12 @@ fn all_given(given: u64, edges: usize) -> bool
     masks::inside(masks::full(edges), given)
 }
 
-fn is_complete_at_end(d: Draft, c: Command) -> bool
-    requires { Bounded d.policy }
-    ensures { result ≡ complete_at_end d c }
+fn is_complete_at_end(d: &Draft, c: Command) -> bool
+    requires { Bounded d.now.policy }
+    ensures { result ≡ complete_at_end d.now c }
 {
-    let p = d.policy;
     match c {
-        Command::End => all_given(d.given, wide(p.states) * wide(p.letters)),
+        Command::End => all_given(d.given, policy::edges(&d.policy)),
         Command::Shape(_, _, _, _) => true,
         Command::Edge(_, _, _, _) => true,
         Command::Accept(_) => true,
@@ -177,9 +166,9 @@ fn is_complete_at_end(d: Draft, c: Command) -> bool
 }
 
 // The number of the first question that is answered no; 0 where there is none.
-fn refusal(bytes: &[u8], at: usize, d: Draft, family: &[bool; 256]) -> u8
-    requires { (Bounded d.policy) × (family.now ≡ d.policy.family) }
-    ensures { result ≡ refusal_of bytes.now at d }
+fn refusal(bytes: &[u8], at: usize, d: &Draft) -> u8
+    requires { Bounded d.now.policy }
+    ensures { result ≡ refusal_of bytes.now at d.now }
 {
     if bytes.len() <= at {
         return 1;
@@ -195,11 +184,10 @@ fn refusal(bytes: &[u8], at: usize, d: Draft, family: &[bool; 256]) -> u8
     if !is_in_place(at, c) {
         return 3;
     }
-    let p = d.policy;
-    if !is_within_limits(p, c) {
+    if !is_within_limits(&d.policy, c) {
         return 4;
     }
-    if !is_first_time(d, family, c) {
+    if !is_first_time(d, c) {
         return 5;
     }
     if !is_complete_at_end(d, c) {
@@ -214,12 +202,13 @@ pub fn read(bytes: &[u8]) -> Answer
     ensures { ReadsPolicy bytes.now result }
 {
     let none = policy::counted(0, 0, 0, 0);
-    let mut p = none;
-    let mut given = 0;
+    let mut d = Draft {
+        policy: none,
+        given: 0,
+    };
     let mut at = 0;
     loop {
-        let d = Draft { policy: p, given };
-        let number = refusal(bytes, at, d, &p.family);
+        let number = refusal(bytes, at, &d);
         if number != 0 {
             return Answer {
                 outcome: Outcome::Refused(number, at),
@@ -231,32 +220,31 @@ pub fn read(bytes: &[u8]) -> Answer
                 let end = at + 1;
                 return Answer {
                     outcome: Outcome::Read(end),
-                    policy: p,
+                    policy: d.policy,
                 };
             }
             Command::Shape(states, letters, colours, initial) => {
-                p.states = states;
-                p.letters = letters;
-                p.colours = colours;
-                p.initial = initial;
-                given = 0;
+                d.policy.states = states;
+                d.policy.letters = letters;
+                d.policy.colours = colours;
+                d.policy.initial = initial;
+                d.given = 0;
             }
             Command::Edge(state, letter, target, colour) => {
-                let e = edge_of(p, state, letter);
-                p.target[e] = target;
-                p.colour[e] = colour;
-                given = masks::with(given, e);
+                let e = edge_of(&d.policy, state, letter);
+                d.policy.target[e] = target;
+                d.policy.colour[e] = colour;
+                d.given = masks::with(d.given, e);
             }
             Command::Accept(set) => {
-                let s = wide(set);
-                p.family[s] = true;
+                d.policy.family[set as usize] = true;
             }
             Command::Quiet(state, letter, target) => {
-                let e = edge_of(p, state, letter);
-                p.target[e] = target;
-                p.colour[e] = 0;
-                p.quiet = masks::with(p.quiet, e);
-                given = masks::with(given, e);
+                let e = edge_of(&d.policy, state, letter);
+                d.policy.target[e] = target;
+                d.policy.colour[e] = 0;
+                d.policy.quiet = masks::with(d.policy.quiet, e);
+                d.given = masks::with(d.given, e);
             }
         }
         at = at + 1 + operand_count(bytes[at]);
@@ -267,13 +255,8 @@ pub fn read(bytes: &[u8]) -> Answer
 pub fn rest(bytes: &[u8]) -> &[u8]
     ensures { HandsBack bytes.now result.now }
 {
-    let a = read(bytes);
-    let o = a.outcome;
-    match o {
+    match read(bytes).outcome {
         Outcome::Read(end) => &bytes[end..],
-        Outcome::Refused(_, _) => {
-            let end = bytes.len();
-            &bytes[end..]
-        }
+        Outcome::Refused(_, _) => &bytes[bytes.len()..],
     }
 }

@@ -5,10 +5,30 @@ use native.Mathlib.Decide.{ℕ_discrete}
 use native.Mathlib.Numerals.{add-one}
 use mathlib.Core.Path.{◌≡◌, refl, sym, ap, ◌∙◌}
 use mathlib.Core.List.{List, map}
-use lib.ListN.{length, get_or, set, length-map, length-set}
-use lib.Seq.{sets, sets-eq, paste, paste-zero, paste-suc, take-length, ext_get_or, get_or-set_same, get_or-set_other}
+use lib.ListN.{length, get_or, take, drop, set, length-map, length-set, length-drop}
+use lib.Seq.{sets, sets-eq, length-take-le, get_or-take, get_or-drop, paste, paste-zero, paste-suc, take-length, ext_get_or, get_or-set_same, get_or-set_other}
+use borrow.Rule.Slice.PartMut.{put_mid}
+use Rattle.std.proofs.lemmas.Slice.{put_mid-paste}
 use Rattle.lists.specs.Lists.{below}
 use Rattle.lists.proofs.Lists.{length-below, get_or-map-below}
+
+-- a part of a list, place by place
+pub part-at : (l : List ℕ) (a n i : ℕ) → i < n → get_or (take n (drop a l)) i 0 ≡ get_or l (a + i) 0
+part-at l a n i h = get_or-take n (drop a l) i 0 h ∙ get_or-drop a l i 0
+
+pub part-long : (l : List ℕ) (a n : ℕ) → a + n ≤ length l → length (take n (drop a l)) ≡ n
+part-long l a n h = length-take-le n (drop a l) (omega (arith, length-drop a l))
+
+pub part-of : (l : List ℕ) (a k : ℕ) → {n : ℕ} → k ≡ n → a + n ≤ length l → take k (drop a l) ≡ map (λ j. get_or l (a + j) 0) (below n)
+part-of l a k {n} z h =
+    let e : length (take n (drop a l)) ≡ n = part-long l a n h in
+    ap (λ i. take i (drop a l)) z
+    ∙ ext_get_or 0 (take n (drop a l)) (map (λ j. get_or l (a + j) 0) (below n)) (e ∙ sym (length-map (below n) (λ j. get_or l (a + j) 0) ∙ length-below n))
+    (λ i k. let m : i < n = omega (arith, e) in part-at l a n i m ∙ sym (get_or-map-below (λ j. get_or l (a + j) 0) n i 0 m))
+
+-- a part that is written whole
+pub put-part : (t : List ℕ) (at k : ℕ) (s u : List ℕ) → u ≡ s → length s ≡ k → at + length s ≤ length t → put_mid at k t u ≡ sets t at s
+put-part t at k s u e z h = put_mid-paste at k t u s (length s) e z refl ∙ rw take-length (sym (sets-eq s t at h))
 
 -- n places, of which the first i hold f 0, .., f (i - 1)
 module _ {A : Type 0} (d : A) (f : ℕ → A) (n : ℕ) where

@@ -17,9 +17,7 @@ fn bytes_at(packed: &[u8], at: usize) -> [u8; 64]
     ensures { result ≡ bytes_at packed.now at 64 }
 {
     let mut bytes = [0; 64];
-    for i in 0..64 {
-        bytes[i] = packed[at + i];
-    }
+    bytes.copy_from_slice(&packed[at..at + 64]);
     bytes
 }
 
@@ -29,8 +27,8 @@ fn flags_at(packed: &[u8]) -> [bool; 256]
     ensures { result ≡ flags_at packed.now 132 256 }
 {
     let mut flags = [false; 256];
-    for i in 0..256 {
-        flags[i] = packed[132 + i] != 0;
+    for (i, byte) in packed[132..388].iter().enumerate() {
+        flags[i] = *byte != 0;
     }
     flags
 }
@@ -41,8 +39,8 @@ fn has_quiet(packed: &[u8]) -> bool
     ensures { result ≡ any_quiet packed.now }
 {
     let mut b = false;
-    for i in 0..64 {
-        b = b | (packed[388 + i] != 0);
+    for byte in &packed[388..452] {
+        b = b | (*byte != 0);
     }
     b
 }
@@ -56,8 +54,8 @@ fn quiet_at(packed: &[u8]) -> u64
         return 0;
     }
     let mut m: u64 = 0;
-    for i in 0..64 {
-        m = masks::with_if(m, i, packed[388 + i] != 0);
+    for (i, byte) in packed[388..452].iter().enumerate() {
+        m = masks::with_if(m, i, *byte != 0);
     }
     m
 }
@@ -87,7 +85,7 @@ pub fn policy_of(packed: &[u8]) -> Policy
 pub fn flag(b: bool) -> u8
     ensures { result ≡ flag b }
 {
-    if b { 1 } else { 0 }
+    u8::from(b)
 }
 
 // Stores bytes from a place on.
@@ -95,9 +93,7 @@ fn put_bytes(packed: &mut [u8], at: usize, bytes: &[u8])
     requires { at + length bytes.now ≤ length packed.old }
     ensures { packed.new ≡ sets packed.old at bytes.now }
 {
-    for i in 0..bytes.len() {
-        packed[at + i] = bytes[i];
-    }
+    packed[at..at + bytes.len()].copy_from_slice(bytes);
 }
 
 // Stores a byte for each yes or no, from a place on.
@@ -105,8 +101,8 @@ fn put_flags(packed: &mut [u8], at: usize, flags: &[bool])
     requires { at + length flags.now ≤ length packed.old }
     ensures { packed.new ≡ sets packed.old at (map flag flags.now) }
 {
-    for i in 0..flags.len() {
-        packed[at + i] = flag(flags[i]);
+    for (i, b) in flags.iter().enumerate() {
+        packed[at + i] = flag(*b);
     }
 }
 
@@ -118,8 +114,8 @@ fn quiet_flags(m: u64) -> [bool; 64]
     if m == 0 {
         return flags;
     }
-    for i in 0..64 {
-        flags[i] = masks::has(m, i);
+    for (i, flag) in flags.iter_mut().enumerate() {
+        *flag = masks::has(m, i);
     }
     flags
 }

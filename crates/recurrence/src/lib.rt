@@ -6,7 +6,7 @@ ghost use Rattle.recurrence.specs.Search.{search_from, search_next};
 
 // The search for a repeat among the states in which rounds end (Brent's cycle finding): one state is kept, and every later one is compared with it. It gives way to the present
 // one after 1, 2, 4, .. rounds, so that at last a state is kept that recurs, and for long enough to be seen again. No table of the states seen is needed.
-#[derive(Clone, Copy)]
+#[derive(Clone, Copy, Debug, PartialEq, Eq)]
 pub struct Search {
     // the state in which the next round begins
     pub state: usize,
@@ -26,7 +26,7 @@ impl Search {
         ensures { result ≡ search_from state none }
     {
         Self {
-            state: state,
+            state,
             value: none,
             kept: state,
             since: 0,

@@ -10,11 +10,10 @@ use Rattle.orders.proofs.Orders.{same-order, order-of-order, wider-order, lists-
 use Rattle.attracting.specs.declared.Task.{Task}
 use Rattle.attracting.specs.Attracting.{Rows, table_game, from_of, Attracts, Waits}
 use Rattle.levels.specs.Levels.{live, Headed, rows_task, SolvedAt, Turning, Turns}
-use Rattle.levels.proofs.Marks.{rows_apart, mark-live, live-waits}
+use Rattle.levels.proofs.Marks.{mark-live, live-waits}
 use Rattle.levels.proofs.Levels.{Level, level-start, level-end, turn-lt, low, next_level}
 use Rattle.levels.proofs.Turning.{Turn, turn-head, turn-arena, Above}
 use Rattle.levels.proofs.Turns.{turning, turned}
-use Rattle.recursion.proofs.Steps.{Asks}
 
 module _ (owners sources targets priorities : List ℕ) (letters states p : ℕ) (m₀ c₀ : List ℕ) (n₀ : ℕ) (o₀ : List ℕ) where
   -- what is live is the front of the order, and still to be solved
@@ -41,20 +40,13 @@ module _ (owners sources targets priorities : List ℕ) (letters states p : ℕ)
     pub going-lt : 0 < left → ((s a : ℕ) → s < states → a < letters → get_or priorities (s * letters + a) 0 < 10) → p < 10
     going-lt h few = turn-lt owners sources targets priorities letters states p m₀ c₀ m c x.level 10 few (get_or o 0 0) (x.listed.each 0 h)
 
-    pub going-asks : (k : Task) → k ≡ rows_task letters p → Rows owners sources targets priorities letters states → Asks owners sources targets priorities letters states p x.small k m left o
-    going-asks k e rows = subst (λ (z : Task). Asks owners sources targets priorities letters states p x.small z m left o) (sym e) (
-      rows,
-      rows_apart letters p x.small,
-      lists-same (live states m) (from_of owners sources targets priorities letters states (rows_task letters p) m) left o (live-waits states m) x.listed,
-    )
+    module _ (k : Task) (rest : ℕ) (o₁ m₁ c₁ : List ℕ) (is : k ≡ rows_task p)
+        (a : Attracts owners sources targets priorities letters states k m c m₁ c₁ × Waits owners sources targets priorities letters states k left o rest o₁ m₁) where
+      attracts : Attracts owners sources targets priorities letters states (rows_task p) m c m₁ c₁
+      attracts = subst (λ (z : Task). Attracts owners sources targets priorities letters states z m c m₁ c₁) is a.0
 
-    module _ (k : Task) (rest : ℕ) (o₁ m₁ c₁ : List ℕ) (is : k ≡ rows_task letters p)
-        (a : Attracts owners sources targets priorities k.letters states k m c m₁ c₁ × Waits owners sources targets priorities k.letters states k left o rest o₁ m₁) where
-      attracts : Attracts owners sources targets priorities letters states (rows_task letters p) m c m₁ c₁
-      attracts = subst (λ (z : Task). Attracts owners sources targets priorities z.letters states z m c m₁ c₁) is a.0
-
-      waits : Waits owners sources targets priorities letters states (rows_task letters p) left o rest o₁ m₁
-      waits = subst (λ (z : Task). Waits owners sources targets priorities z.letters states z left o rest o₁ m₁) is a.1
+      waits : Waits owners sources targets priorities letters states (rows_task p) left o rest o₁ m₁
+      waits = subst (λ (z : Task). Waits owners sources targets priorities letters states z left o rest o₁ m₁) is a.1
 
       abbrev turn : Turn
       turn = record {
@@ -82,7 +74,7 @@ module _ (owners sources targets priorities : List ℕ) (letters states p : ℕ)
       going-arena = turn-arena turn
 
       pub going-listed : Lists (live states m₁) rest o₁
-      going-listed = lists-same (from_of owners sources targets priorities letters states (rows_task letters p) m₁) (live states m₁) rest o₁ (λ s. sym (live-waits states m₁ s)) waits.listed
+      going-listed = lists-same (from_of owners sources targets priorities letters states (rows_task p) m₁) (live states m₁) rest o₁ (λ s. sym (live-waits states m₁ s)) waits.listed
 
       module _ (rows : Rows owners sources targets priorities letters states) (m₂ c₂ o₂ : List ℕ)
           (b : SolvedAt owners sources targets priorities letters states (p + 1) m₁ c₁ m₂ c₂ × Rearranged rest o₁ o₂) where

@@ -1,54 +1,26 @@
 -- What the steps of a turn ask for, and what they come to, over the values that the code has. Assumes nothing.
-use Prim.Native.Nat.{ℕ, ◌+◌, ◌*◌, ◌≤◌, ◌<◌}
+use Prim.Native.Nat.{ℕ, ◌+◌, ◌≤◌, ◌<◌}
 use native.Mathlib.Omega.{arith}
 use native.Mathlib.Decide.{dec_lt}
-use mathlib.Core.Path.{◌≡◌, refl, sym, ap, ◌∙◌, subst}
+use mathlib.Core.Path.{◌≡◌, sym, ◌∙◌, subst}
 use mathlib.Core.Logic.{◌⊎◌, inl, inr, ◌≢◌}
-use mathlib.Core.Bool.{Bool, true, false, not, not-not}
+use mathlib.Core.Bool.{true, not}
 use mathlib.Core.List.{List}
 use lib.Dec.{eqb, ltb}
 use lib.ListN.{length, get_or}
 use borrow.Author.Tests.{lt-ltb}
 use Rattle.lists.proofs.Bools.{eqb≡, and_l, and_r, both, or_cases, lt-true}
 use Rattle.games.specs.Games.{serves}
-use Rattle.orders.specs.Orders.{Among, Lists, Rearranged, marked, Gathered, Painted}
+use Rattle.orders.specs.Orders.{Among, Lists, Rearranged, marked, Gathered}
 use Rattle.orders.proofs.Orders.{order-of-order, wider-order, inside-moved, lists-same, in-front}
 use Rattle.attracting.specs.declared.Task.{Task}
-use Rattle.attracting.specs.Attracting.{waiting, Apart, Rows, from_of, Attracts, Waits}
+use Rattle.attracting.specs.Attracting.{waiting, Apart, from_of}
 use Rattle.holding.specs.declared.Hold.{Hold}
 use Rattle.holding.specs.Holding.{Released}
-use Rattle.levels.specs.Levels.{won_mark, taken_mark, live, lost_task, hold_of, held_task, Turning, Loses, Holds, Turns, all_own, some_lost}
-use Rattle.levels.proofs.Marks.{lost-apart, held-apart, won-low, won-high, live_state, live-mark, mark-live, live-waits}
+use Rattle.levels.specs.Levels.{won_mark, taken_mark, live, lost_task, hold_of, held_task, Turning, Loses, Holds, Turns, some_lost}
+use Rattle.levels.proofs.Marks.{held-apart, won-low, won-high, live_state, live-mark, mark-live, live-waits}
 
 -- ---- marks and tasks
-pub won-true : (p : ℕ) (plant : Bool) → plant ≡ true → 4 * p + 2 ≡ won_mark p plant
-won-true p plant e = rw e refl
-
-pub won-false : (p : ℕ) (plant : Bool) → plant ≡ false → 4 * p + 1 ≡ won_mark p plant
-won-false p plant e = rw e refl
-
-pub task-plant : (letters p : ℕ) (plant j : Bool) (floor live also to : ℕ) (rows : Bool) → plant ≡ j
-    → ◌≡◌ {A = Task} (record { letters = letters; level = p; plant = plant; floor = floor; live = live; also = also; to = to; rows = rows })
-    (record { letters = letters; level = p; plant = j; floor = floor; live = live; also = also; to = to; rows = rows })
-task-plant letters p plant j floor live also to rows e = ap (λ (z : Bool). record { letters = letters; level = p; plant = z; floor = floor; live = live; also = also; to = to; rows = rows }) e
-
-pub lost-is : (letters p : ℕ) (plant : Bool) (also to : ℕ) → plant ≡ serves p → also ≡ won_mark (p + 1) plant → to ≡ won_mark (p + 1) (not plant)
-    → ◌≡◌ {A = Task} (record { letters = letters; level = p; plant = not plant; floor = taken_mark p; live = taken_mark p; also = also; to = to; rows = false }) (lost_task letters p)
-lost-is letters p plant also to e f g = λ i. record {
-  letters = letters;
-  level = p;
-  plant = not (e i);
-  floor = taken_mark p;
-  live = taken_mark p;
-  also = (f ∙ ap (won_mark (p + 1)) e) i;
-  to = (g ∙ ap (λ (z : Bool). won_mark (p + 1) (not z)) e) i;
-  rows = false;
-}
-
-pub hold-is : (letters p held : ℕ) (plant j : Bool) → plant ≡ j
-    → ◌≡◌ {A = Hold} (record { letters = letters; level = p; plant = plant; held = held }) (record { letters = letters; level = p; plant = j; held = held })
-hold-is letters p held plant j e = ap (λ (z : Bool). record { letters = letters; level = p; plant = z; held = held }) e
-
 -- ---- a list of states that are painted
 pub paint-asks : (states n r : ℕ) (o o' : List ℕ) (size : ℕ) → r ≤ n → n ≤ length o → ((i : ℕ) → i < n → get_or o i 0 < states) → Rearranged r o o' → states ≤ size
     → (n ≤ length o') × ((i : ℕ) → i < n → get_or o' i 0 < size)
@@ -74,42 +46,22 @@ marks-few-more h e f q = omega arith
 pub le_trans : {a b d : ℕ} → a ≤ b → b ≤ d → a ≤ d
 le_trans h l = omega arith
 
-pub hold-rows : (owners sources targets priorities : List ℕ) (letters states p : ℕ) (g : Hold) → g ≡ hold_of letters p → Rows owners sources targets priorities letters states
-    → Rows owners sources targets priorities g.letters states
-hold-rows owners sources targets priorities letters states p g e rows = subst (λ (z : Hold). Rows owners sources targets priorities z.letters states) (sym e) rows
-
 module _ (owners sources targets priorities : List ℕ) (letters states p : ℕ) (small : p ≤ 32) where
   -- ---- the other player takes its own
   -- what is asked of an attraction
   abbrev pub Asks : Task → List ℕ → ℕ → List ℕ → Type 0
-  Asks k m n o = Rows owners sources targets priorities k.letters states × Apart k × Lists (from_of owners sources targets priorities k.letters states k m) n o
-
-  pub lost-asks : (k : Task) (m : List ℕ) (n : ℕ) (o : List ℕ) → k ≡ lost_task letters p → Rows owners sources targets priorities letters states
-      → Lists (from_of owners sources targets priorities letters states (lost_task letters p) m) n o → Asks k m n o
-  lost-asks k m n o e rows l = subst (λ (z : Task). Asks z m n o) (sym e) (rows, lost-apart letters p, l)
-
-  pub loses : (k : Task) (theirs n kept : ℕ) (o m c : List ℕ) (rest : ℕ) (o' m₁ m₂ m' c' : List ℕ) → k ≡ lost_task letters p → theirs ≡ won_mark p k.plant
-      → Attracts owners sources targets priorities k.letters states k m c m₁ c' × Waits owners sources targets priorities k.letters states k kept o rest o' m₁
-      → Painted theirs n o' m₁ m₂ → Painted k.live rest o' m₂ m' → Loses owners sources targets priorities letters states p n kept o m c rest o' m' c'
-  loses k theirs n kept o m c rest o' m₁ m₂ m' c' e f x y z = record {
-    m₁ = m₁;
-    m₂ = m₂;
-    attracts = subst (λ (t : Task). Attracts owners sources targets priorities t.letters states t m c m₁ c') e x.0;
-    waits = subst (λ (t : Task). Waits owners sources targets priorities t.letters states t kept o rest o' m₁) e x.1;
-    theirs = subst (λ (b : ℕ). Painted b n o' m₁ m₂) (f ∙ ap (λ (t : Task). won_mark p t.plant) e) y;
-    held = subst (λ (t : Task). Painted t.live rest o' m₂ m') e z;
-  }
+  Asks k m n o = Apart k × Lists (from_of owners sources targets priorities letters states k m) n o
 
   pub loses-long : (n kept : ℕ) (o m c : List ℕ) (rest : ℕ) (o' m' c' : List ℕ) → Loses owners sources targets priorities letters states p n kept o m c rest o' m' c'
       → (length m' ≡ length m) × (length c' ≡ length c)
   loses-long n kept o m c rest o' m' c' l = (l.held.long ∙ l.theirs.long ∙ l.attracts.so_far.marks_long, l.attracts.so_far.choices_long)
 
   -- ---- what is still held
-  held-lists : (rest : ℕ) (o m c : List ℕ) (freed : ℕ) (o₁ m₁ : List ℕ) → Released owners sources targets priorities letters (hold_of letters p) rest o m c freed o₁ m₁ → rest ≤ length o
+  held-lists : (rest : ℕ) (o m c : List ℕ) (freed : ℕ) (o₁ m₁ : List ℕ) → Released owners sources targets priorities letters (hold_of p) rest o m c freed o₁ m₁ → rest ≤ length o
       → ((i : ℕ) → i < rest → get_or o i 0 < states) → ((s : ℕ) → s < states → get_or m s 0 ≢ 255)
-      → Lists (from_of owners sources targets priorities letters states (held_task letters p) m₁) freed o₁
+      → Lists (from_of owners sources targets priorities letters states (held_task p) m₁) freed o₁
   held-lists rest o m c freed o₁ m₁ d long inside none =
-      lists-same (live states m₁) (from_of owners sources targets priorities letters states (held_task letters p) m₁) freed o₁ (live-waits states m₁) (record {
+      lists-same (live states m₁) (from_of owners sources targets priorities letters states (held_task p) m₁) freed o₁ (live-waits states m₁) (record {
         long = omega (arith, d.few, d.moved.long);
         each = λ i h. mark-live states m₁ (get_or o₁ i 0) (inside-moved rest states o o₁ d.moved inside i (omega (arith, d.few))) (d.live i h);
         all = λ s e. all s (live_state states m₁ s e) (live-mark states m₁ s e) (d.each s);
@@ -119,37 +71,17 @@ module _ (owners sources targets priorities : List ℕ) (letters states p : ℕ)
       all s h e (inl q) = absurd (none s h (sym q ∙ e))
       all s h e (inr q) = q
 
-  pub held_asks : (k : Task) (g : Hold) (rest : ℕ) (o m c : List ℕ) (freed : ℕ) (o₁ m₁ : List ℕ) → k ≡ held_task letters p → g ≡ hold_of letters p → Rows owners sources targets priorities letters states
-      → Released owners sources targets priorities g.letters g rest o m c freed o₁ m₁ → rest ≤ length o → ((i : ℕ) → i < rest → get_or o i 0 < states)
+  pub held_asks : (k : Task) (g : Hold) (rest : ℕ) (o m c : List ℕ) (freed : ℕ) (o₁ m₁ : List ℕ) → k ≡ held_task p → g ≡ hold_of p → Released owners sources targets priorities letters g rest o m c freed o₁ m₁ → rest ≤ length o → ((i : ℕ) → i < rest → get_or o i 0 < states)
       → ((s : ℕ) → s < states → get_or m s 0 ≢ 255) → Asks k m₁ freed o₁
-  held_asks k g rest o m c freed o₁ m₁ e f rows d long inside none =
+  held_asks k g rest o m c freed o₁ m₁ e f d long inside none =
       subst (λ (z : Task). Asks z m₁ freed o₁) (sym e) (
-        rows,
-        held-apart letters p small,
-        held-lists rest o m c freed o₁ m₁ (subst (λ (z : Hold). Released owners sources targets priorities z.letters z rest o m c freed o₁ m₁) f d) long inside none,
+        held-apart p small,
+        held-lists rest o m c freed o₁ m₁ (subst (λ (z : Hold). Released owners sources targets priorities letters z rest o m c freed o₁ m₁) f d) long inside none,
       )
-
-  pub holds : (k : Task) (g : Hold) (own rest : ℕ) (o m c : List ℕ) (freed : ℕ) (o₁ m₁ : List ℕ) (again : ℕ) (o' m₂ m₃ m' c' : List ℕ)
-      → k ≡ held_task letters p → g ≡ hold_of letters p → own ≡ won_mark p k.plant
-      → Released owners sources targets priorities g.letters g rest o m c freed o₁ m₁
-      → Attracts owners sources targets priorities k.letters states k m₁ c m₂ c' × Waits owners sources targets priorities k.letters states k freed o₁ again o' m₂
-      → Painted own rest o' m₂ m₃ → Painted 255 again o' m₃ m' → Holds owners sources targets priorities letters states p rest o m c again o' m' c'
-  holds k g own rest o m c freed o₁ m₁ again o' m₂ m₃ m' c' e f w d x y z = record {
-    o₁ = o₁;
-    m₁ = m₁;
-    m₂ = m₂;
-    m₃ = m₃;
-    freed = freed;
-    released = subst (λ (t : Hold). Released owners sources targets priorities t.letters t rest o m c freed o₁ m₁) f d;
-    attracts = subst (λ (t : Task). Attracts owners sources targets priorities t.letters states t m₁ c m₂ c') e x.0;
-    waits = subst (λ (t : Task). Waits owners sources targets priorities t.letters states t freed o₁ again o' m₂) e x.1;
-    own = subst (λ (b : ℕ). Painted b rest o' m₂ m₃) (w ∙ ap (λ (t : Task). won_mark p t.plant) e) y;
-    remains = z;
-  }
 
   -- ---- a turn
   module _ (n : ℕ) (o m : List ℕ) (x : Turning owners sources targets priorities letters states p n o m) where
-    waiting-high : (a : ℕ) → waiting (lost_task letters p) a ≡ true → taken_mark p ≤ a
+    waiting-high : (a : ℕ) → waiting (lost_task p) a ≡ true → taken_mark p ≤ a
     waiting-high a e = go (or_cases (eqb a (taken_mark p)) (eqb a (won_mark (p + 1) (serves p))) e)
       where
         go : (eqb a (taken_mark p) ≡ true) ⊎ (eqb a (won_mark (p + 1) (serves p)) ≡ true) → taken_mark p ≤ a
@@ -157,23 +89,20 @@ module _ (owners sources targets priorities : List ℕ) (letters states p : ℕ)
         go (inr t) = omega (arith, eqb≡ a (won_mark (p + 1) (serves p)) t, won-low (p + 1) (serves p))
 
     -- what was gathered waits for the other player's attraction
-    pub gathered-lists : (k : Task) (kept : ℕ) (o₁ : List ℕ) → k ≡ lost_task letters p → Gathered k.live k.also n m o kept o₁
-        → Lists (from_of owners sources targets priorities letters states (lost_task letters p) m) kept o₁
+    pub gathered-lists : (k : Task) (kept : ℕ) (o₁ : List ℕ) → k ≡ lost_task p → Gathered k.live k.also n m o kept o₁
+        → Lists (from_of owners sources targets priorities letters states (lost_task p) m) kept o₁
     gathered-lists k kept o₁ e d = lists (subst (λ (t : Task). Gathered t.live t.also n m o kept o₁) e d)
       where
-        lists : Gathered (taken_mark p) (won_mark (p + 1) (serves p)) n m o kept o₁ → Lists (from_of owners sources targets priorities letters states (lost_task letters p) m) kept o₁
+        lists : Gathered (taken_mark p) (won_mark (p + 1) (serves p)) n m o kept o₁ → Lists (from_of owners sources targets priorities letters states (lost_task p) m) kept o₁
         lists g = record {
           long = omega (arith, g.few, g.moved.long, x.long);
-          each = λ i h. both (ltb (get_or o₁ i 0) states) (waiting (lost_task letters p) (get_or m (get_or o₁ i 0) 0))
+          each = λ i h. both (ltb (get_or o₁ i 0) states) (waiting (lost_task p) (get_or m (get_or o₁ i 0) 0))
               (lt-ltb (get_or o₁ i 0) states (inside-moved n states o o₁ g.moved x.inside i (omega (arith, g.few)))) (g.front i h);
-          all = λ s u. all s (lt-true s states (and_l (ltb s states) (waiting (lost_task letters p) (get_or m s 0)) u)) (and_r (ltb s states) (waiting (lost_task letters p) (get_or m s 0)) u);
+          all = λ s u. all s (lt-true s states (and_l (ltb s states) (waiting (lost_task p) (get_or m s 0)) u)) (and_r (ltb s states) (waiting (lost_task p) (get_or m s 0)) u);
         }
           where
-            all : (s : ℕ) → s < states → waiting (lost_task letters p) (get_or m s 0) ≡ true → Among o₁ kept s
+            all : (s : ℕ) → s < states → waiting (lost_task p) (get_or m s 0) ≡ true → Among o₁ kept s
             all s h u = in-front (marked (taken_mark p) (won_mark (p + 1) (serves p)) m) n kept o₁ g.others s u (g.moved.forth s (x.marked_in s h (waiting-high (get_or m s 0) u)))
-
-    pub gather-asks : (size : ℕ) → states ≤ size → (n ≤ length o) × ((i : ℕ) → i < n → get_or o i 0 < size)
-    gather-asks size le = (x.long, λ i h. omega (arith, x.inside i h))
 
     pub lose-asks : (a b kept : ℕ) (o₁ : List ℕ) → Gathered a b n m o kept o₁ → (kept ≤ n) × (n ≤ length o₁) × ((i : ℕ) → i < n → get_or o₁ i 0 < states)
     lose-asks a b kept o₁ g = (g.few, omega (arith, g.moved.long, x.long), inside-moved n states o o₁ g.moved x.inside)
@@ -189,7 +118,7 @@ module _ (owners sources targets priorities : List ℕ) (letters states p : ℕ)
         → (s : ℕ) → s < states → get_or m' s 0 ≢ 255
     none-live-yet kept o₁ c rest o' m' c' l s h = held (l.held.each s)
       where
-        first : (get_or l.m₁ s 0 ≡ get_or m s 0) ⊎ ((from_of owners sources targets priorities letters states (lost_task letters p) m s ≡ true) × (get_or l.m₁ s 0 ≡ won_mark (p + 1) (not (serves p))))
+        first : (get_or l.m₁ s 0 ≡ get_or m s 0) ⊎ ((from_of owners sources targets priorities letters states (lost_task p) m s ≡ true) × (get_or l.m₁ s 0 ≡ won_mark (p + 1) (not (serves p))))
             → get_or l.m₁ s 0 ≢ 255
         first (inl e) = λ z. x.none_live s h (sym e ∙ z)
         first (inr e) = λ z. absurd (omega (arith, e.1, z, won-high (p + 1) (not (serves p))))
@@ -202,14 +131,7 @@ module _ (owners sources targets priorities : List ℕ) (letters states p : ℕ)
         held (inl e) = λ z. absurd (omega (arith, e, z))
         held (inr e) = λ z. theirs (l.theirs.each s) (sym e ∙ z)
 
-    pub turns-own : (k : Task) (kept own : ℕ) (c o' m' : List ℕ) → k ≡ lost_task letters p → kept ≡ n → own ≡ won_mark p (not k.plant)
-        → Gathered k.live k.also n m o kept o' → Painted own n o' m m'
-        → Turns owners sources targets priorities letters states p n o m c 0 o' m' c
-    turns-own k kept own c o' m' e f w g y =
-        all_own refl (subst (λ (z : ℕ). Gathered (taken_mark p) (won_mark (p + 1) (serves p)) n m o z o') f (subst (λ (t : Task). Gathered t.live t.also n m o kept o') e g))
-        (subst (λ (b : ℕ). Painted b n o' m m') (w ∙ ap (λ (t : Task). won_mark p (not t.plant)) e ∙ ap (won_mark p) (not-not (serves p))) y) refl
-
-    pub turns-lost : (k : Task) (kept rest : ℕ) (c o₁ o₂ m₁ c₁ : List ℕ) (again : ℕ) (o' m' c' : List ℕ) → k ≡ lost_task letters p → kept ≢ n → Gathered k.live k.also n m o kept o₁
+    pub turns-lost : (k : Task) (kept rest : ℕ) (c o₁ o₂ m₁ c₁ : List ℕ) (again : ℕ) (o' m' c' : List ℕ) → k ≡ lost_task p → kept ≢ n → Gathered k.live k.also n m o kept o₁
         → Loses owners sources targets priorities letters states p n kept o₁ m c rest o₂ m₁ c₁ → Holds owners sources targets priorities letters states p rest o₂ m₁ c₁ again o' m' c'
         → Turns owners sources targets priorities letters states p n o m c again o' m' c'
     turns-lost k kept rest c o₁ o₂ m₁ c₁ again o' m' c' e f g l h =

@@ -1,104 +1,92 @@
 // The winners of the game of row tables, and letters that win: Zielonka's recursion over the priorities, in place. The table of winners holds marks on the way,
-// and an order of the states has those of the arena in front. A game is four tables, and its states are walked by the order, the marks and the letters, so a
-// function that hands on all of them has nine parameters or more.
+// and an order of the states has those of the arena in front.
 #![tactic(auto)]
 
 ghost use Rattle.std.specs.Prelude.{◌≡◌, ◌≢◌, ℕ, ◌+◌, ◌*◌, ◌≤◌, ◌<◌, length, get_or};
 ghost use Rattle.games.specs.Games.{serves};
 ghost use Rattle.games.proofs.Regions.{Arena};
 ghost use Rattle.orders.specs.Orders.{Lists, Rearranged};
-ghost use Rattle.attracting.specs.Attracting.{Rows, table_game, from_of};
+ghost use Rattle.attracting.specs.Attracting.{table_game, from_of};
 ghost use Rattle.levels.specs.Levels.{won_mark, live, Headed, rows_task, lost_task, hold_of, held_task, SolvedAt, Turning, Loses, Holds, Turns};
 
-use attracting::Task;
+use attracting::{Game, Task};
 use holding::Hold;
 
-// A level of the recursion, in a game with so many letters.
-#[derive(Clone, Copy)]
+// A level of the recursion.
+#[derive(Clone, Copy, Debug, PartialEq, Eq)]
 pub struct Level {
-    pub letters: usize,
     pub at: u8,
+    pub ghost small: { at ≤ 32 },
 }
 
-// Whether a priority serves the plant.
-fn is_odd(priority: u8) -> bool
-    ensures { result ≡ serves priority }
-{
-    priority % 2 == 1
-}
-
-// The mark of the states that a player has won at a level.
+// The mark of the states that a player has won at a level. Marks are bytes of the table of winners, which the C caller lends: so they are numbers.
 fn won_mark(level: u8, plant: bool) -> u8
     requires { level ≤ 33 }
     ensures { result ≡ won_mark level plant }
 {
-    if plant {
-        return 4 * level + 2;
-    }
-    4 * level + 1
+    4 * level + 1 + u8::from(plant)
 }
 
-fn rows_task(l: Level) -> Task
-    requires { l.at ≤ 32 }
-    ensures { result ≡ rows_task l.letters l.at }
-{
-    let taken = 4 * l.at + 3;
-    Task {
-        letters: l.letters,
-        level: l.at,
-        plant: is_odd(l.at),
-        floor: taken,
-        live: 255,
-        also: 255,
-        to: taken,
-        rows: true,
+impl Level {
+    // Whether it serves the plant.
+    fn is_odd(self) -> bool
+        ensures { result ≡ serves self.at }
+    {
+        self.at % 2 == 1
     }
-}
 
-fn lost_task(l: Level) -> Task
-    requires { l.at ≤ 32 }
-    ensures { result ≡ lost_task l.letters l.at }
-{
-    let plant = is_odd(l.at);
-    let taken = 4 * l.at + 3;
-    Task {
-        letters: l.letters,
-        level: l.at,
-        plant: !plant,
-        floor: taken,
-        live: taken,
-        also: won_mark(l.at + 1, plant),
-        to: won_mark(l.at + 1, !plant),
-        rows: false,
+    // What is attracted to its rows.
+    fn rows_task(self) -> Task
+        ensures { result ≡ rows_task self.at }
+    {
+        let taken = 4 * self.at + 3;
+        Task {
+            level: self.at,
+            plant: self.is_odd(),
+            floor: taken,
+            live: 255,
+            also: 255,
+            to: taken,
+            rows: true,
+        }
     }
-}
 
-fn held_task(l: Level) -> Task
-    requires { l.at ≤ 32 }
-    ensures { result ≡ held_task l.letters l.at }
-{
-    let taken = 4 * l.at + 3;
-    Task {
-        letters: l.letters,
-        level: l.at,
-        plant: is_odd(l.at),
-        floor: taken,
-        live: 255,
-        also: 255,
-        to: taken,
-        rows: false,
+    // What is attracted to the states that the other player has won above it.
+    fn lost_task(self) -> Task
+        ensures { result ≡ lost_task self.at }
+    {
+        let plant = self.is_odd();
+        let taken = 4 * self.at + 3;
+        Task {
+            level: self.at,
+            plant: !plant,
+            floor: taken,
+            live: taken,
+            also: won_mark(self.at + 1, plant),
+            to: won_mark(self.at + 1, !plant),
+            rows: false,
+        }
     }
-}
 
-fn hold_of(l: Level) -> Hold
-    requires { l.at ≤ 32 }
-    ensures { result ≡ hold_of l.letters l.at }
-{
-    Hold {
-        letters: l.letters,
-        level: l.at,
-        plant: is_odd(l.at),
-        held: 4 * l.at + 3,
+    // What is attracted to the states that are held.
+    fn held_task(self) -> Task
+        ensures { result ≡ held_task self.at }
+    {
+        Task {
+            rows: false,
+            ..self.rows_task()
+        }
+    }
+
+    // Who holds.
+    fn hold_of(self) -> Hold
+        ensures { result ≡ hold_of self.at }
+    {
+        Hold {
+            level: self.at,
+            plant: self.is_odd(),
+            held: 4 * self.at + 3,
+        }
     }
 }
 
@@ -106,27 +94,20 @@ fn hold_of(l: Level) -> Hold
 // are left.
 fn lose(
     l: Level,
-    owners: &[u8],
-    sources: &[u8],
-    targets: &[u16],
-    priorities: &[u8],
+    g: &Game<'_>,
     n: usize,
     kept: usize,
     order: &mut [u16],
     marks: &mut [u8],
     choices: &mut [u8],
 ) -> usize
-    requires rows { Rows owners.now sources.now targets.now priorities.now l.letters (length sources.now) }
-    requires small { l.at ≤ 32 }
-    requires long { (length sources.now ≤ length marks.old) × (length sources.now ≤ length choices.old) }
-    requires arena { (kept ≤ n) × (n ≤ length order.old) × ((i : ℕ) → i < n → get_or order.old i 0 < length sources.now) }
-    requires lists { Lists (from_of owners.now sources.now targets.now priorities.now l.letters (length sources.now) (lost_task l.letters l.at) marks.old) kept order.old }
-    ensures { Loses owners.now sources.now targets.now priorities.now l.letters (length sources.now) l.at n kept order.old marks.old choices.old result order.new marks.new choices.new }
+    requires long { (length g.now.sources.now ≤ length marks.old) × (length g.now.sources.now ≤ length choices.old) }
+    requires arena { (kept ≤ n) × (n ≤ length order.old) × ((i : ℕ) → i < n → get_or order.old i 0 < length g.now.sources.now) }
+    requires lists { Lists (from_of g.now.owners.now g.now.sources.now g.now.targets.now g.now.priorities.now g.now.letters (length g.now.sources.now) (lost_task l.at) marks.old) kept order.old }
+    ensures { Loses g.now.owners.now g.now.sources.now g.now.targets.now g.now.priorities.now g.now.letters (length g.now.sources.now) l.at n kept order.old marks.old choices.old result order.new marks.new choices.new }
 {
-    let k = lost_task(l);
-    let rest = attracting::attract(
-        k, owners, sources, targets, priorities, kept, order, marks, choices,
-    );
+    let k = l.lost_task();
+    let rest = attracting::attract(k, g, kept, order, marks, choices);
     let theirs = won_mark(l.at, k.plant);
     orders::paint(theirs, n, order, marks);
     orders::paint(k.live, rest, order, marks);
@@ -136,37 +117,20 @@ fn lose(
 // What the player whom the level serves still holds of the first `rest` states, and attracts to that, is its own: how many remain.
 fn hold(
     l: Level,
-    owners: &[u8],
-    sources: &[u8],
-    targets: &[u16],
-    priorities: &[u8],
+    g: &Game<'_>,
     rest: usize,
     order: &mut [u16],
     marks: &mut [u8],
     choices: &mut [u8],
 ) -> usize
-    requires rows { Rows owners.now sources.now targets.now priorities.now l.letters (length sources.now) }
-    requires small { l.at ≤ 32 }
-    requires long { (length sources.now ≤ length marks.old) × (length sources.now ≤ length choices.old) }
-    requires arena { (rest ≤ length order.old) × ((i : ℕ) → i < rest → get_or order.old i 0 < length sources.now) }
-    requires by_index { (s : ℕ) → s < length sources.now → get_or marks.old s 0 ≢ 255 }
-    ensures { Holds owners.now sources.now targets.now priorities.now l.letters (length sources.now) l.at rest order.old marks.old choices.old result order.new marks.new choices.new }
+    requires long { (length g.now.sources.now ≤ length marks.old) × (length g.now.sources.now ≤ length choices.old) }
+    requires arena { (rest ≤ length order.old) × ((i : ℕ) → i < rest → get_or order.old i 0 < length g.now.sources.now) }
+    requires by_index { (s : ℕ) → s < length g.now.sources.now → get_or marks.old s 0 ≢ 255 }
+    ensures { Holds g.now.owners.now g.now.sources.now g.now.targets.now g.now.priorities.now g.now.letters (length g.now.sources.now) l.at rest order.old marks.old choices.old result order.new marks.new choices.new }
 {
-    let freed = holding::release(
-        hold_of(l),
-        owners,
-        sources,
-        targets,
-        priorities,
-        rest,
-        order,
-        marks,
-        choices,
-    );
-    let k = held_task(l);
-    let again = attracting::attract(
-        k, owners, sources, targets, priorities, freed, order, marks, choices,
-    );
+    let freed = holding::release(l.hold_of(), g, rest, order, marks, choices);
+    let k = l.held_task();
+    let again = attracting::attract(k, g, freed, order, marks, choices);
     let own = won_mark(l.at, k.plant);
     orders::paint(own, rest, order, marks);
     orders::paint(255, again, order, marks);
@@ -177,78 +141,48 @@ fn hold(
 // all is the player's whom the level serves.
 fn turn(
     l: Level,
-    owners: &[u8],
-    sources: &[u8],
-    targets: &[u16],
-    priorities: &[u8],
+    g: &Game<'_>,
     n: usize,
     order: &mut [u16],
     marks: &mut [u8],
     choices: &mut [u8],
 ) -> usize
-    requires rows { Rows owners.now sources.now targets.now priorities.now l.letters (length sources.now) }
-    requires small { l.at ≤ 32 }
-    requires long { (length sources.now ≤ length marks.old) × (length sources.now ≤ length choices.old) }
-    requires turning { Turning owners.now sources.now targets.now priorities.now l.letters (length sources.now) l.at n order.old marks.old }
-    ensures { Turns owners.now sources.now targets.now priorities.now l.letters (length sources.now) l.at n order.old marks.old choices.old result order.new marks.new choices.new }
+    requires long { (length g.now.sources.now ≤ length marks.old) × (length g.now.sources.now ≤ length choices.old) }
+    requires turning { Turning g.now.owners.now g.now.sources.now g.now.targets.now g.now.priorities.now g.now.letters (length g.now.sources.now) l.at n order.old marks.old }
+    ensures { Turns g.now.owners.now g.now.sources.now g.now.targets.now g.now.priorities.now g.now.letters (length g.now.sources.now) l.at n order.old marks.old choices.old result order.new marks.new choices.new }
 {
-    let k = lost_task(l);
+    let k = l.lost_task();
     let kept = orders::gather(k.live, k.also, n, order, marks);
     if kept == n {
         let own = won_mark(l.at, !k.plant);
         orders::paint(own, n, order, marks);
         return 0;
     }
-    let rest = lose(
-        l, owners, sources, targets, priorities, n, kept, order, marks, choices,
-    );
-    hold(
-        l, owners, sources, targets, priorities, rest, order, marks, choices,
-    )
+    let rest = lose(l, g, n, kept, order, marks, choices);
+    hold(l, g, rest, order, marks, choices)
 }
 
 // The first n states, which are those that are live, solved on rows of the level and above: each is marked by its winner at this level, and has a letter where its
 // owner wins.
 pub fn solve(
     l: Level,
-    owners: &[u8],
-    sources: &[u8],
-    targets: &[u16],
-    priorities: &[u8],
+    g: &Game<'_>,
     n: usize,
     order: &mut [u16],
     marks: &mut [u8],
     choices: &mut [u8],
 )
-    requires rows { Rows owners.now sources.now targets.now priorities.now l.letters (length sources.now) }
-    requires levels { (l.at ≤ 10) × ((s a : ℕ) → s < length sources.now → a < l.letters → get_or priorities.now (s * l.letters + a) 0 < 10) }
-    requires long { (length sources.now ≤ length marks.old) × (length sources.now ≤ length choices.old) }
-    requires arena { Headed (length sources.now) l.at marks.old × Arena (table_game owners.now sources.now targets.now priorities.now l.letters (length sources.now)) l.at (live (length sources.now) marks.old) }
-    requires lists { Lists (live (length sources.now) marks.old) n order.old }
-    ensures { SolvedAt owners.now sources.now targets.now priorities.now l.letters (length sources.now) l.at marks.old choices.old marks.new choices.new × Rearranged n order.old order.new }
+    requires levels { (l.at ≤ 10) × ((s a : ℕ) → s < length g.now.sources.now → a < g.now.letters → get_or g.now.priorities.now (s * g.now.letters + a) 0 < 10) }
+    requires long { (length g.now.sources.now ≤ length marks.old) × (length g.now.sources.now ≤ length choices.old) }
+    requires arena { Headed (length g.now.sources.now) l.at marks.old × Arena (table_game g.now.owners.now g.now.sources.now g.now.targets.now g.now.priorities.now g.now.letters (length g.now.sources.now)) l.at (live (length g.now.sources.now) marks.old) }
+    requires lists { Lists (live (length g.now.sources.now) marks.old) n order.old }
+    ensures { SolvedAt g.now.owners.now g.now.sources.now g.now.targets.now g.now.priorities.now g.now.letters (length g.now.sources.now) l.at marks.old choices.old marks.new choices.new × Rearranged n order.old order.new }
 {
     let mut left = n;
     while 0 < left {
-        let rest = attracting::attract(
-            rows_task(l),
-            owners,
-            sources,
-            targets,
-            priorities,
-            left,
-            order,
-            marks,
-            choices,
-        );
-        let above = Level {
-            letters: l.letters,
-            at: l.at + 1,
-        };
-        solve(
-            above, owners, sources, targets, priorities, rest, order, marks, choices,
-        );
-        left = turn(
-            l, owners, sources, targets, priorities, left, order, marks, choices,
-        );
+        let rest = attracting::attract(l.rows_task(), g, left, order, marks, choices);
+        let above = Level { at: l.at + 1 };
+        solve(above, g, rest, order, marks, choices);
+        left = turn(l, g, left, order, marks, choices);
     }
 }

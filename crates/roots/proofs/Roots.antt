@@ -6,7 +6,7 @@ use native.Mathlib.Decide.{dec_lt}
 use native.Mathlib.Nat.{mul-le-mul_left, mul-le-mul_right}
 use mathlib.Core.Path.{◌≡◌, refl, sym, ap, ap₂, ◌∙◌, subst}
 use mathlib.Core.Logic.{◌≢◌}
-use mathlib.Core.Bool.{Bool, true, false, cond, true≢false}
+use mathlib.Core.Bool.{Bool, true, false, cond}
 use mathlib.Core.List.{List, [], Memᴰ}
 use lib.ListN.{length, get_or, take, length-append, get_or-eq_default}
 use lib.Seq.{sets, take_all, length-take-le, length-sets}
@@ -36,7 +36,9 @@ use Rattle.listing.specs.Listing.{PartsOf, Outcome}
 use Rattle.listing.proofs.Appending.{hue-is}
 use Rattle.trees.specs.Growing.{Places, TreeWritten, RootToWrite, RootWritten}
 use Rattle.trees.proofs.Growing.{RowWritten, row-none, row_more, row-over, row-long}
-use Rattle.roots.specs.Roots.{Space, RootsWritten, ForestWritten}
+use Rattle.std.specs.Prelude.{Ok, Err}
+use Rattle.roots.specs.declared.Progress.{Progress}
+use Rattle.roots.specs.Roots.{Space, RootsWritten, ForestWritten, TreesGrown}
 
 -- ---- the tree of one root
 pub verdict_is : {p : Policy} {states letters : ℕ} {heads out into by : List ℕ} → PartsOf p states letters heads out into by → (family : List Bool) → family ≡ p.family → (m used : ℕ) → used ≡ table_colours by m
@@ -236,9 +238,25 @@ space-of n k ea eah er erh es h g = record {
 }
 
 -- space that is not enough has fewer places
-pub short : {n : ℕ} {b : Bool} → (4096 ≤ n → b ≡ true) → b ≡ false → n < 4096
-short {n} {b} h e = go (dec_lt n 4096)
+pub short : {n : ℕ} → (4096 ≤ n → ⊥) → n < 4096
+short {n} h = go (dec_lt n 4096)
   where
     go : Dec (n < 4096) → n < 4096
     go (yes l) = l
-    go (no l) = absurd (true≢false (sym (h (omega arith)) ∙ e))
+    go (no l) = absurd (h (omega arith))
+
+-- the answer where all trees are written, or one does not fit; and where the space does no further
+module _ {p : Policy} {places : ℕ} {masks₀ parents₀ masks parents : List ℕ} where
+  pub grown-all : {next : ℕ} → ForestWritten p masks₀ parents₀ masks parents next → TreesGrown p places masks₀ parents₀ masks parents (Ok next)
+  grown-all {next} w = record {
+    finished = λ count e. let same : next ≡ count = cc in subst (λ (n : ℕ). ForestWritten p masks₀ parents₀ masks parents n) same w;
+    unfinished = λ s e. absurd (cc);
+    enough = λ _ s e. cc;
+  }
+
+  pub grown-part : {t : Progress} → RootsWritten p masks₀ parents₀ masks parents t.next t.after → (4096 ≤ places → ⊥) → TreesGrown p places masks₀ parents₀ masks parents (Err t)
+  grown-part {t} w few = record {
+    finished = λ count e. absurd (cc);
+    unfinished = λ s e. let same : t ≡ s = cc in subst (λ (s : Progress). RootsWritten p masks₀ parents₀ masks parents s.next s.after) same w;
+    enough = λ l _ _. few l;
+  }

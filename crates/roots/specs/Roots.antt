@@ -1,5 +1,5 @@
 -- The columns of masks and parents, root by root: what is written so far, what a step gives, and the space that is lent for it.
-use Rattle.std.specs.Prelude.{ℕ, ◌+◌, ◌*◌, ◌≤◌, min, ◌≡◌, true, false, cond, List, length, get_or, take}
+use Rattle.std.specs.Prelude.{ℕ, ◌+◌, ◌*◌, ◌≤◌, min, ◌≡◌, ◌≢◌, cond, List, length, get_or, take, Option, None, Some, Result, Ok, Err}
 use Rattle.std.proofs.lemmas.List.Edits.{sets}
 use Rattle.tables.specs.Tables.{zeros, places}
 use Rattle.policy.specs.declared.Policy.{Policy}
@@ -8,7 +8,6 @@ use Rattle.forest.specs.Subtrees.{row_masks, row_parents}
 use Rattle.siblings.specs.NextRoot.{next_in}
 use Rattle.trees.specs.Growing.{RootWritten}
 use Rattle.roots.specs.declared.Progress.{Progress}
-use Rattle.roots.specs.declared.Grown.{Grown}
 
 -- lists of one length n for the candidates and their colours, and scratch for the records and the positions of the children: of the candidates there are at most 4,096, and a
 -- tree has at most 9 levels
@@ -19,13 +18,13 @@ pub record Space (accepting accepted rejecting rejected scratch : List ℕ) : Ty
   pub rejected_long : length rejected ≡ length accepting
   pub scratch_long : 2 * min (2 * length accepting) 4096 + 9 * length accepting ≤ length scratch
 
--- of the root m: its tree is written from number n on; or the space is too short for listing its candidates, and the tables, masks₀ and parents₀ before, are as they were.
--- With 4,096 places for either list it is not
-pub record TreeGrown (p : Policy) (m n places : ℕ) (masks₀ parents₀ masks parents : List ℕ) (g : Grown) : Type 0 where
-  pub written : g.short ≡ false → RootWritten p m n g.next masks₀ parents₀ masks parents
-  pub masks_same : g.short ≡ true → masks ≡ masks₀
-  pub parents_same : g.short ≡ true → parents ≡ parents₀
-  pub enough : 4096 ≤ places → g.short ≡ false
+-- of the root m: its tree is written from number n on, and g is the number after it; or the space is too short for listing its candidates, and the tables, masks₀ and parents₀
+-- before, are as they were. With 4,096 places for either list it is not
+pub record TreeGrown (p : Policy) (m n places : ℕ) (masks₀ parents₀ masks parents : List ℕ) (g : Option ℕ) : Type 0 where
+  pub written : (next : ℕ) → g ≡ Some next → RootWritten p m n next masks₀ parents₀ masks parents
+  pub masks_same : g ≡ None → masks ≡ masks₀
+  pub parents_same : g ≡ None → parents ≡ parents₀
+  pub enough : 4096 ≤ places → g ≢ None
 
 -- from masks₀ and parents₀, of one length: the trees of the first roots are written, `next` comes after them, and the search for the next root goes on after `after`
 pub record RootsWritten (p : Policy) (masks₀ parents₀ masks parents : List ℕ) (next after : ℕ) : Type 0 where
@@ -45,7 +44,7 @@ pub record ForestWritten (p : Policy) (masks₀ parents₀ masks parents : List 
   pub parents_are : parents ≡ cond (forest_fits p masks₀) (sets parents₀ 0 (node_parents p)) (zeros parents₀)
 
 -- where the trees are done, the forest is written; otherwise a part of it, and with 4,096 places for either list they are done
-pub record TreesGrown (p : Policy) (places : ℕ) (masks₀ parents₀ masks parents : List ℕ) (g : Progress) : Type 0 where
-  pub finished : g.done ≡ true → ForestWritten p masks₀ parents₀ masks parents g.next
-  pub unfinished : g.done ≡ false → RootsWritten p masks₀ parents₀ masks parents g.next g.after
-  pub enough : 4096 ≤ places → g.done ≡ true
+pub record TreesGrown (p : Policy) (places : ℕ) (masks₀ parents₀ masks parents : List ℕ) (g : Result ℕ Progress) : Type 0 where
+  pub finished : (count : ℕ) → g ≡ Ok count → ForestWritten p masks₀ parents₀ masks parents count
+  pub unfinished : (s : Progress) → g ≡ Err s → RootsWritten p masks₀ parents₀ masks parents s.next s.after
+  pub enough : 4096 ≤ places → (s : Progress) → g ≢ Err s

@@ -1,8 +1,9 @@
 -- What the functions that fill in the rows hand to one another: where an edge meets the branch of a leaf, the leaves that share a row, the rows written so far.
-use Rattle.std.specs.Prelude.{ℕ, ◌+◌, ◌*◌, ◌≤◌, ◌<◌, ◌≡◌, ◌⊎◌, Bool, true, List, length, get_or}
+use Rattle.std.specs.Prelude.{ℕ, ◌+◌, ◌*◌, ◌≤◌, ◌<◌, ◌≡◌, ◌⊎◌, Bool, true, false, Option, Some, None, List, length, get_or}
 use Rattle.policy.specs.declared.Policy.{Policy}
 use Rattle.policy.specs.Policies.{edge_of, target_of}
-use Rattle.forest.specs.Forest.{forest, in_root}
+use Rattle.forest.specs.Forest.{forest, in_root, transient_priority}
+use Rattle.rows.specs.declared.Meeting.{Meeting}
 use Rattle.automaton.specs.Automaton.{built, state_at, deepest, lead, leaf_after, priority_after, number, row_target, row_priority, row_targets, row_priorities}
 
 -- where e meets the branch of l: whether it does, the deepest node with e, the child of it that leads to l, the priority met
@@ -11,6 +12,11 @@ pub record Met (p : Policy) (e l : ℕ) (met : Bool) (at child priority : ℕ) :
   pub node_is : met ≡ true → at ≡ deepest (forest p) e l
   pub child_is : met ≡ true → child ≡ lead (forest p) (deepest (forest p) e l) l
   pub priority_is : priority ≡ priority_after (forest p) p e l
+
+-- the same of a meeting: where there is none, no node has e, and the priority is that of an edge in no cycle
+abbrev pub Meets : Policy → ℕ → ℕ → Option Meeting → Type 0
+Meets p e l (Some m) = Met p e l true m.node m.child m.priority
+Meets p e l None = Met p e l false 0 0 (transient_priority p)
 
 -- the row of e from the leaf l: the number of the state led to, and the priority met
 pub record RowFrom (p : Policy) (e l target priority : ℕ) : Type 0 where

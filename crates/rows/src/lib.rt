@@ -2,87 +2,71 @@
 // leaves that share what was found.
 #![tactic(auto)]
 
-ghost use Rattle.std.specs.Prelude.{◌≡◌, true, ◌+◌, ◌*◌, ◌≤◌, ◌<◌, length, get_or};
+ghost use Rattle.std.specs.Prelude.{◌≡◌, ◌+◌, ◌*◌, ◌≤◌, ◌<◌, length, get_or};
 ghost use mathlib.Core.List.{Memᴰ};
 ghost use Rattle.tables.specs.Tables.{padded, Column};
-ghost use Rattle.policy.specs.Policies.{legal, edges, edge_of, source, target_of};
-ghost use Rattle.forest.specs.Forest.{forest, transient_priority};
+ghost use Rattle.policy.specs.declared.Policy.{Policy};
+ghost use Rattle.policy.specs.Policies.{edges, edge_of, source, target_of};
+ghost use Rattle.forest.specs.Forest.{forest};
 ghost use Rattle.automaton.specs.Automaton.{or_else, leaves, built, row_targets, row_priorities, state_leaves};
-ghost use Rattle.automaton.specs.Stages.{first_over, Nodes, node_ends, state_starts};
-ghost use Rattle.rows.specs.Rows.{Met, Shares, SharedBy, RowsWritten};
+ghost use Rattle.automaton.specs.Stages.{first_over, node_ends, state_starts};
+ghost use Rattle.rows.specs.Rows.{Meets, Shares, SharedBy, RowsWritten};
 
-use policy::Policy;
+use automaton::Forest;
+use std::ops::Range;
 
-// A small number as a place.
-fn byte(x: u8) -> usize
-    ensures { result ≡ x }
-{
-    x as usize
-}
-
-// The places from low up to high.
+// What the rows are made from: a legal policy's forest, the ends of its nodes, the `count` built states by leaf, and where those over each policy state begin.
 #[derive(Clone, Copy)]
-struct Span {
-    low: usize,
-    high: usize,
+pub struct States<'a> {
+    pub forest: &'a Forest<'a>,
+    pub ends: &'a [u16],
+    pub leaves: &'a [u16],
+    pub starts: &'a [usize; 17],
+    pub count: usize,
+    ghost ended: { Column (node_ends forest.now.policy.now) ends.now },
+    ghost few: { length (built forest.now.policy.now) ≤ 65535 },
+    ghost leaved: { Column (state_leaves forest.now.policy.now) leaves.now },
+    ghost started: { Column (state_starts forest.now.policy.now) starts.now },
+    ghost counted: { count ≡ length (built forest.now.policy.now) },
 }
 
 // The places of the states over v.
-fn states_over(starts: &[usize; 17], v: usize) -> Span
+fn states_over(starts: &[usize; 17], v: usize) -> Range<usize>
     requires { v < 16 }
-    ensures { (result.low ≡ get_or starts.now v 0) × (result.high ≡ get_or starts.now (v + 1) 0) }
+    ensures { (result.start ≡ get_or starts.now v 0) × (result.end ≡ get_or starts.now (v + 1) 0) }
 {
-    Span {
-        low: starts[v],
-        high: starts[v + 1],
-    }
+    starts[v]..starts[v + 1]
 }
 
-// Where an edge meets the branch of a leaf: whether it does; the deepest node that has it; the child of that node that leads to the leaf, or
-// the node itself where it is the leaf; the node's priority.
+// Where an edge meets the branch of a leaf: the deepest node that has it; the child of that node that leads to the leaf, or the node itself where it is the leaf; the
+// node's priority.
 #[derive(Clone, Copy)]
 struct Meeting {
-    met: bool,
     node: usize,
     child: usize,
     priority: u8,
 }
 
-// From the leaf up to the deepest node that has e. Where no node has it, the priority is that of an edge in no cycle, `transient`.
-fn climb(
-    p: Policy,
-    masks: &[u64],
-    parents: &[u16],
-    node_priorities: &[u8],
-    transient: u8,
-    e: usize,
-    leaf: usize,
-) -> Meeting
-    requires nodes { (legal p ≡ true) × Nodes p masks.now parents.now node_priorities.now }
-    requires place { (e < edges p) × Memᴰ leaf (or_else 65535 (leaves (forest p) p (source p e))) }
-    requires transient { transient ≡ transient_priority p }
-    ensures { Met p e leaf result.met result.node result.child result.priority }
+// From the leaf up to the deepest node that has e, if some node has it.
+fn climb(nodes: &Forest<'_>, e: usize, leaf: usize) -> Option<Meeting>
+    requires { let p : Policy = nodes.now.policy.now in (e < edges p) × Memᴰ leaf (or_else 65535 (leaves (forest p) p (source p e))) }
+    ensures { Meets nodes.now.policy.now e leaf result }
 {
     let mut n = leaf;
     let mut child = leaf;
+    // No parent is 65,535 in the tables, which is the C interface.
     while n != 65535 {
-        if masks::has(masks[n], e) {
-            return Meeting {
-                met: true,
+        if masks::has(nodes.masks[n], e) {
+            return Some(Meeting {
                 node: n,
                 child: child,
-                priority: node_priorities[n],
-            };
+                priority: nodes.priorities[n],
+            });
         }
         child = n;
-        n = tables::wide(parents[n]);
+        n = nodes.parents[n] as usize;
     }
-    Meeting {
-        met: false,
-        node: 0,
-        child: 0,
-        priority: transient,
-    }
+    None
 }
 
 // The row of an edge from every leaf from `from` up to `to`; and the place where the last search ended.
@@ -96,34 +80,34 @@ struct Shared {
 }
 
 // The row of e from a leaf, found among the states over its target, which stand in `over`. What stands below the child that leads to the leaf has the same row; and
-// where no root has e, all leaves have.
+// where no root has e, all leaves have, with the priority of an edge in no cycle.
 fn find(
-    p: Policy,
-    ends: &[u16],
-    entries: &[u16],
+    states: &States<'_>,
     e: usize,
     leaf: usize,
-    m: Meeting,
-    over: Span,
+    met: Option<Meeting>,
+    over: &Range<usize>,
     hint: usize,
 ) -> Shared
-    requires place { (legal p ≡ true) × (e < edges p) × Memᴰ leaf (or_else 65535 (leaves (forest p) p (source p e))) × Met p e leaf m.met m.node m.child m.priority }
-    requires tables { (length (forest p) ≤ 65535) × Column (node_ends p) ends.now × (length (built p) ≤ 65535) × Column (state_leaves p) entries.now × (over.low ≡ first_over p (target_of p e)) × (over.high ≡ first_over p (target_of p e + 1)) }
-    ensures { SharedBy p e leaf result.from result.to result.target result.priority }
+    requires place { let p : Policy = states.now.forest.now.policy.now in (e < edges p) × Memᴰ leaf (or_else 65535 (leaves (forest p) p (source p e))) × Meets p e leaf met }
+    requires over { let p : Policy = states.now.forest.now.policy.now in (over.now.start ≡ first_over p (target_of p e)) × (over.now.end ≡ first_over p (target_of p e + 1)) }
+    ensures { SharedBy states.now.forest.now.policy.now e leaf result.from result.to result.target result.priority }
 {
-    let node = m.node;
-    let child = m.child;
-    let from = over.low;
-    let to = over.high;
-    if !m.met {
+    let entries = states.leaves;
+    let ends = states.ends;
+    let from = over.start;
+    let to = over.end;
+    let Some(m) = met else {
         return Shared {
             from: 0,
             to: 65536,
             target: from as u16,
-            priority: m.priority,
+            priority: states.forest.transient,
             hint: hint,
         };
-    }
+    };
+    let node = m.node;
+    let child = m.child;
     if child == node {
         let own = search::lower_bound(entries, from, to, node, hint);
         return Shared {
@@ -134,7 +118,7 @@ fn find(
             hint: own,
         };
     }
-    let end = tables::wide(ends[child]);
+    let end = ends[child] as usize;
     let after = search::lower_bound(entries, from, to, end, hint);
     if after < to {
         if entries[after] < ends[node] {
@@ -157,137 +141,67 @@ fn find(
     }
 }
 
-// The row of e from a leaf: the last one, where the leaf shares it. Every table that a row depends on is lent, so there are more than eight parameters.
-fn share(
-    p: Policy,
-    masks: &[u64],
-    parents: &[u16],
-    node_priorities: &[u8],
-    transient: u8,
-    ends: &[u16],
-    entries: &[u16],
-    e: usize,
-    leaf: usize,
-    over: Span,
-    last: Shared,
-) -> Shared
-    requires nodes { (legal p ≡ true) × Nodes p masks.now parents.now node_priorities.now × Column (node_ends p) ends.now }
-    requires states { (length (built p) ≤ 65535) × Column (state_leaves p) entries.now }
-    requires place { (e < edges p) × Memᴰ leaf (or_else 65535 (leaves (forest p) p (source p e))) × (over.low ≡ first_over p (target_of p e)) × (over.high ≡ first_over p (target_of p e + 1)) }
-    requires shared { Shares p e last.from last.to last.target last.priority }
-    requires transient { transient ≡ transient_priority p }
-    ensures { SharedBy p e leaf result.from result.to result.target result.priority }
+// The row of e from a leaf: the last one, where the leaf shares it.
+fn share(states: &States<'_>, e: usize, leaf: usize, over: &Range<usize>, last: Shared) -> Shared
+    requires place { let p : Policy = states.now.forest.now.policy.now in (e < edges p) × Memᴰ leaf (or_else 65535 (leaves (forest p) p (source p e))) }
+    requires over { let p : Policy = states.now.forest.now.policy.now in (over.now.start ≡ first_over p (target_of p e)) × (over.now.end ≡ first_over p (target_of p e + 1)) }
+    requires shared { Shares states.now.forest.now.policy.now e last.from last.to last.target last.priority }
+    ensures { SharedBy states.now.forest.now.policy.now e leaf result.from result.to result.target result.priority }
 {
     if (last.from <= leaf) & (leaf < last.to) {
         return last;
     }
-    let m = climb(p, masks, parents, node_priorities, transient, e, leaf);
-    find(p, ends, entries, e, leaf, m, over, last.hint)
+    let met = climb(states.forest, e, leaf);
+    find(states, e, leaf, met, over, last.hint)
 }
 
-// The rows of the edge of a state v and a letter, by ascending leaf: one for each state over v. Every table that a row depends on is lent.
+// The rows of the edge of a state v and a letter, by ascending leaf: one for each state over v. No leaf shares the row begun with: an Option of a row would be asked at each.
 fn fill_edge(
-    p: Policy,
-    heads: &[u8; 64],
-    masks: &[u64],
-    parents: &[u16],
-    node_priorities: &[u8],
-    transient: u8,
-    ends: &[u16],
-    entries: &[u16],
-    starts: &[usize; 17],
+    states: &States<'_>,
     v: usize,
     letter: usize,
     targets: &mut [u16],
     priorities: &mut [u8],
 )
-    requires nodes { (legal p ≡ true) × Nodes p masks.now parents.now node_priorities.now × Column (node_ends p) ends.now }
-    requires states { (length (built p) ≤ 65535) × Column (state_leaves p) entries.now × Column (state_starts p) starts.now }
-    requires edge { (v < p.states) × (letter < p.letters) × (heads.now ≡ p.target) }
-    requires room { (p.letters * length (built p) ≤ length targets.old) × (p.letters * length (built p) ≤ length priorities.old) }
-    requires transient { transient ≡ transient_priority p }
-    ensures { RowsWritten p targets.old priorities.old targets.new priorities.new (edge_of p v letter) (edge_of p v letter + 1) }
+    requires edge { let p : Policy = states.now.forest.now.policy.now in (v < p.states) × (letter < p.letters) }
+    requires room { let p : Policy = states.now.forest.now.policy.now in (p.letters * length (built p) ≤ length targets.old) × (p.letters * length (built p) ≤ length priorities.old) }
+    ensures { let p : Policy = states.now.forest.now.policy.now in RowsWritten p targets.old priorities.old targets.new priorities.new (edge_of p v letter) (edge_of p v letter + 1) }
 {
+    let p = states.forest.policy;
     let letters = p.letters as usize;
     let e = v * letters + letter;
-    let over = states_over(starts, byte(heads[e]));
-    let own = states_over(starts, v);
-    let first = own.low;
-    let end = own.high;
+    let over = states_over(states.starts, p.target[e] as usize);
+    let own = states_over(states.starts, v);
     let mut row = Shared {
         from: 0,
         to: 0,
         target: 0,
         priority: 0,
-        hint: over.low,
+        hint: over.start,
     };
-    for s in first..end {
-        let leaf = tables::wide(entries[s]);
-        row = share(
-            p,
-            masks,
-            parents,
-            node_priorities,
-            transient,
-            ends,
-            entries,
-            e,
-            leaf,
-            over,
-            row,
-        );
+    for s in own.start..own.end {
+        let leaf = states.leaves[s] as usize;
+        row = share(states, e, leaf, &over, row);
         let i = s * letters + letter;
         targets[i] = row.target;
         priorities[i] = row.priority;
     }
 }
 
-// The rows of the `count` built states, edge by edge: by states, and by letters; and 0 past them. Inner layer: the tables that are read are those of a legal policy's nodes
-// and states. Each of them is lent, and so there are more than eight parameters.
-pub fn fill_rows(
-    p: Policy,
-    heads: &[u8; 64],
-    masks: &[u64],
-    parents: &[u16],
-    node_priorities: &[u8],
-    transient: u8,
-    ends: &[u16],
-    leaves: &[u16],
-    starts: &[usize; 17],
-    count: usize,
-    targets: &mut [u16],
-    priorities: &mut [u8],
-)
-    requires nodes { (legal p ≡ true) × Nodes p masks.now parents.now node_priorities.now × Column (node_ends p) ends.now }
-    requires states { (length (built p) ≤ 65535) × Column (state_leaves p) leaves.now × Column (state_starts p) starts.now }
-    requires edges { heads.now ≡ p.target }
-    requires rows { (count ≡ length (built p)) × (p.letters * length (built p) ≤ length targets.old) × (p.letters * length (built p) ≤ length priorities.old) }
-    requires transient { transient ≡ transient_priority p }
-    ensures targets { targets.new ≡ padded (length targets.old) (row_targets p) }
-    ensures priorities { priorities.new ≡ padded (length priorities.old) (row_priorities p) }
+// The rows of the built states, edge by edge: by states, and by letters; and 0 past them. Inner layer: the row tables have a place for each row.
+pub fn fill_rows(states: &States<'_>, targets: &mut [u16], priorities: &mut [u8])
+    requires { let p : Policy = states.now.forest.now.policy.now in (p.letters * length (built p) ≤ length targets.old) × (p.letters * length (built p) ≤ length priorities.old) }
+    ensures targets { targets.new ≡ padded (length targets.old) (row_targets states.now.forest.now.policy.now) }
+    ensures priorities { priorities.new ≡ padded (length priorities.old) (row_priorities states.now.forest.now.policy.now) }
 {
-    let states = p.states as usize;
+    let p = states.forest.policy;
     let letters = p.letters as usize;
-    for v in 0..states {
+    for v in 0..p.states as usize {
         for letter in 0..letters {
-            fill_edge(
-                p,
-                heads,
-                masks,
-                parents,
-                node_priorities,
-                transient,
-                ends,
-                leaves,
-                starts,
-                v,
-                letter,
-                targets,
-                priorities,
-            );
+            fill_edge(states, v, letter, targets, priorities);
         }
     }
-    let rows = count * letters;
-    tables::clear16_past(targets, rows);
-    tables::clear8_past(priorities, rows);
+    let rows = states.count * letters;
+    tables::clear_past(targets, rows);
+    tables::clear_past(priorities, rows);
 }

@@ -1,13 +1,16 @@
 -- Question 8 of running: its five answers, and the number of states that they give. Assumes nothing.
-use Prim.Native.Nat.{ℕ, ◌/◌, ◌%◌, ◌≤◌, ◌<◌}
-use native.Mathlib.Omega.{arith}
-use mathlib.Core.Path.{◌≡◌, refl}
+use Prim.Native.Nat.{ℕ, ◌/◌, ◌%◌, ◌≤◌}
+use mathlib.Core.Path.{◌≡◌, refl, sym, ap}
 use mathlib.Core.Logic.{◌⊎◌, inl, inr}
-use mathlib.Core.Bool.{true, false, ◌&&◌, cond}
+use mathlib.Core.Bool.{true, false, ◌&&◌, cond, false≢true}
 use mathlib.Core.List.{List}
 use lib.Dec.{eqb, leb}
 use lib.ListN.{length}
 use borrow.Author.Tests.{le-leb, eq-eqb}
+use Rattle.std.specs.Prelude.{Result, Ok, Err}
+use Rattle.std.specs.Result.{is_ok, result_unwrap_or}
+use Rattle.refusals.specs.declared.Refusal.{Refusal}
+use Rattle.refusals.specs.declared.Refusal.TheVariants.{Lengths}
 use Rattle.lists.proofs.Bools.{test, and_l, and_r, eqb≡, le-true}
 use Rattle.running.specs.Running.{shaped, row_states, states_of}
 
@@ -43,30 +46,37 @@ module _ (letters : ℕ) (targets priorities : List ℕ) where
   facts-shaped s = simp (le-leb _ _ s.some, le-leb _ _ s.most, eq-eqb _ _ s.same, eq-eqb _ _ s.whole, le-leb _ _ s.few)
 
   -- ---- the number of states
-  pub states-none : (Shaped → ⊥) → 65536 ≡ states_of letters targets priorities
+  abbrev answer : Result ℕ Refusal
+  answer = states_of letters targets priorities
+
+  pub states-none : (Shaped → ⊥) → Err Lengths ≡ answer
   unfolding states_of
   states-none h = go (test (shaped letters targets priorities))
     where
-      go : (shaped letters targets priorities ≡ true) ⊎ (shaped letters targets priorities ≡ false) → 65536 ≡ cond (shaped letters targets priorities) (row_states letters targets priorities) 65536
+      go : (shaped letters targets priorities ≡ true) ⊎ (shaped letters targets priorities ≡ false) → Err Lengths ≡ cond (shaped letters targets priorities) (Ok (row_states letters targets priorities)) (Err Lengths)
       go (inl t) = absurd (h (shaped-facts t))
       go (inr f) = rw f refl
 
-  pub states_some : Shaped → length targets / letters ≡ states_of letters targets priorities
+  pub states_some : Shaped → Ok (length targets / letters) ≡ answer
   unfolding states_of row_states
   states_some s = rw (facts-shaped s) refl
 
-  pub states-shaped : (n : ℕ) → n ≡ states_of letters targets priorities → n ≤ 65535 → (shaped letters targets priorities ≡ true) × (n ≡ row_states letters targets priorities)
+  pub states-shaped : (n : ℕ) → Ok n ≡ answer → (shaped letters targets priorities ≡ true) × (n ≡ row_states letters targets priorities)
   unfolding states_of
-  states-shaped n e l = go (test (shaped letters targets priorities))
+  states-shaped n e = go (test (shaped letters targets priorities))
     where
       go : (shaped letters targets priorities ≡ true) ⊎ (shaped letters targets priorities ≡ false) → (shaped letters targets priorities ≡ true) × (n ≡ row_states letters targets priorities)
-      go (inl t) = (t, rw t at e)
-      go (inr f) = let m : n ≡ 65536 = rw f at e in absurd (omega (arith, m, l))
+      go (inl t) = let m : Ok n ≡ Ok (row_states letters targets priorities) = rw t at e in (t, ap (λ (x : Result ℕ Refusal). result_unwrap_or x 0) m)
+      go (inr f) = let m : Ok n ≡ Err Lengths = rw f at e in absurd (false≢true (sym (ap (λ (x : Result ℕ Refusal). is_ok x) m)))
 
-  pub states-unshaped : (n : ℕ) → n ≡ states_of letters targets priorities → 65535 < n → shaped letters targets priorities ≡ false
-  unfolding states_of row_states
-  states-unshaped n e l = go (test (shaped letters targets priorities))
+  pub states-unshaped : (r : Refusal) → Err r ≡ answer → (shaped letters targets priorities ≡ false) × (r ≡ Lengths)
+  unfolding states_of
+  states-unshaped r e = go (test (shaped letters targets priorities))
     where
-      go : (shaped letters targets priorities ≡ true) ⊎ (shaped letters targets priorities ≡ false) → shaped letters targets priorities ≡ false
-      go (inl t) = let m : n ≡ length targets / letters = rw t at e in absurd (omega (arith, m, l, (shaped-facts t).few))
-      go (inr f) = f
+      error : Result ℕ Refusal → Refusal
+      error (Ok n) = Lengths
+      error (Err r) = r
+
+      go : (shaped letters targets priorities ≡ true) ⊎ (shaped letters targets priorities ≡ false) → (shaped letters targets priorities ≡ false) × (r ≡ Lengths)
+      go (inl t) = let m : Err r ≡ Ok (row_states letters targets priorities) = rw t at e in absurd (false≢true (ap (λ (x : Result ℕ Refusal). is_ok x) m))
+      go (inr f) = let m : Err r ≡ Err Lengths = rw f at e in (f, ap error m)

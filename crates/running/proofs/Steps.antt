@@ -6,14 +6,16 @@ use mathlib.Core.Bool.{Bool, true, false, cond, false≢true}
 use mathlib.Core.List.{List, [], ◌∷◌}
 use lib.Dec.{eqb, ltb}
 use borrow.Author.Tests.{lt-ltb, le-ltb}
+use Rattle.std.specs.Prelude.{Result, Ok, Err}
+use Rattle.refusals.specs.declared.Refusal.{Refusal}
+use Rattle.refusals.specs.Refusals.{number, refusal as the_refusal}
 use Rattle.lists.specs.Questions.{ask}
 use Rattle.lists.proofs.Bools.{test, eqb≡, lt-true}
 use Rattle.policy.specs.declared.Policy.{Policy}
 use Rattle.policy.specs.Policies.{legal, edge_of, target_of, edge_colours}
 use Rattle.policy.proofs.Laws.{legal-target, edge-lt}
 use Rattle.running.specs.declared.Run.{Run}
-use Rattle.running.specs.declared.Reading.{Reading}
-use Rattle.running.specs.declared.Reading.TheVariants.{Moved, Refused}
+use Rattle.running.specs.declared.Met.{Met}
 use Rattle.running.specs.Running.{policy_step, policy_meets, row_states, shaped, target_at, priority_at, refusal_of, reading_of, ReadsLetter, row_step, row_meets, number_of, run_after, priority_of, priorities_of}
 
 module _ (p : Policy) where
@@ -44,16 +46,24 @@ asked-all true true false w e = absurd (false≢true e)
 asked-all true false z w e = absurd (false≢true e)
 asked-all false y z w e = absurd (false≢true e)
 
+-- each other answer is the number of its refusal
+asked-number : (x y z w : Bool) → let n = ask x 8 (ask y 11 (ask z 12 (ask w 13 0))) in eqb n 0 ≡ false → number (the_refusal n) ≡ n
+asked-number true true true true e = absurd (false≢true (sym e))
+asked-number true true true false e = refl
+asked-number true true false w e = refl
+asked-number true false z w e = refl
+asked-number false y z w e = refl
+
 -- an answer's values, by whether the letter was read
 module _ (n k : ℕ) (r r' : Run) where
-  abbrev given : Bool → Reading
-  given b = cond b (Moved r' k) (Refused n r)
+  abbrev given : Bool → Result Met Refusal
+  given b = cond b (Ok (record { run = r'; priority = k })) (Err (the_refusal n))
 
-  given-number : (b : Bool) → b ≡ eqb n 0 → number_of (given b) ≡ n
-  given-number true e = sym (eqb≡ n 0 (sym e))
-  given-number false e = refl
+  given-number : (b : Bool) → b ≡ eqb n 0 → (eqb n 0 ≡ false → number (the_refusal n) ≡ n) → number_of (given b) ≡ n
+  given-number true e h = sym (eqb≡ n 0 (sym e))
+  given-number false e h = h (sym e)
 
-  given-run : (b : Bool) → run_after (given b) ≡ cond b r' r
+  given-run : (b : Bool) → run_after r (given b) ≡ cond b r' r
   given-run true = refl
   given-run false = refl
 
@@ -110,16 +120,23 @@ module _ (letters : ℕ) (targets priorities : List ℕ) (r : Run) (a : ℕ) whe
       go false y = (refl, refl)
 
   -- ---- the reading
-  pub reading-moved : refusal ≡ 0 → reading_of letters targets priorities r a ≡ Moved (record { state = target }) (priority_at letters targets priorities r a)
+  abbrev moved : Met
+  moved = record { run = record { state = target }; priority = priority_at letters targets priorities r a }
+
+  pub reading-moved : refusal ≡ 0 → reading_of letters targets priorities r a ≡ Ok moved
   unfolding reading_of
   reading-moved e = rw e refl
 
-  pub reading-refused : (n : ℕ) → refusal ≡ n → eqb n 0 ≡ false → reading_of letters targets priorities r a ≡ Refused n r
+  pub reading-refused : (n : ℕ) → refusal ≡ n → eqb n 0 ≡ false → reading_of letters targets priorities r a ≡ Err (the_refusal n)
   unfolding reading_of
   reading-refused n e f = rw (e, f) refl
 
+  pub number-refusal : eqb refusal 0 ≡ false → number (the_refusal refusal) ≡ refusal
+  unfolding refusal_of
+  number-refusal f = asked-number (shaped letters targets priorities) (ltb r.state states) (ltb a letters) (ltb target states) f
+
   -- what Run::read promises says the answer's number and values
-  pub reads-letter : (x : Reading) → x ≡ reading_of letters targets priorities r a → ReadsLetter letters targets priorities r a x
+  pub reads-letter : (x : Result Met Refusal) → x ≡ reading_of letters targets priorities r a → ReadsLetter letters targets priorities r a x
   unfolding reading_of
   reads-letter x e =
       let n = refusal_of letters targets priorities r a in
@@ -127,19 +144,19 @@ module _ (letters : ℕ) (targets priorities : List ℕ) (r : Run) (a : ℕ) whe
       let to : Run = record { state = target_at letters targets priorities r a } in
       record {
         answer_is = e;
-        number_is = ap number_of e ∙ given-number n k r to (eqb n 0) refl;
-        run_is = ap run_after e ∙ given-run n k r to (eqb n 0);
+        number_is = ap number_of e ∙ given-number n k r to (eqb n 0) refl number-refusal;
+        run_is = ap (run_after r) e ∙ given-run n k r to (eqb n 0);
         priority_is = ap priority_of e ∙ given-priority n k r to (eqb n 0);
       }
 
-  pub reads-refused : (n : ℕ) → refusal ≡ n → eqb n 0 ≡ false → ReadsLetter letters targets priorities r a (Refused n r)
-  reads-refused n e f = reads-letter (Refused n r) (sym (reading-refused n e f))
+  pub reads-refused : (n : ℕ) → refusal ≡ n → eqb n 0 ≡ false → ReadsLetter letters targets priorities r a (Err (the_refusal n))
+  reads-refused n e f = reads-letter (Err (the_refusal n)) (sym (reading-refused n e f))
 
-  pub reads-moved : refusal ≡ 0 → ReadsLetter letters targets priorities r a (Moved (record { state = target }) (priority_at letters targets priorities r a))
+  pub reads-moved : refusal ≡ 0 → ReadsLetter letters targets priorities r a (Ok moved)
   reads-moved e = reads-letter _ (sym (reading-moved e))
 
   -- a letter meets the priority given back if the number is 0, and nothing otherwise
-  pub reading-meets : (x : Reading) → ReadsLetter letters targets priorities r a x → priorities_of x ≡ cond (eqb (number_of x) 0) (priority_of x ∷ []) []
+  pub reading-meets : (x : Result Met Refusal) → ReadsLetter letters targets priorities r a x → priorities_of x ≡ cond (eqb (number_of x) 0) (priority_of x ∷ []) []
   unfolding reading_of
   reading-meets x h =
       let n = refusal_of letters targets priorities r a in
@@ -152,12 +169,12 @@ module _ (letters : ℕ) (targets priorities : List ℕ) (r : Run) (a : ℕ) whe
   pub row-moves : shaped letters targets priorities ≡ true → r.state < states → ltb a letters ≡ true → target < states
       → (row_step letters targets priorities r a ≡ record { state = target }) × (row_meets letters targets priorities r a ≡ priority_at letters targets priorities r a ∷ [])
   unfolding row_step row_meets
-  row-moves ok s l t = let e = reading-moved (refusal-none ok s (lt-true a letters l) t) in (ap run_after e, ap priorities_of e)
+  row-moves ok s l t = let e = reading-moved (refusal-none ok s (lt-true a letters l) t) in (ap (run_after r) e, ap priorities_of e)
 
   -- a letter outside is refused whatever the rows are
   pub row-refuses : ltb a letters ≡ false → (row_step letters targets priorities r a ≡ r) × (row_meets letters targets priorities r a ≡ [])
   unfolding row_step row_meets
-  row-refuses f = let e = reading-refused refusal refl (refusal-outside f).0 in (ap run_after e, ap priorities_of e)
+  row-refuses f = let e = reading-refused refusal refl (refusal-outside f).0 in (ap (run_after r) e, ap priorities_of e)
 
   read-target : eqb refusal 0 ≡ true → target < states
   unfolding refusal_of
@@ -168,6 +185,6 @@ module _ (letters : ℕ) (targets priorities : List ℕ) (r : Run) (a : ℕ) whe
   unfolding row_step
   row_within h = go (test (eqb refusal 0))
     where
-      go : (eqb refusal 0 ≡ true) ⊎ (eqb refusal 0 ≡ false) → (run_after (reading_of letters targets priorities r a)).state < states
+      go : (eqb refusal 0 ≡ true) ⊎ (eqb refusal 0 ≡ false) → (run_after r (reading_of letters targets priorities r a)).state < states
       go (inl t) = rw (reading-moved (eqb≡ refusal 0 t)) (read-target t)
       go (inr f) = rw (reading-refused refusal refl f) h

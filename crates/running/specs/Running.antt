@@ -1,11 +1,13 @@
 -- The two runs (document 01, "The two runs"): the policy's, and the run over the rows of the built automaton with running's questions.
-use Rattle.std.specs.Prelude.{ℕ, ◌+◌, ◌*◌, ◌/◌, ◌%◌, ◌≡◌, Bool, ◌&&◌, cond, List, [], ◌∷◌, eqb, ltb, leb, length, get_or}
+use Rattle.std.specs.Prelude.{ℕ, ◌+◌, ◌*◌, ◌/◌, ◌%◌, ◌≡◌, Bool, ◌&&◌, cond, List, [], ◌∷◌, eqb, ltb, leb, length, get_or, Result, Ok, Err}
 use Rattle.lists.specs.Questions.{ask}
+use Rattle.refusals.specs.declared.Refusal.{Refusal}
+use Rattle.refusals.specs.declared.Refusal.TheVariants.{Lengths}
+use Rattle.refusals.specs.Refusals.{number, refusal}
 use Rattle.policy.specs.declared.Policy.{Policy}
 use Rattle.policy.specs.Policies.{edge_of, target_of, edge_colours}
 use Rattle.running.specs.declared.Run.{Run}
-use Rattle.running.specs.declared.Reading.{Reading}
-use Rattle.running.specs.declared.Reading.TheVariants.{Moved, Refused}
+use Rattle.running.specs.declared.Met.{Met}
 
 -- ---- the policy's run
 module _ (p : Policy) where
@@ -24,24 +26,24 @@ row_of letters s a = s * letters + a
 
 -- document 01's number and values for each answer
 -- the number of the refusal; 0 where the letter was read
-abbrev pub number_of : Reading → ℕ
-number_of (Moved r k) = 0
-number_of (Refused n r) = n
+abbrev pub number_of : Result Met Refusal → ℕ
+number_of (Ok m) = 0
+number_of (Err e) = number e
 
--- the run after a letter
-abbrev pub run_after : Reading → Run
-run_after (Moved r k) = r
-run_after (Refused n r) = r
+-- the run after a letter, from the run before it: a refused letter leaves the run as it is
+abbrev pub run_after : Run → Result Met Refusal → Run
+run_after r (Ok m) = m.run
+run_after r (Err e) = r
 
 -- the priority given back; 0 after a refusal
-abbrev pub priority_of : Reading → ℕ
-priority_of (Moved r k) = k
-priority_of (Refused n r) = 0
+abbrev pub priority_of : Result Met Refusal → ℕ
+priority_of (Ok m) = m.priority
+priority_of (Err e) = 0
 
 -- the priority met; a refused letter meets none
-abbrev pub priorities_of : Reading → List ℕ
-priorities_of (Moved r k) = k ∷ []
-priorities_of (Refused n r) = []
+abbrev pub priorities_of : Result Met Refusal → List ℕ
+priorities_of (Ok m) = m.priority ∷ []
+priorities_of (Err e) = []
 
 module _ (letters : ℕ) (targets priorities : List ℕ) where
   -- how many states the rows have
@@ -53,9 +55,9 @@ module _ (letters : ℕ) (targets priorities : List ℕ) where
   shaped =
       leb 1 letters && leb letters 8 && eqb (length targets) (length priorities) && eqb (length targets % letters) 0 && leb row_states 65535
 
-  -- how many states there are, if question 8 is answered yes; 65,536, which is too many, if no
-  unfoldable pub states_of : ℕ
-  states_of = cond shaped row_states 65536
+  -- how many states there are, if question 8 is answered yes
+  unfoldable pub states_of : Result ℕ Refusal
+  states_of = cond shaped (Ok row_states) (Err Lengths)
 
   -- the row that a letter asks for: its target, which may be no state, and its priority
   abbrev pub target_at : Run → ℕ → ℕ
@@ -73,19 +75,19 @@ module _ (letters : ℕ) (targets priorities : List ℕ) where
       (ask (ltb (target_at r a) row_states) 13 0)))
 
   -- then the move
-  unfoldable pub reading_of : Run → ℕ → Reading
-  reading_of r a = cond (eqb (refusal_of r a) 0) (Moved (record { state = target_at r a }) (priority_at r a)) (Refused (refusal_of r a) r)
+  unfoldable pub reading_of : Run → ℕ → Result Met Refusal
+  reading_of r a = cond (eqb (refusal_of r a) 0) (Ok (record { run = record { state = target_at r a }; priority = priority_at r a })) (Err (refusal (refusal_of r a)))
 
   -- what Run::read promises of its answer
-  pub record ReadsLetter (r : Run) (a : ℕ) (x : Reading) : Type 0 where
+  pub record ReadsLetter (r : Run) (a : ℕ) (x : Result Met Refusal) : Type 0 where
     pub answer_is : x ≡ reading_of r a
     pub number_is : number_of x ≡ refusal_of r a
     -- a refused letter leaves the run as it is
-    pub run_is : run_after x ≡ cond (eqb (refusal_of r a) 0) (record { state = target_at r a }) r
+    pub run_is : run_after r x ≡ cond (eqb (refusal_of r a) 0) (record { state = target_at r a }) r
     pub priority_is : priority_of x ≡ cond (eqb (refusal_of r a) 0) (priority_at r a) 0
 
   unfoldable pub row_step : Run → ℕ → Run
-  row_step r a = run_after (reading_of r a)
+  row_step r a = run_after r (reading_of r a)
 
   unfoldable pub row_meets : Run → ℕ → List ℕ
   row_meets r a = priorities_of (reading_of r a)

@@ -10,6 +10,7 @@ use mathlib.Core.List.Memᴰ
 use mathlib.Core.List.{List, [], ◌∷◌, ◌++◌, map-append, Memᴰ}
 use lib.ListN.{length, get_or, take, length-map}
 use lib.Seq.{sets, take-suc, take_all, length-take-le, get_or-take}
+use Rattle.std.proofs.lemmas.List.{take_all}
 use Rattle.lists.specs.Lists.{any, filter, Distinct}
 use Rattle.lists.proofs.Bools.{test, and_l, and_r, both, not-true}
 use Rattle.lists.proofs.Lists.{any_some, none_any, filter-mem, mem-filter, get_or-mem, map-mem}
@@ -38,16 +39,15 @@ module _ (l : List ℕ) where
   pub outside-more : (ks : List ℕ) (m j : ℕ) → j < length ks → any (inside m) (masks_at l (take j ks)) ≡ false → inside m (get_or l (get_or ks j 0) 0) ≡ false → any (inside m) (masks_at l (take (j + 1) ks)) ≡ false
   outside-more ks m j h a b = rw (at_more ks j h) (any-more (inside m) (masks_at l (take j ks)) (get_or l (get_or ks j 0) 0) a b)
 
-  pub outside-not : (ks : List ℕ) (n m j : ℕ) → n ≤ length ks → j < n → inside m (get_or l (get_or ks j 0) 0) ≡ true → outside l ks n m ≡ false
+  pub outside-not : (ks : List ℕ) (n m j : ℕ) → j < length (take n ks) → inside m (get_or l (get_or (take n ks) j 0) 0) ≡ true → outside l ks n m ≡ false
   unfolding outside
-  outside-not ks n m j h k t =
-      let long : length (take n ks) ≡ n = length-take-le n ks h in
+  outside-not ks n m j k t =
       ap not (any_at (inside m) (masks_at l (take n ks)) j 0 (omega (arith, length-map (take n ks) (λ (k : ℕ). get_or l k 0)))
-      (ap (inside m) (map_at (λ (k : ℕ). get_or l k 0) (take n ks) 0 j (omega arith) ∙ ap (λ (i : ℕ). get_or l i 0) (get_or-take n ks j 0 k)) ∙ t))
+      (ap (inside m) (map_at (λ (k : ℕ). get_or l k 0) (take n ks) 0 j k) ∙ t))
 
-  pub outside-is : (ks : List ℕ) (n m j : ℕ) → j ≡ n → any (inside m) (masks_at l (take j ks)) ≡ false → outside l ks n m ≡ true
+  pub outside-is : (ks : List ℕ) (n m j : ℕ) → length (take n ks) ≤ j → any (inside m) (masks_at l (take j (take n ks))) ≡ false → outside l ks n m ≡ true
   unfolding outside
-  outside-is ks n m j e a = ap not (ap (λ (i : ℕ). any (inside m) (masks_at l (take i ks))) (sym e) ∙ a)
+  outside-is ks n m j h a = ap not (ap (λ (t : List ℕ). any (inside m) (masks_at l t)) (sym (take_all j (take n ks) h)) ∙ a)
 
 -- ---- the pass: i members are seen, the first n of ks are the positions of those kept, and the places past them are as they were
 pub record Passing (l : List ℕ) (x : ℕ) (ks₀ ks : List ℕ) (n i : ℕ) : Type 0 where

@@ -8,34 +8,14 @@ ghost use Rattle.lists.specs.Lists.{Distinct};
 ghost use Rattle.tables.specs.Tables.{Stored};
 ghost use Rattle.forest.specs.Forest.{before, in_order};
 ghost use Rattle.candidates.specs.Candidates.{LargerFirst};
-ghost use Rattle.siblings.specs.NextRoot.{stands_after, better, root_better, next_in};
+ghost use Rattle.siblings.specs.NextRoot.{root_better, next_in};
 ghost use Rattle.siblings.specs.Positions.{child_positions, Positions, carried, outside, kept};
 
-// Whether a stands before b among siblings.
-fn stands_before(a: u64, b: u64) -> bool
-    ensures { result ≡ before a b }
-{
-    a < b
-}
-
-// Whether m stands after the sibling `after`.
-fn stands_after(after: u64, m: u64) -> bool
-    ensures { result ≡ stands_after after m }
-{
-    after == 0 || stands_before(after, m)
-}
-
-// Whether m stands before the best sibling so far.
-fn is_better(best: u64, m: u64) -> bool
-    ensures { result ≡ better best m }
-{
-    best == 0 || stands_before(m, best)
-}
-
+// Whether m stands after the sibling `after`, and before the best one so far.
 fn is_better_root(after: u64, best: u64, m: u64) -> bool
     ensures { result ≡ root_better after best m }
 {
-    stands_after(after, m) && is_better(best, m)
+    (after == 0 || after < m) && (best == 0 || m < best)
 }
 
 // The first root in the list that stands after `after`; the first of all where `after` is 0; 0 where there is none.
@@ -43,9 +23,9 @@ pub fn next_root(list: &[u64], after: u64) -> u64
     requires { Distinct list.now × ((x : ℕ) → Memᴰ x list.now → x ≢ 0) }
     ensures { result ≡ next_in after (in_order list.now) }
 {
+    // No Option: it would be a second word in the loop.
     let mut best: u64 = 0;
-    for i in 0..list.len() {
-        let m = list[i];
+    for &m in list {
         if is_better_root(after, best, m) {
             best = m;
         }
@@ -58,9 +38,7 @@ fn is_before(list: &[u64], a: u16, b: u16) -> bool
     requires { (a < length list.now) × (b < length list.now) }
     ensures { result ≡ before (get_or list.now a 0) (get_or list.now b 0) }
 {
-    let i = a as usize;
-    let j = b as usize;
-    stands_before(list[i], list[j])
+    list[a as usize] < list[b as usize]
 }
 
 // Position i, put in its place among the first `count`.
@@ -84,9 +62,8 @@ pub fn is_outside(list: &[u64], kids: &[u16], count: usize, m: u64) -> bool
     requires { Positions list.now kids.now count }
     ensures { result ≡ outside list.now kids.now count m }
 {
-    for j in 0..count {
-        let k = kids[j] as usize;
-        if masks::inside(m, list[k]) {
+    for &k in &kids[..count] {
+        if masks::inside(m, list[k as usize]) {
             return false;
         }
     }
@@ -106,8 +83,8 @@ pub fn fill_children(list: &[u64], n: u64, kids: &mut [u16]) -> usize
     ensures { Stored kids.old kids.new 0 result (child_positions list.now n) }
 {
     let mut count: usize = 0;
-    for i in 0..list.len() {
-        if is_kept(list, kids, count, n, list[i]) {
+    for (i, &m) in list.iter().enumerate() {
+        if is_kept(list, kids, count, n, m) {
             insert(list, kids, count, i);
             count += 1;
         }

@@ -5,52 +5,52 @@ use native.Mathlib.Decide.{ℕ_discrete}
 use mathlib.Core.Path.{◌≡◌, refl, sym, ap, ap₂, ◌∙◌, subst}
 use mathlib.Core.Logic.{◌⊎◌, inl, inr, ◌≢◌}
 use mathlib.Core.Bool.{Bool, true, false, cond}
-use mathlib.Core.List.{List}
+use mathlib.Core.List.{List, ◌++◌}
 use lib.Dec.{eqb, ltb}
-use lib.ListN.{length, get_or, set, take, length-set, length-take}
-use lib.Seq.{get_or-set_same, get_or-set_other, get_or-take}
+use lib.ListN.{length, get_or, set, take, drop, replicate, length-set, length-append, length-drop, get_or-append}
+use lib.Seq.{get_or-set_same, get_or-set_other}
+use Rattle.std.proofs.lemmas.List.{get_or-append_right, get_or-replicate, get_or-drop, length-replicate}
+use Rattle.orders.proofs.Walks.{front-long}
 use borrow.Author.Tests.{lt-ltb}
 use Rattle.lists.proofs.Bools.{test, ≡eqb, neqb, and_l, both, not_itself, lt-true, bool-ext}
 use Rattle.games.specs.Games.{Game, Total, Solved}
 use Rattle.games.proofs.Regions.{Arena, Solution}
 use Rattle.games.proofs.Peel.{region-move}
 use Rattle.games.proofs.Plays.{solution-solved, solved-with}
-use Rattle.games.proofs.Agree.{solved-agree}
 use Rattle.orders.specs.Orders.{Lists, Numbered}
 use Rattle.attracting.specs.Attracting.{owns, Rows, table_game}
 use Rattle.levels.specs.Levels.{won_mark, live, Headed, SolvedAt}
 use Rattle.levels.proofs.Marks.{out_of_range}
-use Rattle.solver.specs.Answers.{Fills, Finished, Answers}
+use Rattle.solver.specs.Answers.{Finished, Answers}
 use Rattle.attracting.proofs.Sweeping.{owns-true, owns-false}
 
 -- ---- filling
-pub filled_none : (m : List ℕ) → Fills 0 m m
-filled_none m = record { long = refl; done = λ s h. absurd (omega arith); rest = λ s h. refl }
+-- the places before n hold 255
+pub record Fills (n : ℕ) (m m' : List ℕ) : Type 0 where
+  pub long : length m' ≡ length m
+  pub done : (s : ℕ) → s < n → get_or m' s 0 ≡ 255
+  pub rest : (s : ℕ) → n ≤ s → get_or m' s 0 ≡ get_or m s 0
 
-pub filled_more : (n : ℕ) (m m' : List ℕ) → n < length m → Fills n m m' → Fills (n + 1) m (set m' n 255)
-filled_more n m m' h x = record {
-  long = length-set m' n 255 ∙ x.long;
-  done = λ s l. go s l (ℕ_discrete s n);
-  rest = λ s l. get_or-set_other m' n s 255 0 (λ e. absurd (omega arith)) ∙ x.rest s (omega arith);
+pub filled : (n : ℕ) (m f : List ℕ) → n ≤ length m → f ≡ replicate (length (take n m)) 255 → Fills n m (f ++ drop n m)
+filled n m f le e = record {
+  long = omega (arith, length-append f (drop n m), length-drop n m, long);
+  done = λ s h. get_or-append f (drop n m) 0 s (omega (arith, long)) ∙ ap (λ (l : List ℕ). get_or l s 0) e ∙ get_or-replicate (length (take n m)) s 255 0 (omega (arith, front-long n m le));
+  rest = λ s h. get_or-append_right f (drop n m) n s 0 long h ∙ get_or-drop n m (s - n) 0 ∙ ap (λ (i : ℕ). get_or m i 0) (past s h);
 }
   where
-    go : (s : ℕ) → s < n + 1 → Dec (s ≡ n) → get_or (set m' n 255) s 0 ≡ 255
-    go s l (yes e) = ap (λ (z : ℕ). get_or (set m' n 255) z 0) e ∙ get_or-set_same m' n 255 0 (omega (arith, x.long))
-    go s l (no e) = get_or-set_other m' n s 255 0 e ∙ x.done s (omega arith)
+    long : length f ≡ n
+    long = ap length e ∙ length-replicate (length (take n m)) 255 ∙ front-long n m le
 
-pub filled-all : (n states : ℕ) (m m' : List ℕ) → n ≤ states → states ≤ n → Fills n m m' → Fills states m m'
-filled-all n states m m' h l x = let e : n ≡ states = omega arith in subst (λ (z : ℕ). Fills z m m') e x
+    past : (s : ℕ) → n ≤ s → n + (s - n) ≡ s
+    past s h = omega arith
 
 -- ---- finishing
-pub finished-none : (owners sources m c : List ℕ) → Finished owners sources 0 m c m c
-finished-none owners sources m c = record {
-  marks_long = refl;
-  choices_long = refl;
-  marks_done = λ s h. absurd (omega arith);
-  choices_done = λ s h. absurd (omega arith);
-  marks_rest = λ s h. refl;
-  choices_rest = λ s h. refl;
-}
+-- a letter where the owner wins, and 255 elsewhere
+pub letter-own : (own : Bool) (y x : ℕ) → own ≡ true → y ≡ x → y ≡ cond own x 255
+letter-own own y x t e = rw t e
+
+pub letter-other : (own : Bool) (y x : ℕ) → own ≡ false → y ≡ 255 → y ≡ cond own x 255
+letter-other own y x f e = rw f e
 
 pub finished-more : (owners sources : List ℕ) (n : ℕ) (m c m' c' : List ℕ) (w y : ℕ) (own : Bool) → n < length m → n < length c → Finished owners sources n m c m' c'
     → w ≡ get_or m' n 0 - 1 → own ≡ owns (eqb w 1) (get_or owners (get_or sources n 0) 0) → y ≡ cond own (get_or c' n 0) 255 → Finished owners sources (n + 1) m c (set m' n w) (set c' n y)
@@ -79,9 +79,6 @@ finished-more owners sources n m c m' c' w y own hm hc x ew eo ey = record {
         ap (λ (z : ℕ). get_or (set c' n y) z 0) e ∙ get_or-set_same c' n y 0 (omega (arith, x.choices_long)) ∙ y-is
         ∙ ap (λ (z : ℕ). cond (owns (eqb (get_or m z 0 - 1) 1) (get_or owners (get_or sources z 0) 0)) (get_or c z 0) 255) (sym e)
     choices s l (no e) = get_or-set_other c' n s y 0 e ∙ x.choices_done s (omega arith)
-
-pub finished-all : (owners sources : List ℕ) (n states : ℕ) (m c m' c' : List ℕ) → n ≤ states → states ≤ n → Finished owners sources n m c m' c' → Finished owners sources states m c m' c'
-finished-all owners sources n states m c m' c' h l x = let e : n ≡ states = omega arith in subst (λ (z : ℕ). Finished owners sources z m c m' c') e x
 
 -- ---- the answer
 module _ (owners sources targets priorities : List ℕ) (letters states : ℕ) (rows : Rows owners sources targets priorities letters states) (some : 0 < letters)
@@ -122,13 +119,6 @@ module _ (owners sources targets priorities : List ℕ) (letters states : ℕ) (
           go : (j : Bool) → get_or m s 0 ≡ won_mark 0 j → (get_or m s 0 ≡ 1) ⊎ (get_or m s 0 ≡ 2)
           go true e = inr (omega (arith, e))
           go false e = inl (omega (arith, e))
-
-      pub answer-marks : (s : ℕ) → s < states → 1 ≤ get_or m s 0
-      answer-marks s h = go (mark-cases s h)
-        where
-          go : (get_or m s 0 ≡ 1) ⊎ (get_or m s 0 ≡ 2) → 1 ≤ get_or m s 0
-          go (inl e) = omega arith
-          go (inr e) = omega arith
 
       solution : Solution G 0 (λ s. ltb s states)
       solution = record {
@@ -185,48 +175,3 @@ module _ (owners sources targets priorities : List ℕ) (letters states : ℕ) (
           winners_past = λ s h. f.marks_rest s h ∙ (b.outside s (out_of_range states m₀ s h)).0 ∙ x.rest s h;
           letters_past = λ s h. f.choices_rest s h ∙ (b.outside s (out_of_range states m₀ s h)).1;
         }
-
--- ---- a part of the sources
-module _ (owners sources targets priorities : List ℕ) (letters states : ℕ) (rows : Rows owners sources targets priorities letters states) where
-  abbrev part : List ℕ
-  part = take states sources
-
-  pub part-long : length (take states sources) ≡ states
-  part-long = simp length-take (omega (arith, rows.sources_long))
-
-  part_at : (s : ℕ) → s < states → get_or part s 0 ≡ get_or sources s 0
-  part_at s h = get_or-take states sources s 0 h
-
-  pub part-rows : Rows owners (take states sources) targets priorities letters (length (take states sources))
-  part-rows = subst (λ (n : ℕ). Rows owners part targets priorities letters n) (sym part-long) (record {
-    letters_few = rows.letters_few;
-    states_few = rows.states_few;
-    sources_long = omega (arith, part-long);
-    sources_few = λ s h. subst (λ (v : ℕ). v < length owners) (sym (part_at s h)) (rows.sources_few s h);
-    targets_long = rows.targets_long;
-    priorities_long = rows.priorities_long;
-    targets_few = rows.targets_few;
-  })
-
-  -- what is asked of the part
-  pub part-few : ((s a : ℕ) → s < states → a < letters → get_or priorities (s * letters + a) 0 < 10) → (s a : ℕ) → s < length (take states sources) → a < letters → get_or priorities (s * letters + a) 0 < 10
-  part-few few s a h l = few s a (omega (arith, part-long)) l
-
-  pub part-answers : 0 < letters → ((s a : ℕ) → s < states → a < letters → get_or priorities (s * letters + a) 0 < 10) → (w₀ l₀ w l : List ℕ) → Answers owners (take states sources) targets priorities letters (length (take states sources)) w₀ l₀ w l
-      → Answers owners sources targets priorities letters states w₀ l₀ w l
-  part-answers some few w₀ l₀ w l x = go (subst (λ (n : ℕ). Answers owners part targets priorities letters n w₀ l₀ w l) part-long x)
-    where
-      owner-same : (s : ℕ) → s < states → eqb (get_or owners (get_or part s 0) 0) 1 ≡ eqb (get_or owners (get_or sources s 0) 0) 1
-      owner-same s h = ap (λ (v : ℕ). eqb (get_or owners v 0) 1) (part_at s h)
-
-      go : Answers owners part targets priorities letters states w₀ l₀ w l → Answers owners sources targets priorities letters states w₀ l₀ w l
-      go y = record {
-        winners_long = y.winners_long;
-        letters_long = y.letters_long;
-        winner_few = y.winner_few;
-        solved = solved-agree (table_game owners part targets priorities letters states) (table_game owners sources targets priorities letters states) 10 (record { some = some; targets = rows.targets_few; priorities = few })
-            refl refl owner-same (λ s a h k. refl) (λ s a h k. refl) (λ s. eqb (get_or w s 0) 1) (λ s. get_or l s 0) y.solved;
-        no_letter = λ s h o. y.no_letter s h (λ e. o (sym (owner-same s h) ∙ e));
-        winners_past = y.winners_past;
-        letters_past = y.letters_past;
-      }

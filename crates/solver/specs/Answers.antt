@@ -3,12 +3,6 @@ use Rattle.std.specs.Prelude.{ℕ, ◌-◌, ◌≤◌, ◌<◌, ◌≡◌, ◌�
 use Rattle.games.specs.Games.{Solved}
 use Rattle.attracting.specs.Attracting.{owns, table_game}
 
--- the places before n hold 255
-pub record Fills (n : ℕ) (m m' : List ℕ) : Type 0 where
-  pub long : length m' ≡ length m
-  pub done : (s : ℕ) → s < n → get_or m' s 0 ≡ 255
-  pub rest : (s : ℕ) → n ≤ s → get_or m' s 0 ≡ get_or m s 0
-
 -- before n: marks of level 0 as winners, and 255 for the letter of a state that its owner does not win
 pub record Finished (owners sources : List ℕ) (n : ℕ) (m c m' c' : List ℕ) : Type 0 where
   pub marks_long : length m' ≡ length m

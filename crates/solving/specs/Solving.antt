@@ -1,5 +1,5 @@
 -- What solving the supervisor's game answers, and what each place of the nine tables holds at exit, in every case (document 02, S-1).
-use Rattle.std.specs.Prelude.{ℕ, ◌≤◌, ◌<◌, ◌≡◌, ◌⊎◌, ◌≢◌, Bool, true, false, ◌&&◌, cond, List, [], ◌∷◌, map, eqb, ltb, length, get_or}
+use Rattle.std.specs.Prelude.{ℕ, ◌≤◌, ◌<◌, ◌≡◌, ◌⊎◌, ◌≢◌, Bool, true, false, ◌&&◌, cond, List, [], ◌∷◌, map, eqb, ltb, length, get_or, Result}
 use Rattle.std.proofs.Common.{inl, inr}
 use Rattle.lists.specs.Lists.{all, below}
 use Rattle.lists.specs.Questions.{ask}
@@ -9,9 +9,9 @@ use Rattle.policy.specs.declared.Policy.{Policy}
 use Rattle.policy.specs.Policies.{legal}
 use Rattle.forest.specs.Forest.{forest}
 use Rattle.automaton.specs.Automaton.{built, start}
-use Rattle.builder.specs.Tables.{Tables, Hold, lengths_fit, nodes_fit, states_fit, filled, cleared, number_of, counts_of}
-use Rattle.builder.specs.declared.Translation.{Translation}
-use Rattle.builder.specs.declared.Translation.TheVariants.{Translated, Refused}
+use Rattle.builder.specs.Tables.{Tables, Hold, lengths_fit, nodes_fit, states_fit, filled, cleared, translated, refused, number_of, counts_of}
+use Rattle.refusals.specs.declared.Refusal.{Refusal}
+use Rattle.builder.specs.declared.Counts.{Counts}
 use Rattle.games.specs.Games.{Solved}
 use Rattle.games.proofs.Plays.{determined}
 use Rattle.supervision.specs.Supervision.{player_of, game_of}
@@ -69,12 +69,12 @@ module _ (p : Policy) (owners : List ℕ) where
     solvable = nodes_fit p t && states_fit p t && owners_fit && owners_legal
 
     -- ---- the answer: 7, 8, 9, 10, 16, 17 in order; then both counts and the start
-    unfoldable pub solving_of : Translation
+    unfoldable pub solving_of : Result Counts Refusal
     solving_of =
-        let done = Translated (length (forest p)) (length (built p)) (start p) in
-        let owned = cond owners_fit (cond owners_legal done (Refused 17)) (Refused 16) in
-        let sized = cond (nodes_fit p t) (cond (states_fit p t) owned (Refused 10)) (Refused 9) in
-        cond (legal p) (cond solving_fits sized (Refused 8)) (Refused 7)
+        let done = translated (length (forest p)) (length (built p)) (start p) in
+        let owned = cond owners_fit (cond owners_legal done (refused 17)) (refused 16) in
+        let sized = cond (nodes_fit p t) (cond (states_fit p t) owned (refused 10)) (refused 9) in
+        cond (legal p) (cond solving_fits sized (refused 8)) (refused 7)
 
     -- the number of the first question that is answered no; 0 where there is none
     unfoldable pub refusal_of : ℕ
@@ -99,7 +99,7 @@ module _ (p : Policy) (owners : List ℕ) where
       pub chosen : admitted ≡ true → solvable ≡ true → Chosen exit
 
     -- ---- what solving promises: the answer and the tables at exit
-    pub record Solves (answer : Translation) (exit : Tables) (winners_exit letters_exit : List ℕ) : Type 0 where
+    pub record Solves (answer : Result Counts Refusal) (exit : Tables) (winners_exit letters_exit : List ℕ) : Type 0 where
       pub answer_is : answer ≡ solving_of
       pub number_is : number_of answer ≡ refusal_of
       pub counts_are : counts_of answer ≡ counts_after

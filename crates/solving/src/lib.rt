@@ -2,16 +2,16 @@
 // All of it stands in the caller's tables: the seven of translating, the winners and the letters. So the functions that fill them in have more than eight parameters.
 #![tactic(auto)]
 
-ghost use Rattle.std.specs.Prelude.{◌≡◌, true, length};
-ghost use Rattle.policy.specs.declared.Policy.{Policy};
-ghost use Rattle.policy.specs.Making.{from_parts};
+ghost use Rattle.std.specs.Prelude.{◌≡◌, true, eqb, length};
 ghost use Rattle.policy.specs.Policies.{legal};
-ghost use Rattle.builder.specs.Tables.{tables};
+ghost use Rattle.builder.specs.Tables.{number_of, tables};
 ghost use Rattle.solving.specs.Solving.{Solves};
-ghost use Rattle.solving.specs.Stages.{are_players, owners_refusal, refusal_after, states_in, Ready, Decides};
+ghost use Rattle.solving.specs.Stages.{are_players, owners_answer, answer_after, Ready, Decides};
 
-use builder::Translation;
-use policy::{Policy, Shape};
+use attracting::Game;
+use builder::Counts;
+use policy::Policy;
+use refusals::Refusal;
 
 // ---- the owners
 
@@ -19,87 +19,79 @@ use policy::{Policy, Shape};
 fn are_players(owners: &[u8]) -> bool
     ensures { result ≡ are_players owners.now }
 {
-    for i in 0..owners.len() {
-        if owners[i] > 1 {
-            return false;
-        }
-    }
-    true
+    owners.iter().all(|owner| *owner <= 1)
 }
 
-// 16 and 17 of the owners of so many policy states: the first that is answered no; 0 where there is none.
-fn owners_refusal(owners: &[u8], states: u8) -> u8
-    ensures { result ≡ owners_refusal states owners.now }
+// 16 and 17 of the owners of so many policy states.
+fn ask_owners(owners: &[u8], states: u8) -> Result<(), Refusal>
+    ensures { result ≡ owners_answer states owners.now }
 {
-    let fit = owners.len() == states as usize;
-    let legal = are_players(owners);
-    if !fit {
-        return 16;
+    if owners.len() != states as usize {
+        return Err(Refusal::OwnersLength);
     }
-    if !legal {
-        return 17;
+    if !are_players(owners) {
+        return Err(Refusal::NoSuchOwner);
     }
-    0
+    Ok(())
 }
 
 // ---- after a translation
 
-// The first question answered no, after a translation that answered so: its own, or else 16 or 17; 0 where there is none.
-fn refusal_after(answer: Translation, owners: &[u8], states: u8) -> u8
-    ensures { result ≡ refusal_after answer states owners.now }
+// The answer after a translation that answered so: its own refusal, or else that of the owners.
+fn answer_after(
+    answer: Result<Counts, Refusal>,
+    owners: &[u8],
+    states: u8,
+) -> Result<Counts, Refusal>
+    ensures { result ≡ answer_after answer states owners.now }
 {
-    match answer {
-        Translation::Translated(_, _, _) => owners_refusal(owners, states),
-        Translation::Refused(number) => number,
-    }
+    let counts = answer?;
+    ask_owners(owners, states)?;
+    Ok(counts)
 }
 
-// How many built states an answer counts.
-fn states_of(answer: Translation) -> u16
-    ensures { result ≡ states_in answer }
+// Whether an answer is the refusal 8.
+fn is_of_lengths(answer: Result<Counts, Refusal>) -> bool
+    ensures { result ≡ eqb (number_of answer) 8 }
 {
     match answer {
-        Translation::Translated(_, states, _) => states,
-        Translation::Refused(_) => 0,
+        Ok(_) => false,
+        Err(refusal) => refusal == Refusal::Lengths,
     }
 }
 
 // The winners and the letters, after a translation that answered so: the two tables are as they were after 8, and 0 after every other refusal, 16 and 17 among them; else the
 // built states have theirs, and 0 stands past them.
 fn decide(
-    p: Policy,
-    answer: Translation,
+    p: &Policy,
+    answer: Result<Counts, Refusal>,
     owners: &[u8],
     sources: &[u8],
     targets: &[u16],
     priorities: &[u8],
     winners: &mut [u8],
     letters: &mut [u8],
-) -> u8
-    requires policy { legal p ≡ true }
-    requires tables { Ready p sources.now targets.now priorities.now answer × (length winners.old ≡ length sources.now) × (length letters.old ≡ length sources.now) }
-    ensures { Decides p owners.now answer winners.old letters.old result winners.new letters.new }
+) -> Result<Counts, Refusal>
+    requires policy { legal p.now ≡ true }
+    requires tables { Ready p.now sources.now targets.now priorities.now answer × (length winners.old ≡ length sources.now) × (length letters.old ≡ length sources.now) }
+    ensures { Decides p.now owners.now answer winners.old letters.old result winners.new letters.new }
 {
-    let number = refusal_after(answer, owners, p.states);
-    if number == 8 {
-        return number;
+    let decision = answer_after(answer, owners, p.states);
+    if is_of_lengths(decision) {
+        return decision;
     }
-    tables::clear8(winners);
-    tables::clear8(letters);
-    if number != 0 {
-        return number;
-    }
-    solver::solve_rows(
-        p.letters as usize,
-        states_of(answer) as usize,
+    tables::clear(winners);
+    tables::clear(letters);
+    let counts = decision?;
+    let game = Game {
+        letters: p.letters as usize,
         owners,
-        sources,
+        sources: &sources[..counts.states as usize],
         targets,
         priorities,
-        winners,
-        letters,
-    );
-    number
+    };
+    solver::solve_rows(&game, winners, letters);
+    Ok(counts)
 }
 
 // ---- solving
@@ -107,7 +99,7 @@ fn decide(
 // A policy's supervisor's game solved, for the owners of its states: the seven tables of its translation; the winner of each built state, 0 the supervisor and 1 the plant; and at
 // each state that its owner wins a letter to win by, 255 at the others.
 pub fn solve(
-    p: Policy,
+    p: &Policy,
     owners: &[u8],
     masks: &mut [u64],
     parents: &mut [u16],
@@ -118,18 +110,14 @@ pub fn solve(
     priorities: &mut [u8],
     winners: &mut [u8],
     letters: &mut [u8],
-) -> Translation
-    ensures { Solves p owners.now (tables masks.old parents.old node_priorities.old sources.old leaves.old targets.old priorities.old) winners.old letters.old result (tables masks.new parents.new node_priorities.new sources.new leaves.new targets.new priorities.new) winners.new letters.new }
+) -> Result<Counts, Refusal>
+    ensures { Solves p.now owners.now (tables masks.old parents.old node_priorities.old sources.old leaves.old targets.old priorities.old) winners.old letters.old result (tables masks.new parents.new node_priorities.new sources.new leaves.new targets.new priorities.new) winners.new letters.new }
 {
     if !policy::is_legal(p) {
-        return Translation::Refused(7);
+        return Err(Refusal::IllegalPolicy);
     }
     solve_legal(
-        policy::shape_of(p),
-        p.quiet,
-        &p.target,
-        &p.colour,
-        &p.family,
+        p,
         owners,
         masks,
         parents,
@@ -143,14 +131,9 @@ pub fn solve(
     )
 }
 
-// The same for a legal policy, without asking question 7. Inner layer: for callers that know the policy to be legal. The policy's shape, its quiet edges and its arrays stand
-// for it, as in builder::translate_legal.
-pub fn solve_legal<'a>(
-    shape: Shape,
-    quiet: u64,
-    heads: &'a [u8; 64],
-    colours: &'a [u8; 64],
-    family: &'a [bool; 256],
+// The same for a legal policy, without asking question 7. Inner layer: for callers that know the policy to be legal.
+pub fn solve_legal(
+    p: &Policy,
     owners: &[u8],
     masks: &mut [u64],
     parents: &mut [u16],
@@ -161,22 +144,16 @@ pub fn solve_legal<'a>(
     priorities: &mut [u8],
     winners: &mut [u8],
     letters: &mut [u8],
-) -> Translation
-    ghost p: { Policy }
-    requires policy { from_parts shape quiet heads.now colours.now family.now ≡ p }
-    requires lawful { legal p ≡ true }
-    ensures { Solves p owners.now (tables masks.old parents.old node_priorities.old sources.old leaves.old targets.old priorities.old) winners.old letters.old result (tables masks.new parents.new node_priorities.new sources.new leaves.new targets.new priorities.new) winners.new letters.new }
+) -> Result<Counts, Refusal>
+    requires { legal p.now ≡ true }
+    ensures { Solves p.now owners.now (tables masks.old parents.old node_priorities.old sources.old leaves.old targets.old priorities.old) winners.old letters.old result (tables masks.new parents.new node_priorities.new sources.new leaves.new targets.new priorities.new) winners.new letters.new }
 {
     let lengths_fit = (winners.len() == sources.len()) & (letters.len() == sources.len());
     if !lengths_fit {
-        return Translation::Refused(8);
+        return Err(Refusal::Lengths);
     }
     let answer = builder::translate_legal(
-        shape,
-        quiet,
-        heads,
-        colours,
-        family,
+        p,
         masks,
         parents,
         node_priorities,
@@ -185,22 +162,15 @@ pub fn solve_legal<'a>(
         targets,
         priorities,
     );
-    let number = decide(
-        policy::from_parts(shape, quiet, heads, colours, family),
-        answer,
-        owners,
-        sources,
-        targets,
-        priorities,
-        winners,
-        letters,
+    let decision = decide(
+        p, answer, owners, sources, targets, priorities, winners, letters,
     );
-    if number < 16 {
-        return answer;
+    if answer.is_err() | decision.is_ok() {
+        return decision;
     }
-    tables::clear64(masks);
-    tables::clear16(parents);
-    tables::clear8(node_priorities);
+    tables::clear(masks);
+    tables::clear(parents);
+    tables::clear(node_priorities);
     filling::clear_built(sources, leaves, targets, priorities);
-    Translation::Refused(number)
+    decision
 }

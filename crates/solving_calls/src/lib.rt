@@ -26,7 +26,7 @@ pub fn solve_record(
 {
     let p = records::policy_of(packed);
     let t = solving::solve(
-        p,
+        &p,
         owners,
         masks,
         parents,
@@ -38,10 +38,7 @@ pub fn solve_record(
         winners,
         letters,
     );
-    let values = answers::of_translation(t);
-    let found = values.counts;
-    *counts = found;
-    values.number
+    answers::of_translation(t, counts)
 }
 
 // The policy that command bytes give. What was read is legal, so question 7 is not asked again; after a refused reading the policy is all zero, and solving an illegal policy leaves
@@ -72,11 +69,7 @@ pub fn solve_bytes(
         return read.number;
     }
     let t = solving::solve_legal(
-        policy::shape_of(answer.policy),
-        answer.policy.quiet,
-        &answer.policy.target,
-        &answer.policy.colour,
-        &answer.policy.family,
+        &answer.policy,
         owners,
         masks,
         parents,
@@ -88,9 +81,7 @@ pub fn solve_bytes(
         winners,
         letters,
     );
-    let values = answers::of_translation(t);
-    let found = values.counts;
-    *counts = found;
-    *offset = answers::unless_refused(values.number, read.offset);
-    values.number
+    let number = answers::of_translation(t, counts);
+    *offset = answers::unless_refused(number, read.offset);
+    number
 }

@@ -135,10 +135,6 @@ pub record Pass (p : Policy) (v : ℕ) (t₀ t : List ℕ) (at next n last end :
   pub seen : Seen p v n last end
   pub stored : Stored t₀ t at next (leaves_below p v (min n last))
 
--- the same of each policy that has these tables: the loop does not see the policy
-abbrev pub Passing : ℕ → List ℕ → List ℕ → ℕ → ℕ → List ℕ → List ℕ → ℕ → ℕ → ℕ → ℕ → ℕ → Type 0
-Passing v masks ends count own t₀ t at next n last end = (p : Policy) → Given p v masks ends count own → Pass p v t₀ t at next n last end
-
 module _ {p : Policy} {v : ℕ} {masks ends : List ℕ} {count own : ℕ} (g : Given p v masks ends count own) where
   laws : ForestLaws p (forest p)
   laws = forest-laws p g.is_legal

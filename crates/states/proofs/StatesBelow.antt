@@ -12,6 +12,7 @@ use lib.Dec.{ltb, leb}
 use lib.ListN.{length, take, set, replicate, length-append, length-map, length-replicate}
 use lib.Seq.{sets, set-set}
 use borrow.Author.Tests.{lt-ltb, le-ltb}
+use Rattle.std.proofs.Common.{Some, None}
 use Rattle.lists.specs.Lists.{filter, flat, below}
 use Rattle.lists.proofs.Bools.{le-true, and_l}
 use Rattle.lists.proofs.Lists.{below-lt, flat-mem, map-mem}
@@ -223,14 +224,13 @@ module _ (p : Policy) (sources₀ leaves₀ starts₀ sources leaves starts : Li
 
   -- they fit, and the tables are cleared past them
   pub filled-fit : leb at (length sources) && leb at 65535 ≡ true → {sources' leaves' : List ℕ} → sources' ≡ padded (length sources) (take at sources) → leaves' ≡ padded (length leaves) (take at leaves)
-      → StatesFilled p sources₀ leaves₀ starts₀ true at sources' leaves' starts
+      → StatesFilled p sources₀ leaves₀ starts₀ (Some at) sources' leaves' starts
   unfolding state_sources state_leaves
   filled-fit t es el =
       let f : built_fit p sources₀ ≡ true = sym fits ∙ t in
       let room : length (built p) ≤ length sources₀ = omega (arith, count, long, le-true at (length sources) (and_l (leb at (length sources)) (leb at 65535) t)) in
       record {
-        fits_is = sym f;
-        count_is = count;
+        answer_is = rw f (ap Some count);
         sources_are = rw f (sets-cleared sources₀ (state_sources p) (r.sources_are.now_is ∙ ap (λ (l : List Built). sets sources₀ 0 (map (λ (b : Built). b.state) l)) all) (length-sources p ∙ sym count) (omega (arith, length-sources p)) es);
         leaves_are = rw f (sets-cleared leaves₀ (state_leaves p) (r.leaves_are.now_is ∙ ap (λ (l : List Built). sets leaves₀ 0 (map (λ (b : Built). b.leaf) l)) all) (length-leaves p ∙ sym count) (omega (arith, length-leaves p)) el);
         starts_are = starts-all;
@@ -238,12 +238,11 @@ module _ (p : Policy) (sources₀ leaves₀ starts₀ sources leaves starts : Li
 
   -- they do not, and the tables are cleared
   pub filled-not : leb at (length sources) && leb at 65535 ≡ false → {sources' leaves' : List ℕ} → sources' ≡ zeros sources → leaves' ≡ zeros leaves
-      → StatesFilled p sources₀ leaves₀ starts₀ false at sources' leaves' starts
+      → StatesFilled p sources₀ leaves₀ starts₀ None sources' leaves' starts
   filled-not t es el =
       let f : built_fit p sources₀ ≡ false = sym fits ∙ t in
       record {
-        fits_is = sym f;
-        count_is = count;
+        answer_is = rw f refl;
         sources_are = rw f (es ∙ zeros-same sources sources₀ long);
         leaves_are = rw f (el ∙ zeros-same leaves leaves₀ (stored-length r.leaves_are));
         starts_are = starts-all;

@@ -1,5 +1,5 @@
 -- What the stage that writes the built states promises: whether they fit, and the tables at its end; and the states over the first policy states, the leaves of one state.
-use Rattle.std.specs.Prelude.{ℕ, ◌≡◌, Bool, cond, List, map, length}
+use Rattle.std.specs.Prelude.{ℕ, ◌≡◌, cond, List, map, length, Option, Some, None}
 use Rattle.std.proofs.lemmas.List.Edits.{sets}
 use Rattle.lists.specs.Lists.{filter, flat, below}
 use Rattle.tables.specs.Tables.{padded, zeros}
@@ -21,11 +21,10 @@ module _ (p : Policy) where
   unfoldable pub leaves_over : ℕ → List ℕ
   leaves_over v = or_else 65535 (leaves (forest p) p v)
 
--- what writing the built states answers and leaves: whether they fit, and how many there are; the state tables hold them, or 0 in every place where they do not fit;
--- and where those over each policy state begin
-pub record StatesFilled (p : Policy) (sources₀ leaves₀ starts₀ : List ℕ) (fits : Bool) (count : ℕ) (sources leaves starts : List ℕ) : Type 0 where
-  pub fits_is : fits ≡ built_fit p sources₀
-  pub count_is : count ≡ length (built p)
+-- what writing the built states answers and leaves: how many there are, or none where they do not fit; the state tables hold them, or 0 in every place where they do not
+-- fit; and where those over each policy state begin
+pub record StatesFilled (p : Policy) (sources₀ leaves₀ starts₀ : List ℕ) (answer : Option ℕ) (sources leaves starts : List ℕ) : Type 0 where
+  pub answer_is : answer ≡ cond (built_fit p sources₀) (Some (length (built p))) None
   pub sources_are : sources ≡ cond (built_fit p sources₀) (padded (length sources₀) (state_sources p)) (zeros sources₀)
   pub leaves_are : leaves ≡ cond (built_fit p sources₀) (padded (length leaves₀) (state_leaves p)) (zeros leaves₀)
   pub starts_are : starts ≡ sets starts₀ 0 (state_starts p)

@@ -78,7 +78,6 @@ fn word_of(steps: &[u64; 36], s: u8, j: usize) -> u64
 }
 
 // ---- the rows joined
-#[derive(Drop)]
 #[derive(Clone, Copy)]
 pub struct Words {
     pub a: u64,
@@ -134,45 +133,19 @@ fn turn(w: Words, k: usize) -> Words
     }
 }
 
-// The rows of one word, of two and of four, joined at each of their states in turn. Without a loop, so that the words stay in registers.
-fn closed_4(a: u64) -> Words
-    ensures { (v : ℕ) → v < 16 → row_at result.a result.b result.c result.d v ≡ turned (row_at a 0 0 0) 4 v }
+// The rows joined at each of the first N states in turn. The compiler lays out up to eight turns, so that the words stay in registers.
+fn closed<const N: usize>(w: Words) -> Words
+    requires { N ≤ 16 }
+    ensures { (v : ℕ) → v < 16 → row_at result.a result.b result.c result.d v ≡ turned (row_at w.a w.b w.c w.d) N v }
 {
-    let w0 = turn(
-        Words {
-            a: a,
-            b: 0,
-            c: 0,
-            d: 0,
-        },
-        0,
-    );
-    let w1 = turn(w0, 1);
-    let w2 = turn(w1, 2);
-    turn(w2, 3)
+    let mut joined = w;
+    for k in 0..N {
+        joined = turn(joined, k);
+    }
+    joined
 }
 
-fn closed_8(a: u64, b: u64) -> Words
-    ensures { (v : ℕ) → v < 16 → row_at result.a result.b result.c result.d v ≡ turned (row_at a b 0 0) 8 v }
-{
-    let w0 = turn(
-        Words {
-            a: a,
-            b: b,
-            c: 0,
-            d: 0,
-        },
-        0,
-    );
-    let w1 = turn(w0, 1);
-    let w2 = turn(w1, 2);
-    let w3 = turn(w2, 3);
-    let w4 = turn(w3, 4);
-    let w5 = turn(w4, 5);
-    let w6 = turn(w5, 6);
-    turn(w6, 7)
-}
-
+// The same of 16. Without a loop, which the compiler would keep: tried, and slower.
 fn closed_16(w: Words) -> Words
     ensures { (v : ℕ) → v < 16 → row_at result.a result.b result.c result.d v ≡ turned (row_at w.a w.b w.c w.d) 16 v }
 {
@@ -201,20 +174,20 @@ pub fn reached(states: usize, steps: &[u64; 36], s: u8) -> Words
 {
     let a = word_of(steps, s, 0);
     if states <= 4 {
-        return closed_4(a);
+        return closed::<4>(Words {
+            a,
+            b: 0,
+            c: 0,
+            d: 0,
+        });
     }
     let b = word_of(steps, s, 1);
     if states <= 8 {
-        return closed_8(a, b);
+        return closed::<8>(Words { a, b, c: 0, d: 0 });
     }
     let c = word_of(steps, s, 2);
     let d = word_of(steps, s, 3);
-    closed_16(Words {
-        a: a,
-        b: b,
-        c: c,
-        d: d,
-    })
+    closed_16(Words { a, b, c, d })
 }
 
 // ---- the states on cycles

@@ -5,7 +5,8 @@ use native.Mathlib.Numerals.{add-one}
 use mathlib.Core.Path.{◌≡◌, refl, sym, ap, ap₂, ◌∙◌}
 use mathlib.Core.List.{List, [], ◌∷◌, ◌++◌, append_assoc}
 use lib.ListN.{length, get_or, take, drop, set, length-drop, length-map}
-use lib.Seq.{sets, length-sets, sets-eq, take-suc, take-set-le, take_at, drop_at, drop-set-add, get_or-take, get_or-drop, length-take-le, take_all}
+use lib.Seq.{sets, paste, length-sets, sets-eq, take-suc, take-set-le, take_at, drop_at, drop-set-add, get_or-take, get_or-drop, length-take-le, take_all}
+use Rattle.std.specs.List.{copy_within}
 use Rattle.tables.specs.Copies.{part, moved}
 use Rattle.tables.proofs.Stores.{sets-append, sets-before}
 
@@ -63,3 +64,11 @@ unfolding moved
 get_d_moved d [] j h = absurd (omega arith)
 get_d_moved d (x ∷ l) zero h = refl
 get_d_moved d (x ∷ l) (suc j) h = get_d_moved d l j (omega arith)
+
+-- the library's copy within a slice
+pub copy_within-sets : (s from at : ℕ) (t : List ℕ) → from + s ≤ at → at + s ≤ length t → copy_within t from (from + s) at ≡ sets t at (part s from t)
+copy_within-sets s from at t h l =
+    let e : from + s - from ≡ s = omega arith in
+    let k : length (part s from t) ≡ s = length_part s from t (omega arith) in
+    let m : at + length (part s from t) ≤ length t = omega (arith, k) in
+    ap (paste t at (drop from t)) e ∙ sym (sets-eq (part s from t) t at m ∙ ap (λ (n : ℕ). take at t ++ part s from t ++ drop (at + n) t) k)

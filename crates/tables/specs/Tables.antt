@@ -1,5 +1,5 @@
 -- What a table holds: a list at its beginning, 0 in every place past it, what a run of stores leaves, or what is left free; and how many of its places count.
-use Rattle.std.specs.Prelude.{ℕ, ◌+◌, ◌-◌, ◌≤◌, ◌<◌, min, ◌≡◌, List, ◌++◌, length, get_or, replicate}
+use Rattle.std.specs.Prelude.{ℕ, ◌+◌, ◌-◌, ◌≤◌, ◌<◌, min, ◌≡◌, refl, List, ◌++◌, length, get_or, replicate}
 use Rattle.std.proofs.lemmas.List.Edits.{sets}
 
 -- l, and 0 in every place past it, n places in all
@@ -9,6 +9,15 @@ padded n l = l ++ replicate (n - length l) 0
 -- 0 in every place
 unfoldable pub zeros : List ℕ → List ℕ
 zeros t = replicate (length t) 0
+
+-- the two definitions, opened
+pub zeros-is : (t : List ℕ) → zeros t ≡ replicate (length t) 0
+unfolding zeros
+zeros-is t = refl
+
+pub padded-is : (n : ℕ) (l : List ℕ) → padded n l ≡ l ++ replicate (n - length l) 0
+unfolding padded
+padded-is n l = refl
 
 -- how many places of a table count: only the first 65,535
 unfoldable pub places : List ℕ → ℕ

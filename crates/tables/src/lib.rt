@@ -1,10 +1,10 @@
-// Lent tables: how many places count; every place of one set to 0, at the three widths that tables have, or those past a beginning; a part of one copied to a later place; and an entry as a place.
+// Lent tables: how many places count; every place of one set to 0, or those past a beginning; a part of one copied to a later place.
 #![tactic(auto)]
 
-ghost use Rattle.std.specs.Prelude.{◌≡◌, ℕ, ◌+◌, ◌-◌, ◌<◌, ◌≤◌, min, length, take};
+ghost use Rattle.std.specs.Prelude.{◌≡◌, ℕ, ◌+◌, ◌-◌, ◌<◌, ◌≤◌, min, List, ◌++◌, length, take, replicate};
 ghost use mathlib.Core.List.{Memᴰ};
 ghost use Rattle.std.proofs.lemmas.List.Edits.{sets};
-ghost use Rattle.tables.specs.Tables.{zeros, padded};
+ghost use Rattle.tables.specs.Tables.{zeros, padded, zeros-is, padded-is};
 ghost use Rattle.tables.specs.Copies.{part, moved};
 
 // How many places of a table of n places count.
@@ -17,60 +17,77 @@ pub fn places(n: usize) -> usize
     65535
 }
 
-pub fn clear64(t: &mut [u64])
-    ensures { t.new ≡ zeros t.old }
+// A number that tables hold. `zeros` and `padded` are those of lists of numbers.
+pub trait Entry: Copy {
+    const ZERO: Self;
+
+    ghost ZERO: { Self };
+
+    ghost zeros: { List Self → List Self };
+
+    ghost padded: { ℕ → List Self → List Self };
+
+    ghost zeros_is: { (t : List Self) → zeros t ≡ replicate (length t) ZERO };
+
+    ghost padded_is: { (n : ℕ) (l : List Self) → padded n l ≡ l ++ replicate (n - length l) ZERO };
+}
+
+impl Entry for u8 {
+    const ZERO: u8 = 0;
+
+    ghost ZERO = { 0 };
+
+    ghost zeros = { zeros };
+
+    ghost padded = { padded };
+
+    ghost zeros_is = { zeros-is };
+
+    ghost padded_is = { padded-is };
+}
+
+impl Entry for u16 {
+    const ZERO: u16 = 0;
+
+    ghost ZERO = { 0 };
+
+    ghost zeros = { zeros };
+
+    ghost padded = { padded };
+
+    ghost zeros_is = { zeros-is };
+
+    ghost padded_is = { padded-is };
+}
+
+impl Entry for u64 {
+    const ZERO: u64 = 0;
+
+    ghost ZERO = { 0 };
+
+    ghost zeros = { zeros };
+
+    ghost padded = { padded };
+
+    ghost zeros_is = { zeros-is };
+
+    ghost padded_is = { padded-is };
+}
+
+pub fn clear<T: Entry>(t: &mut [T])
+    ensures { t.new ≡ T.zeros t.old }
 {
-    for i in 0..t.len() {
-        t[i] = 0;
+    for x in t.iter_mut() {
+        *x = T::ZERO;
     }
 }
 
-pub fn clear16(t: &mut [u16])
-    ensures { t.new ≡ zeros t.old }
+// 0 in every place from place `from` on.
+pub fn clear_past<T: Entry>(t: &mut [T], from: usize)
+    ensures { t.new ≡ T.padded (length t.old) (take from t.old) }
 {
-    for i in 0..t.len() {
-        t[i] = 0;
-    }
-}
-
-pub fn clear8(t: &mut [u8])
-    ensures { t.new ≡ zeros t.old }
-{
-    for i in 0..t.len() {
-        t[i] = 0;
-    }
-}
-
-// 0 in every place from place `from` on, at each width.
-pub fn clear64_past(t: &mut [u64], from: usize)
-    ensures { t.new ≡ padded (length t.old) (take from t.old) }
-{
-    for i in from..t.len() {
-        t[i] = 0;
-    }
-}
-
-pub fn clear16_past(t: &mut [u16], from: usize)
-    ensures { t.new ≡ padded (length t.old) (take from t.old) }
-{
-    for i in from..t.len() {
-        t[i] = 0;
-    }
-}
-
-pub fn clear8_past(t: &mut [u8], from: usize)
-    ensures { t.new ≡ padded (length t.old) (take from t.old) }
-{
-    for i in from..t.len() {
-        t[i] = 0;
-    }
-}
-
-// An entry that is a place of a table.
-pub fn wide(x: u16) -> usize
-    ensures { (result ≡ x) × (result < 65536) }
-{
-    x as usize
+    let from = from.min(t.len());
+    clear(&mut t[from..]);
 }
 
 // `size` places from place `from` on, copied to place `at`, which stands past them. This is an inner layer: its callers see that there are so many places.
@@ -78,9 +95,7 @@ pub fn copy64(t: &mut [u64], from: usize, at: usize, size: usize)
     requires { (from + size ≤ at) × (at + size ≤ length t.old) }
     ensures { t.new ≡ sets t.old at (part size from t.old) }
 {
-    for j in 0..size {
-        t[at + j] = t[from + j];
-    }
+    t.copy_within(from..from + size, at);
 }
 
 // The same of numbers that count places: each is moved on with the copy.
@@ -88,6 +103,7 @@ pub fn copy_moved16(t: &mut [u16], from: usize, at: usize, size: usize)
     requires { (from + size ≤ at) × (at + size ≤ length t.old) × (at < 65536) × ((x : ℕ) → Memᴰ x (part size from t.old) → x + (at - from) < 65536) }
     ensures { t.new ≡ sets t.old at (moved (at - from) (part size from t.old)) }
 {
+    // By index, since both places are in one slice: two parts of it would be no plainer.
     let shift = (at - from) as u16;
     for j in 0..size {
         t[at + j] = t[from + j] + shift;

@@ -7,10 +7,19 @@ ghost use Rattle.std.proofs.lemmas.List.Edits.{sets};
 ghost use Rattle.lists.specs.Lists.{Distinct};
 ghost use Rattle.tables.specs.Tables.{Stored, Undecided};
 ghost use Rattle.tables.specs.Copies.{part, moved};
-ghost use Rattle.policy.specs.declared.Policy.{Policy};
 ghost use Rattle.candidates.specs.Candidates.{LargerFirst};
 ghost use Rattle.siblings.specs.Positions.{child_positions};
 ghost use Rattle.trees.specs.Growing.{TreeToWrite, TreeWritten, Kept, RootToWrite, RootWritten};
+
+use policy::Policy;
+
+// A policy, and the candidates below a root by their verdict, with larger masks first.
+#[derive(Clone, Copy)]
+pub struct Lists<'a> {
+    pub policy: &'a Policy,
+    pub accepting: &'a [u64],
+    pub rejecting: &'a [u64],
+}
 
 // A tree copied from its number `from` to `at`; its root has a parent of its own.
 fn copy_tree(
@@ -31,43 +40,34 @@ fn copy_tree(
 }
 
 // The mask at position i of the two lists, one after the other.
-fn mask_at(accepting: &[u64], rejecting: &[u64], i: usize) -> u64
-    requires { i < length accepting.now + length rejecting.now }
-    ensures { result ≡ get_or (accepting.now ++ rejecting.now) i 0 }
+fn mask_at(lists: &Lists<'_>, i: usize) -> u64
+    requires { i < length lists.now.accepting.now + length lists.now.rejecting.now }
+    ensures { result ≡ get_or (lists.now.accepting.now ++ lists.now.rejecting.now) i 0 }
 {
+    let accepting = lists.accepting;
     if i < accepting.len() {
         return accepting[i];
     }
-    let j = i - accepting.len();
-    rejecting[j]
+    lists.rejecting[i - accepting.len()]
 }
 
 // The positions of the children of a node n with that verdict, in the list of the other one.
-fn find_children(
-    accepting: &[u64],
-    rejecting: &[u64],
-    n: u64,
-    verdict: bool,
-    kids: &mut [u16],
-) -> usize
-    requires lists { (Distinct accepting.now × LargerFirst accepting.now) × (Distinct rejecting.now × LargerFirst rejecting.now) }
-    requires places { (length accepting.now ≤ length kids.old) × (length rejecting.now ≤ length kids.old) × (length accepting.now ≤ 4096) × (length rejecting.now ≤ 4096) }
-    ensures { Stored kids.old kids.new 0 result (child_positions (cond verdict rejecting.now accepting.now) n) }
+fn find_children(lists: &Lists<'_>, n: u64, verdict: bool, kids: &mut [u16]) -> usize
+    requires lists { (Distinct lists.now.accepting.now × LargerFirst lists.now.accepting.now) × (Distinct lists.now.rejecting.now × LargerFirst lists.now.rejecting.now) }
+    requires places { (length lists.now.accepting.now ≤ length kids.old) × (length lists.now.rejecting.now ≤ length kids.old) × (length lists.now.accepting.now ≤ 4096) × (length lists.now.rejecting.now ≤ 4096) }
+    ensures { Stored kids.old kids.new 0 result (child_positions (cond verdict lists.now.rejecting.now lists.now.accepting.now) n) }
 {
     if verdict {
-        return siblings::fill_children(rejecting, n, kids);
+        return siblings::fill_children(lists.rejecting, n, kids);
     }
-    siblings::fill_children(accepting, n, kids)
+    siblings::fill_children(lists.accepting, n, kids)
 }
 
 // The position of the first mask of the other verdict.
 fn first_other(accepting: usize, verdict: bool) -> usize
     ensures { result ≡ cond verdict accepting 0 }
 {
-    if verdict {
-        return accepting;
-    }
-    0
+    if verdict { accepting } else { 0 }
 }
 
 // The tree of the mask at position i is recorded: its number is `at`, and `next` comes after it.
@@ -79,12 +79,10 @@ fn record_tree(scratch: &mut [u16], i: usize, at: usize, next: usize)
     scratch[2 * i + 1] = (next - at) as u16;
 }
 
-// The tree of the mask at position i: copied where it is recorded, and otherwise grown. It goes by the lists alone, without the policy, whose copies are dear:
-// whatever policy they are the candidates of, its tree is written. So it and `grow` have many parameters: the lists, the root, the tables and the scratch.
+// The tree of the mask at position i: copied where it is recorded, and otherwise grown. It and `grow` have many parameters: the lists, the root, the tables and the scratch.
 #[cycle(grow_plant)]
 fn plant(
-    accepting: &[u64],
-    rejecting: &[u64],
+    lists: &Lists<'_>,
     i: usize,
     verdict: bool,
     parent: u16,
@@ -95,17 +93,17 @@ fn plant(
     scratch: &mut [u16],
     free: usize,
 ) -> usize
-    requires position { i < length (accepting.now ++ rejecting.now) }
+    requires position { i < length (lists.now.accepting.now ++ lists.now.rejecting.now) }
     requires below { parent < at }
-    requires tree { (p : Policy) × TreeToWrite p accepting.now rejecting.now (get_or (accepting.now ++ rejecting.now) i 0) verdict places at masks.old parents.old scratch.old free }
-    ensures tree { (p : Policy) → TreeToWrite p accepting.now rejecting.now (get_or (accepting.now ++ rejecting.now) i 0) verdict places at masks.old parents.old scratch.old free → TreeWritten p (accepting.now ++ rejecting.now) places (get_or (accepting.now ++ rejecting.now) i 0) parent at result masks.old parents.old masks.new parents.new scratch.new }
-    ensures kept { Kept (2 * length (accepting.now ++ rejecting.now)) free scratch.old scratch.new }
+    requires tree { TreeToWrite lists.now.policy.now lists.now.accepting.now lists.now.rejecting.now (get_or (lists.now.accepting.now ++ lists.now.rejecting.now) i 0) verdict places at masks.old parents.old scratch.old free }
+    ensures tree { TreeWritten lists.now.policy.now (lists.now.accepting.now ++ lists.now.rejecting.now) places (get_or (lists.now.accepting.now ++ lists.now.rejecting.now) i 0) parent at result masks.old parents.old masks.new parents.new scratch.new }
+    ensures kept { Kept (2 * length (lists.now.accepting.now ++ lists.now.rejecting.now)) free scratch.old scratch.new }
 {
     let size = scratch[2 * i + 1] as usize;
     if size == 0 {
-        let m = mask_at(accepting, rejecting, i);
+        let m = mask_at(lists, i);
         let next = grow(
-            accepting, rejecting, m, verdict, parent, at, places, masks, parents, scratch, free,
+            lists, m, verdict, parent, at, places, masks, parents, scratch, free,
         );
         if places < next {
             return next;
@@ -124,8 +122,7 @@ fn plant(
 // The tree of m, whose root is numbered `at`: the number after it, or one past the places where it does not fit.
 #[cycle(grow_plant)]
 fn grow(
-    accepting: &[u64],
-    rejecting: &[u64],
+    lists: &Lists<'_>,
     m: u64,
     verdict: bool,
     parent: u16,
@@ -136,23 +133,22 @@ fn grow(
     scratch: &mut [u16],
     free: usize,
 ) -> usize
-    requires { (p : Policy) × TreeToWrite p accepting.now rejecting.now m verdict places at masks.old parents.old scratch.old free }
-    ensures tree { (p : Policy) → TreeToWrite p accepting.now rejecting.now m verdict places at masks.old parents.old scratch.old free → TreeWritten p (accepting.now ++ rejecting.now) places m parent at result masks.old parents.old masks.new parents.new scratch.new }
-    ensures kept { Kept (2 * length (accepting.now ++ rejecting.now)) free scratch.old scratch.new }
+    requires { TreeToWrite lists.now.policy.now lists.now.accepting.now lists.now.rejecting.now m verdict places at masks.old parents.old scratch.old free }
+    ensures tree { TreeWritten lists.now.policy.now (lists.now.accepting.now ++ lists.now.rejecting.now) places m parent at result masks.old parents.old masks.new parents.new scratch.new }
+    ensures kept { Kept (2 * length (lists.now.accepting.now ++ lists.now.rejecting.now)) free scratch.old scratch.new }
 {
     if places <= at {
         return places + 1;
     }
     masks[at] = m;
     parents[at] = parent;
-    let count = find_children(accepting, rejecting, m, verdict, &mut scratch[free..]);
-    let first = first_other(accepting.len(), verdict);
+    let count = find_children(lists, m, verdict, &mut scratch[free..]);
+    let first = first_other(lists.accepting.len(), verdict);
     let mut next = at + 1;
     for j in 0..count {
         let i = first + scratch[free + j] as usize;
         next = plant(
-            accepting,
-            rejecting,
+            lists,
             i,
             !verdict,
             at as u16,
@@ -173,8 +169,7 @@ fn grow(
 // The tree of a root, whose number is `at`: the number after it, or one past the places where it does not fit. The records of earlier trees are of other lists, and are cleared.
 // This is an inner layer: its callers lend the candidates of the root, and enough scratch.
 pub fn grow_root(
-    accepting: &[u64],
-    rejecting: &[u64],
+    lists: &Lists<'_>,
     m: u64,
     verdict: bool,
     at: usize,
@@ -182,14 +177,14 @@ pub fn grow_root(
     parents: &mut [u16],
     scratch: &mut [u16],
 ) -> usize
-    requires { (p : Policy) × RootToWrite p accepting.now rejecting.now m verdict at masks.old parents.old scratch.old }
-    ensures tree { (p : Policy) → RootToWrite p accepting.now rejecting.now m verdict at masks.old parents.old scratch.old → RootWritten p m at result masks.old parents.old masks.new parents.new }
+    requires { RootToWrite lists.now.policy.now lists.now.accepting.now lists.now.rejecting.now m verdict at masks.old parents.old scratch.old }
+    ensures tree { RootWritten lists.now.policy.now m at result masks.old parents.old masks.new parents.new }
     ensures space { Undecided scratch.old scratch.new }
 {
     let places = tables::places(masks.len());
-    let free = 2 * (accepting.len() + rejecting.len());
-    tables::clear16(&mut scratch[..free]);
+    let free = 2 * (lists.accepting.len() + lists.rejecting.len());
+    tables::clear(&mut scratch[..free]);
     grow(
-        accepting, rejecting, m, verdict, 65535, at, places, masks, parents, scratch, free,
+        lists, m, verdict, 65535, at, places, masks, parents, scratch, free,
     )
 }

@@ -17,11 +17,11 @@ use Rattle.forest.specs.Forest.{forest}
 use Rattle.forest.proofs.Forest.{forest-laws}
 use Rattle.automaton.specs.Automaton.{built, state_at, start, row_target, row_priority, built_fit}
 use Rattle.automaton.proofs.Tables.{built-good}
-use Rattle.builder.specs.Tables.{Tables, Hold, lengths_fit, nodes_fit, states_fit, filled, counts_of, number_of, translation_of, tables_after}
-use Rattle.builder.specs.declared.Translation.TheVariants.{Translated, Refused}
+use Rattle.builder.specs.Tables.{Tables, Hold, lengths_fit, nodes_fit, states_fit, filled, translated, refused, counts_of, number_of, translation_of, tables_after}
 use Rattle.running.specs.declared.Run.{Run}
-use Rattle.running.specs.declared.Reading.{Reading}
-use Rattle.running.specs.declared.Reading.TheVariants.{Moved}
+use Rattle.running.specs.declared.Met.{Met}
+use Rattle.std.specs.Prelude.{Result, Ok}
+use Rattle.refusals.specs.declared.Refusal.{Refusal}
 use Rattle.running.specs.Running.{row_of, run_after, priority_of, reading_of, number_of as run_number_of}
 use Rattle.running.proofs.Steps.{refusal-none, reading-moved}
 use Rattle.correctness.specs.Calls.{Translating, Running}
@@ -56,7 +56,7 @@ record Yes (a b c d e f : Bool) : Type 0 where
   sixth : f ≡ true
 
 all_yes : (a b c d e f : Bool) (n s l : ℕ)
-    → number_of (cond a (cond b (cond c (cond d (cond e (cond f (Translated n s l) (Refused 17)) (Refused 16)) (Refused 10)) (Refused 9)) (Refused 8)) (Refused 7)) ≡ 0 → Yes a b c d e f
+    → number_of (cond a (cond b (cond c (cond d (cond e (cond f (translated n s l) (refused 17)) (refused 16)) (refused 10)) (refused 9)) (refused 8)) (refused 7)) ≡ 0 → Yes a b c d e f
 all_yes true true true true true true n s l z = record { first = refl; second = refl; third = refl; fourth = refl; fifth = refl; sixth = refl }
 all_yes true true true true true false n s l z = absurd (omega (arith, z))
 all_yes true true true true false f n s l z = absurd (omega (arith, z))
@@ -96,11 +96,11 @@ module _ (s : Solving) (done : Done s) where
   solvable-yes = rw (yes-all.third, yes-all.fourth, yes-all.fifth, yes-all.sixth) refl
 
   -- ---- the translation succeeded too
-  translated-is : translation_of p t.entry ≡ Translated (length (forest p)) (length (built p)) (start p)
+  translated-is : translation_of p t.entry ≡ translated (length (forest p)) (length (built p)) (start p)
   unfolding translation_of
   translated-is = rw (yes-all.first, lengths-fit, yes-all.third, yes-all.fourth) refl
 
-  solved-is : solving_of p s.owners t.entry s.winners_entry s.letters_entry ≡ Translated (length (forest p)) (length (built p)) (start p)
+  solved-is : solving_of p s.owners t.entry s.winners_entry s.letters_entry ≡ translated (length (forest p)) (length (built p)) (start p)
   unfolding solving_of
   solved-is = rw (yes-all.first, yes-all.second, yes-all.third, yes-all.fourth, yes-all.fifth, yes-all.sixth) refl
 
@@ -169,15 +169,16 @@ module _ (s : Solving) (done : Done s) where
 
   -- ---- one letter from a built state, over a beginning of the rows
   pub reads-row : (size : ℕ) → Beginning t size → (n a : ℕ) → n < length (built p) → a < p.letters
-      → reading_of p.letters (take size t.exit.targets) (take size t.exit.priorities) (record { state = n }) a ≡ Moved (record { state = row_target p n a }) (row_priority p n a)
+      → reading_of p.letters (take size t.exit.targets) (take size t.exit.priorities) (record { state = n }) a ≡ Ok (record { run = record { state = row_target p n a }; priority = row_priority p n a })
   reads-row size b n a h l =
       let rows = rows-after t done-success size b in
       let targets = take size t.exit.targets in
       let priorities = take size t.exit.priorities in
       let r : Run = record { state = n } in
+      let moved : ℕ → ℕ → Result Met Refusal = λ m k. Ok (record { run = record { state = m }; priority = k }) in
       let target : get_or targets (row_of p.letters n a) 0 ≡ row_target p n a = rows.targets_are n a h l in
       reading-moved p.letters targets priorities r a (refusal-none p.letters targets priorities r a rows.passes (omega (arith, rows.enough)) l (omega (arith, rows.enough, target, (row-leads p done-legal n a h l).0)))
-      ∙ ap₂ (λ (m k : ℕ). Moved (record { state = m }) k) target (rows.priorities_are n a h l)
+      ∙ ap₂ moved target (rows.priorities_are n a h l)
 
   -- ---- a play
   module _ (calls : ℕ → Running) (answered : (i : ℕ) → Answered (calls i)) (play : Play s calls) where
@@ -187,7 +188,7 @@ module _ (s : Solving) (done : Done s) where
     abbrev letter : ℕ → ℕ
     letter i = (calls i).letter
 
-    reading-is : (i : ℕ) → at i < length (built p) → read_by (calls i) ≡ Moved (record { state = row_target p (at i) (letter i) }) (row_priority p (at i) (letter i))
+    reading-is : (i : ℕ) → at i < length (built p) → read_by (calls i) ≡ Ok (record { run = record { state = row_target p (at i) (letter i) }; priority = row_priority p (at i) (letter i) })
     reading-is i h = rw (play.letters_are i, play.targets_are i, play.priorities_are i) (reads-row play.size play.beginning (at i) (letter i) h (play.reads i))
 
     -- one letter from a built state
@@ -199,7 +200,7 @@ module _ (s : Solving) (done : Done s) where
     moves : (i : ℕ) → at i < length (built p) → Moves i
     moves i h =
         let e = reading-is i h in
-        record { is-read = (answered i).number_is ∙ ap run_number_of e; leads = play.goes_on i ∙ (answered i).next_is ∙ ap (λ (q : Reading). (run_after q).state) e; meets = (answered i).priority_is ∙ ap priority_of e }
+        record { is-read = (answered i).number_is ∙ ap run_number_of e; leads = play.goes_on i ∙ (answered i).next_is ∙ ap (λ (q : Result Met Refusal). (run_after (record { state = at i }) q).state) e; meets = (answered i).priority_is ∙ ap priority_of e }
 
     is-built : (i : ℕ) → at i < length (built p)
     is-built zero = is_state (at 0) play.begins

@@ -17,10 +17,11 @@ use Rattle.policy.proofs.Laws.{legal-counts}
 use Rattle.graph.specs.Cycles.{spread, closure, reach, is_cycle, contains, cycles_in}
 use Rattle.forest.specs.Forest.{before, place, in_order, largest, roots, opposed, children, trees, tree, forest, greatest_level, from_zero, root_priority, priority, transient_priority, node, up_from, chain, child_of, in_root, forest_fits}
 use Rattle.automaton.specs.Automaton.{next, holds, kids, is_leaf, leaves, first_leaf, states_over, built_states, deepest, lead, entered, first_leaf_below, leaf_after, priority_after, built, state_at, number, start, row_target, row_priority, built_fit}
-use Rattle.builder.specs.Tables.{Tables, sizes_fit, lengths_fit, nodes_fit, states_fit, counts_of, number_of as translate_number_of}
-use Rattle.builder.specs.declared.Translation.TheVariants.{Translated}
+use Rattle.builder.specs.Tables.{Tables, sizes_fit, lengths_fit, nodes_fit, states_fit, translated, counts_of, number_of as translate_number_of}
 use Rattle.builder.proofs.TranslateLaws.{hold-same}
-use Rattle.running.specs.declared.Reading.{Reading}
+use Rattle.running.specs.declared.Met.{Met}
+use Rattle.std.specs.Prelude.{Result}
+use Rattle.refusals.specs.declared.Refusal.{Refusal}
 use Rattle.running.specs.Running.{reading_of, run_after}
 use Rattle.records.specs.Records.{policy_of, record_of}
 use Rattle.reading.specs.Reading.{reading_of as bytes_reading_of, offset_of, number_of as read_number_of}
@@ -50,7 +51,7 @@ room = filled_with 7 4 3 6
 abbrev wide : List ℕ
 wide = replicate 3 7
 
-b-solved : solving_of B owners_of_b room wide wide ≡ Translated 3 2 0
+b-solved : solving_of B owners_of_b room wide wide ≡ translated 3 2 0
 unfolding has insert inside properly set_of members submasks padded zeros edges edge_of source target_of colour_of is_quiet edge_colours colours_of in_family accepting counts_fit legal_counts legal_edge legal_edges uncoloured legal_quiet legal_set legal_family legal_graph legal spread closure reach is_cycle contains before place in_order largest full cycles_in roots opposed children trees tree forest greatest lowest greatest_level from_zero root_priority priority transient_priority node up_from chain child_of in_root places next holds kids is_leaf leaves first_leaf states_over built_states deepest lead entered first_leaf_below leaf_after priority_after built state_at number start row_target row_priority built_fit forest_fits sizes_fit lengths_fit nodes_fit states_fit owners_fit owners_legal solving_fits solving_of
 b-solved = refl
 
@@ -62,10 +63,10 @@ solve-call p owners t winners letters =
     let q = solving_of p owners t winners letters in
     record {
       at = record {
-        lifetimes = ([], ([], ([], ([], ([], ([], ([], ([], ([], ([], tt))))))))));
-        given = (p, (place_of owners, slices t (mut_of winners, (mut_of letters, tt))));
+        lifetimes = ([], ([], ([], ([], ([], ([], ([], ([], ([], ([], ([], tt)))))))))));
+        given = (place_of p, (place_of owners, slices t (mut_of winners, (mut_of letters, tt))));
         answer = q;
-        left = (p, (place_of owners, slices (seven_after p owners t winners letters) (mut_of (winners_after p owners t winners letters), (mut_of l.0, tt))));
+        left = (place_of p, (place_of owners, slices (seven_after p owners t winners letters) (mut_of (winners_after p owners t winners letters), (mut_of l.0, tt))));
       };
       learnt = record {
         answer_is = refl;
@@ -132,7 +133,7 @@ module _ (s : Solving) (done : Done s) (n : ℕ) (h : n < states s) where
 
   state : ℕ → ℕ
   state zero = n
-  state (suc i) = (run_after (reading_of p.letters targets priorities (record { state = state i }) (pick (state i)))).state
+  state (suc i) = (run_after (record { state = state i }) (reading_of p.letters targets priorities (record { state = state i }) (pick (state i)))).state
 
   abbrev winner : ℕ → Bool
   winner m = player_of (winner_of p s.owners m)
@@ -164,8 +165,8 @@ module _ (s : Solving) (done : Done s) (n : ℕ) (h : n < states s) where
           rw e ((chosen s done).solved.letters m x.is-built (o ∙ sym x.wins))
       go (inr f) = rw f (legal-counts p (done-legal s done)).letters_some
 
-  next_row : (m : ℕ) → Stands m → (run_after (reading_of p.letters targets priorities (record { state = m }) (pick m))).state ≡ row_target p m (pick m)
-  next_row m x = ap (λ (q : Reading). (run_after q).state) (reads-row s done size (exact-beginning t (done-success s done)) m (pick m) x.is-built (pick-legal m x))
+  next_row : (m : ℕ) → Stands m → (run_after (record { state = m }) (reading_of p.letters targets priorities (record { state = m }) (pick m))).state ≡ row_target p m (pick m)
+  next_row m x = ap (λ (q : Result Met Refusal). (run_after (record { state = m }) q).state) (reads-row s done size (exact-beginning t (done-success s done)) m (pick m) x.is-built (pick-legal m x))
 
   next-stands : (m : ℕ) → Stands m → Stands (row_target p m (pick m))
   next-stands m x =
@@ -180,7 +181,7 @@ module _ (s : Solving) (done : Done s) (n : ℕ) (h : n < states s) where
   stands zero = record { is-built = is_state s done n h; wins = refl }
   stands (suc i) = go (stands i)
     where
-      go : Stands (state i) → Stands (run_after (reading_of p.letters targets priorities (record { state = state i }) (pick (state i)))).state
+      go : Stands (state i) → Stands (run_after (record { state = state i }) (reading_of p.letters targets priorities (record { state = state i }) (pick (state i)))).state
       go x = subst Stands (sym (next_row (state i) x)) (next-stands (state i) x)
 
   reads : ℕ → Call read

@@ -14,7 +14,7 @@ use Rattle.wulfrenda.proofs.wulfrenda_solve_bytes.Kinds as wulfrenda-solve-bytes
 use Rattle.wulfrenda.proofs.wulfrenda_solve_bytes.Reads as wulfrenda-solve-bytes-reads
 
 abbrev pub solve : Function
-solve = record { lifetimes = 10; parameters = solve-kinds.ps; result = solve-kinds.r; asked = solve-reads.Asked; learnt = solve-reads.Learnt }
+solve = record { lifetimes = 11; parameters = solve-kinds.ps; result = solve-kinds.r; asked = solve-reads.Asked; learnt = solve-reads.Learnt }
 
 abbrev pub wulfrenda_solve : Function
 wulfrenda_solve = record {
@@ -54,7 +54,7 @@ ninth a = a.1.1.1.1.1.1.1.1.0.now
 abbrev pub solve_shows : Places solve → Solving
 solve_shows x = record {
   translating = record {
-    policy = x.given.0;
+    policy = x.given.0.now;
     entry = seven x.given.1.1;
     number = translate_number_of x.answer;
     counts = counts_of x.answer;

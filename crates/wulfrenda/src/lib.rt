@@ -18,9 +18,7 @@ ghost use Rattle.records.specs.Records.{flag, is_record, policy_of, record_of};
 ghost use Rattle.answers.specs.Answers.{first_of, offset_after};
 ghost use Rattle.wulfrenda.specs.Library.{version};
 
-use comparing::Comparison;
-use judging::{PolicyVerdict, RowsVerdict};
-use running::{Reading, Run};
+use running::Run;
 
 // The archive's version: major times 1,000,000 plus minor times 1,000 plus patch. The header's WULFRENDA_VERSION says which one a caller was built for.
 pub fn wulfrenda_version() -> u32
@@ -95,7 +93,7 @@ pub fn wulfrenda_translate(
 {
     let p = records::policy_of(packed);
     let t = builder::translate(
-        p,
+        &p,
         masks,
         parents,
         node_priorities,
@@ -104,10 +102,7 @@ pub fn wulfrenda_translate(
         targets,
         priorities,
     );
-    let values = answers::of_translation(t);
-    let found = values.counts;
-    *counts = found;
-    values.number
+    answers::of_translation(t, counts)
 }
 
 // The two in one: the command bytes are read, and the policy that they give is translated. What was read is legal, so question 7 is not asked again; after a refused reading the policy
@@ -138,11 +133,7 @@ pub fn wulfrenda_translate_bytes(
         return read.number;
     }
     let t = builder::translate_legal(
-        policy::shape_of(answer.policy),
-        answer.policy.quiet,
-        &answer.policy.target,
-        &answer.policy.colour,
-        &answer.policy.family,
+        &answer.policy,
         masks,
         parents,
         node_priorities,
@@ -151,11 +142,9 @@ pub fn wulfrenda_translate_bytes(
         targets,
         priorities,
     );
-    let values = answers::of_translation(t);
-    let found = values.counts;
-    *counts = found;
-    *offset = answers::unless_refused(values.number, read.offset);
-    values.number
+    let number = answers::of_translation(t, counts);
+    *offset = answers::unless_refused(number, read.offset);
+    number
 }
 
 // The supervisor's game of a policy, for the owners of its states: the translation as above; the winner of each built state, and a letter at each that its owner wins.
@@ -245,21 +234,19 @@ pub fn wulfrenda_run(
     priority: &mut u8,
 ) -> u8
     ensures number { result ≡ run_number_of (run_reading_of letters targets.now priorities.now (record { state = state.old }) letter) }
-    ensures state { state.new ≡ (run_after (run_reading_of letters targets.now priorities.now (record { state = state.old }) letter)).state }
+    ensures state { state.new ≡ (run_after (record { state = state.old }) (run_reading_of letters targets.now priorities.now (record { state = state.old }) letter)).state }
     ensures priority { priority.new ≡ priority_of (run_reading_of letters targets.now priorities.now (record { state = state.old }) letter) }
 {
     let run = Run { state: *state };
-    let x = run.read(letter, letters, targets, priorities);
-    match x {
-        Reading::Moved(moved, met) => {
-            *state = moved.state;
-            *priority = met;
+    match run.read(letter, letters, targets, priorities) {
+        Ok(met) => {
+            *state = met.run.state;
+            *priority = met.priority;
             0
         }
-        Reading::Refused(number, kept) => {
-            *state = kept.state;
+        Err(refusal) => {
             *priority = 0;
-            number
+            refusal.number()
         }
     }
 }
@@ -278,17 +265,16 @@ pub fn wulfrenda_judge_policy(
     ensures accepted { accepted.new ≡ flag (policy_accepted_of (policy_verdict (policy_of packed.now) state stem.now period.now)) }
 {
     let p = records::policy_of(packed);
-    let v = judging::judge_policy(p, state, stem, period);
-    match v {
-        PolicyVerdict::Judged(set, yes) => {
-            *colours = set;
-            *accepted = records::flag(yes);
+    match judging::judge_policy(&p, state, stem, period) {
+        Ok(verdict) => {
+            *colours = verdict.colours;
+            *accepted = records::flag(verdict.accepted);
             0
         }
-        PolicyVerdict::Refused(number) => {
+        Err(refusal) => {
             *colours = 0;
             *accepted = 0;
-            number
+            refusal.number()
         }
     }
 }
@@ -306,15 +292,14 @@ pub fn wulfrenda_judge_rows(
     ensures number { result ≡ rows_number_of (rows_verdict letters targets.now priorities.now (record { state = state }) stem.now period.now) }
     ensures least { least.new ≡ rows_least_of (rows_verdict letters targets.now priorities.now (record { state = state }) stem.now period.now) }
 {
-    let v = judging::judge_rows(letters, targets, priorities, state, stem, period);
-    match v {
-        RowsVerdict::Least(priority) => {
+    match judging::judge_rows(letters, targets, priorities, state, stem, period) {
+        Ok(priority) => {
             *least = priority;
             0
         }
-        RowsVerdict::Refused(number) => {
+        Err(refusal) => {
             *least = 0;
-            number
+            refusal.number()
         }
     }
 }
@@ -326,19 +311,14 @@ pub fn wulfrenda_compare(first: &[u8], second: &[u8], same: &mut u8) -> u8
 {
     let p = records::policy_of(first);
     let q = records::policy_of(second);
-    let c = comparing::compare(p, q);
-    match c {
-        Comparison::Same => {
-            *same = 1;
+    match comparing::compare(&p, &q) {
+        Ok(yes) => {
+            *same = records::flag(yes);
             0
         }
-        Comparison::Different => {
+        Err(refusal) => {
             *same = 0;
-            0
-        }
-        Comparison::Refused(number) => {
-            *same = 0;
-            number
+            refusal.number()
         }
     }
 }

@@ -209,7 +209,7 @@ pub extern "C" fn wulfrenda_run(
     priority: &mut u8,
 ) -> u8
     ensures number { result ≡ run_number_of (run_reading_of letters targets.now priorities.now (record { state = state.old }) letter) }
-    ensures state { state.new ≡ (run_after (run_reading_of letters targets.now priorities.now (record { state = state.old }) letter)).state }
+    ensures state { state.new ≡ (run_after (record { state = state.old }) (run_reading_of letters targets.now priorities.now (record { state = state.old }) letter)).state }
     ensures priority { priority.new ≡ priority_of (run_reading_of letters targets.now priorities.now (record { state = state.old }) letter) }
 {
     wulfrenda::wulfrenda_run(letters, targets, priorities, state, letter, priority)

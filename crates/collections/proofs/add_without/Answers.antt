@@ -10,5 +10,5 @@ pub returns : goal.returns
 returns c =
     let a = c.args in
     let s = c.set_without-s.ensures in
-    let b = ap₂ ◌&&◌ c.set_has.ensures (c.has.ensures ∙ ap (has_set a.within.now) s) in
+    let b = ap₂ ◌&&◌ c.has.ensures (c.has-2.ensures ∙ ap (has_set a.within.now) s) in
     (c.add_if.ensures.0, λ d l. c.add_if.ensures.1 d l ∙ ap₂ (λ (x : Bool) (y : ℕ). has_set a.t.now d || (x && eqb d y)) b s)

@@ -1,10 +1,6 @@
 -- `fill_large` and `fill_within` meet their contracts. The measure falls as the lent space grows: twice what it lacks to 4,096 places, and 1 for `fill_large`. Assumes nothing.
-use Prim.Native.Nat.{ℕ, ◌*◌, ◌-◌, ◌<◌}
-use native.Mathlib.Omega.{arith}
-use mathlib.Core.Path.{refl}
+use Prim.Native.Nat.{◌*◌, ◌-◌}
 use lib.ListN.{length}
-use borrow.Author.Rules.{rules}
-use Rattle.roots.proofs.Roots.{space-of, short}
 use Rattle.columns.proofs.+fill_large_fill_within.Given as goal
 
 abbrev pub decreases-fill_large : goal.decreases-fill_large

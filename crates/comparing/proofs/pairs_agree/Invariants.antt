@@ -4,13 +4,12 @@ use mathlib.Core.Path.{◌≡◌}
 use mathlib.Core.Bool.{true}
 use lib.ListN.{length}
 use Rattle.lists.specs.Lists.{all, below}
-use Rattle.policy.specs.declared.Policy.{Policy}
-use Rattle.comparing.specs.Pairs.{Searchable, set_agrees}
+use Rattle.comparing.specs.Pairs.{set_agrees}
 use Rattle.comparing.proofs.pairs_agree.Given as goal
 
 abbrev pub invariant-loop-c : goal.invariant-loop-c
 invariant-loop-c l =
-    (l.c ≤ l.n) × ((p q : Policy) → Searchable p q l.states l.letters l.heads l.out l.into l.t l.u → l.family ≡ p.family → l.family2 ≡ q.family → all (set_agrees p q) (below l.c) ≡ true) × (length l.rows ≡ 16)
+    (l.c ≤ l.n) × (all (set_agrees l.g.policy.now l.h.policy.now) (below l.c) ≡ true) × (length l.rows ≡ 16)
 
 abbrev pub decreases-loop-c : goal.decreases-loop-c
 decreases-loop-c l = l.n - l.c

@@ -1,6 +1,5 @@
 -- `decomposition::height` meets its contract. Assumes nothing.
 use mathlib.Core.Path.{refl}
-use borrow.Author.Rules.{rules}
 use Rattle.decomposition.proofs.height.Goals as goal
 
 pub returns : goal.returns

@@ -1,8 +1,6 @@
-use Prim.Native.Nat.{◌-◌, ◌≤◌}
 use mathlib.Core.Path.{refl}
-use Rattle.policy.specs.declared.Policy.{Policy}
 use Rattle.forest.proofs.Columns.{parents_long}
-use Rattle.decomposition.proofs.Raising.{Unraised, Raised, raised-none, raised_long, raised-small, raised-accepting, raised-rejecting, raised-child, raised_all}
+use Rattle.decomposition.proofs.Raising.{raised-none, raised_long, raised-small, raised-accepting, raised-rejecting, raised-child, raised_all}
 use native.Mathlib.Omega.{arith}
 use Rattle.decomposition.proofs.raise.Goals as goal
 use Rattle.decomposition.proofs.raise.Goals.{then-parents-n+then-priority-eq0, then-parents-n+else-priority-eq0, else-parents-n}
@@ -11,18 +9,18 @@ pub loop-n-init : goal.loop-n-init
 loop-n-init c = λ p u. (raised-none p _, omega arith)
 
 pub bounds-node_priorities-n : goal.bounds-node_priorities-n
-bounds-node_priorities-n c = let v = (c.loop-n.invariant c.args.p (c.requires.lawful, (c.requires.nodes, c.requires.table))).0 in omega (arith, (raised_long c.args.p (c.requires.lawful, (c.requires.nodes, c.requires.table)) v).0, c.loop-n-test.true, c.requires.table.0)
+bounds-node_priorities-n c = let v = (c.loop-n.invariant c.args.p.now (c.requires.lawful, (c.requires.nodes, c.requires.table))).0 in omega (arith, (raised_long c.args.p.now (c.requires.lawful, (c.requires.nodes, c.requires.table)) v).0, c.loop-n-test.true, c.requires.table.0)
 
 pub offset_bounds-parents-n : goal.offset_bounds-parents-n
 offset_bounds-parents-n c = omega (arith, c.loop-n-test.true, c.requires.nodes.1)
 
 pub bounds-parents-n : goal.bounds-parents-n
-bounds-parents-n c = omega (arith, c.loop-n-test.true, c.requires.nodes.0, parents_long c.args.p c.requires.nodes.2)
+bounds-parents-n c = omega (arith, c.loop-n-test.true, c.requires.nodes.0, parents_long c.args.p.now c.requires.nodes.2)
 
 pub overflow_add-node_priorities : goal.overflow_add-node_priorities
 overflow_add-node_priorities c =
-    let v = c.loop-n.invariant c.args.p (c.requires.lawful, (c.requires.nodes, c.requires.table)) in
-    let k = raised-small c.args.p (c.requires.lawful, (c.requires.nodes, c.requires.table)) v.0 c.loop-n-test.true in
+    let v = c.loop-n.invariant c.args.p.now (c.requires.lawful, (c.requires.nodes, c.requires.table)) in
+    let k = raised-small c.args.p.now (c.requires.lawful, (c.requires.nodes, c.requires.table)) v.0 c.loop-n-test.true in
     elim c.if-parents-n.branch [
       | then-parents-n+then-priority-eq0 w ↦ omega (arith, k)
       | then-parents-n+else-priority-eq0 w ↦ omega (arith, k)
@@ -30,7 +28,7 @@ overflow_add-node_priorities c =
     ]
 
 pub bounds-node_priorities-n-in-loop-n : goal.bounds-node_priorities-n-in-loop-n
-bounds-node_priorities-n-in-loop-n c = let v = (c.loop-n.invariant c.args.p (c.requires.lawful, (c.requires.nodes, c.requires.table))).0 in omega (arith, (raised_long c.args.p (c.requires.lawful, (c.requires.nodes, c.requires.table)) v).0, c.loop-n-test.true, c.requires.table.0)
+bounds-node_priorities-n-in-loop-n c = let v = (c.loop-n.invariant c.args.p.now (c.requires.lawful, (c.requires.nodes, c.requires.table))).0 in omega (arith, (raised_long c.args.p.now (c.requires.lawful, (c.requires.nodes, c.requires.table)) v).0, c.loop-n-test.true, c.requires.table.0)
 
 pub overflow_step-n : goal.overflow_step-n
 overflow_step-n c = omega (arith, c.loop-n-test.true, c.requires.nodes.1)
@@ -51,7 +49,7 @@ loop-n-preserved c = λ p u.
     ]
 
 pub shape_of-node_priorities : goal.shape_of-node_priorities
-shape_of-node_priorities c = (raised_long c.args.p (c.requires.lawful, (c.requires.nodes, c.requires.table)) (c.loop-n.invariant c.args.p (c.requires.lawful, (c.requires.nodes, c.requires.table))).0).0
+shape_of-node_priorities c = (raised_long c.args.p.now (c.requires.lawful, (c.requires.nodes, c.requires.table)) (c.loop-n.invariant c.args.p.now (c.requires.lawful, (c.requires.nodes, c.requires.table))).0).0
 
 pub returns : goal.returns
-returns c = raised_all c.args.p (c.requires.lawful, (c.requires.nodes, c.requires.table)) (c.loop-n.invariant c.args.p (c.requires.lawful, (c.requires.nodes, c.requires.table))).0 c.loop-n-test.false
+returns c = raised_all c.args.p.now (c.requires.lawful, (c.requires.nodes, c.requires.table)) (c.loop-n.invariant c.args.p.now (c.requires.lawful, (c.requires.nodes, c.requires.table))).0 c.loop-n-test.false

@@ -1,10 +1,12 @@
 -- `decomposition::root_priority` meets its contract. Assumes nothing.
-use mathlib.Core.Path.{refl, sym, ◌∙◌}
-use borrow.Author.Rules.{rules}
+use mir.Val.{bool_byte}
+use mathlib.Core.Path.{◌≡◌, refl, ap, ◌∙◌}
+use mathlib.Core.Bool.{Bool, true, false, not, cond}
 use Rattle.decomposition.proofs.root_priority.Goals as goal
 
-pub returns-then-accepts : goal.returns-then-accepts
-returns-then-accepts c = rw (sym c.accepts.ensures ∙ c.if-accepts.true) refl
+rejected : (b : Bool) → bool_byte (not b) ≡ cond b 0 1
+rejected true = refl
+rejected false = refl
 
 pub returns : goal.returns
-returns c = rw (sym c.accepts.ensures ∙ c.if-accepts.false) refl
+returns c = c.from.ensures ∙ ap (λ (b : Bool). bool_byte (not b)) c.accepts.ensures ∙ rejected _

@@ -1,16 +1,10 @@
 -- `fill_ends` meets its contract. The invariant, for every policy that the parents are of: each node from n on has raised the end of its parent; and what stands past
 -- the nodes is as it was. Assumes nothing.
-use Prim.Native.Nat.{◌≤◌}
-use native.Mathlib.Omega.{arith}
-use borrow.Author.Rules.{rules}
 use Rattle.forest.specs.Forest.{forest}
 use Rattle.policy.specs.declared.Policy.{Policy}
 use Rattle.automaton.proofs.Ends.{Raised}
-use Rattle.ends.proofs.Raising.{KeptFrom, kept-none, kept-raised, Filling, fill-room, fill_start, fill-up, fill-root, fill-child, fill_done}
+use Rattle.ends.proofs.Raising.{KeptFrom, Filling}
 use Rattle.ends.proofs.fill_ends.Given as goal
 
 abbrev pub invariant-loop-n : goal.invariant-loop-n
-invariant-loop-n l = (l.n ≤ l.count) × KeptFrom l.initial.ends l.ends l.count × ((p : Policy) → Filling p l.parents l.count → Raised (forest p) l.ends l.n)
-
-abbrev pub decreases-loop-n : goal.decreases-loop-n
-decreases-loop-n l = l.n
+invariant-loop-n l = KeptFrom l.initial.ends l.ends l.count × ((p : Policy) → Filling p l.parents l.count → Raised (forest p) l.ends l.n)

@@ -1,5 +1,4 @@
 -- `raise` meets its contract. Assumes nothing.
-use borrow.Author.Rules.{rules}
 use borrow.Author.Tests.{lt-ltb, le-ltb}
 use Rattle.ends.specs.Raising.{raised_to}
 use Rattle.ends.proofs.raise.Goals as goal

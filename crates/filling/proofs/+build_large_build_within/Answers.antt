@@ -20,7 +20,7 @@ pub build_within-returns-then-count-le2048 : goal.build_within-returns-then-coun
 build_within-returns-then-count-le2048 t c = c.build_within.ensures
 
 pub build_within-build_large-requires : goal.build_within-build_large-requires
-build_within-build_large-requires t c = (omega (arith, c.decreases, c.if-count-ends.false, c.requires.nodes.1.few, c.requires.nodes.2), (c.requires.nodes, c.requires.room))
+build_within-build_large-requires t c = (omega (arith, c.decreases, c.if-count-ends.false, c.args.nodes.now.nodes.few, c.requires.nodes), (c.requires.nodes, c.requires.room))
 
 pub build_within-returns : goal.build_within-returns
 build_within-returns t c = c.build_large.ensures

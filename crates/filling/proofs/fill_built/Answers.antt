@@ -1,50 +1,38 @@
--- `fill_built` meets its contract: where the states do not fit, and where they do. The policy that the stages are called with is the one that the parts make. Assumes
--- nothing.
-use mathlib.Core.Path.{refl, sym, ap}
-use Rattle.lists.proofs.Bools.{not-true, unnot}
-use Rattle.policy.specs.declared.Policy.{Policy}
-use Rattle.filling.proofs.FillingLaws.{nodes-same, sized_same, builds-same, ends-column, built-few, leaves-column, starts-column, rows_fit, built-whole, built-none}
+-- `fill_built` meets its contract: where the states do not fit, and where they do. Assumes nothing.
+use mathlib.Core.Path.{refl}
+use Rattle.filling.proofs.FillingLaws.{ends-column, count-is, built-few, leaves-column, starts-column, rows_fit, built-whole, built-none}
 use Rattle.filling.proofs.fill_built.Goals as goal
 
-pub fill_ends-requires : goal.fill_ends-requires
-fill_ends-requires c =
-    let n = nodes-same (sym c.from_parts-p.ensures) c.requires.nodes in
-    record { nodes = (n.0, n.1.few, n.1.parents_are, n.2); room = c.requires.room.1 }
+pub invariant_of-ended : goal.invariant_of-ended
+invariant_of-ended c =
+    let n = c.args.nodes.now in
+    record { lawful = n.lawful; few = n.nodes.few; masked = n.nodes.masks_are; ended = ends-column n.policy.now c.args.ends.now c.requires.nodes c.requires.room.1 c.fill_ends.ensures; counted = c.requires.nodes }
 
-pub fill_states-counted-requires : goal.fill_states-counted-requires
-fill_states-counted-requires c =
-    let n = nodes-same (sym c.from_parts-p.ensures) c.requires.nodes in
-    record { nodes = (n.0, n.1.few, n.1.masks_are, ends-column c.from_parts-p.result c.args.ends.now n.2 c.requires.room.1 c.fill_ends.ensures); tables = (n.2, sym c.requires.room.0.leaves_long) }
+pub returns-in_default : goal.returns-in_default
+returns-in_default c = built-none c.requires.room.0 c.fill_states.ensures c.in_default.is c.clear.ensures c.clear-in_default.ensures
 
-pub returns-then-not-counted : goal.returns-then-not-counted
-returns-then-not-counted c =
-    builds-same c.from_parts-p.ensures (built-none (sized_same (sym c.from_parts-p.ensures) c.requires.room.0) c.fill_states-counted.ensures (not-true c.fill_states-counted.result.fits c.if-not-counted.true) c.clear16.ensures c.clear8.ensures)
+pub start_of-start-requires : goal.start_of-start-requires
+start_of-start-requires c =
+    let n = c.args.nodes.now in
+    let z = c.requires.room.0 in
+    let o = c.fill_states.ensures in
+    (n.lawful, starts-column z o c.in-Some.is n.lawful refl, built-few z o c.in-Some.is)
 
-pub fill_rows-requires : goal.fill_rows-requires
-fill_rows-requires c =
-    let n = nodes-same (sym c.from_parts-p.ensures) c.requires.nodes in
-    let f = unnot c.fill_states-counted.result.fits c.if-not-counted.false in
-    let z = sized_same (sym c.from_parts-p.ensures) c.requires.room.0 in
-    let o = c.fill_states-counted.ensures in
+pub invariant_of-built : goal.invariant_of-built
+invariant_of-built c =
+    let n = c.args.nodes.now in
+    let z = c.requires.room.0 in
+    let o = c.fill_states.ensures in
     record {
-      nodes = (n.0, n.1, ends-column c.from_parts-p.result c.args.ends.now n.2 c.requires.room.1 c.fill_ends.ensures);
-      states = (built-few z o f, leaves-column z o f, starts-column z o f n.0 refl);
-      edges = sym (ap (λ (p : Policy). p.target) c.from_parts-p.ensures);
-      rows = (o.count_is, (rows_fit z o f).0, (rows_fit z o f).1);
-      transient = n.3;
+      ended = ends-column n.policy.now c.args.ends.now c.requires.nodes c.requires.room.1 c.fill_ends.ensures;
+      few = built-few z o c.in-Some.is;
+      leaved = leaves-column z o c.in-Some.is;
+      started = starts-column z o c.in-Some.is n.lawful refl;
+      counted = count-is z o c.in-Some.is;
     }
 
-pub start_of-requires : goal.start_of-requires
-start_of-requires c =
-    let n = nodes-same (sym c.from_parts-p.ensures) c.requires.nodes in
-    let f = unnot c.fill_states-counted.result.fits c.if-not-counted.false in
-    let z = sized_same (sym c.from_parts-p.ensures) c.requires.room.0 in
-    let o = c.fill_states-counted.ensures in
-    (n.0, starts-column z o f n.0 refl, built-few z o f)
+pub fill_rows-requires : goal.fill_rows-requires
+fill_rows-requires c = rows_fit c.requires.room.0 c.fill_states.ensures c.in-Some.is
 
 pub returns : goal.returns
-returns c =
-    let f = unnot c.fill_states-counted.result.fits c.if-not-counted.false in
-    let z = sized_same (sym c.from_parts-p.ensures) c.requires.room.0 in
-    let o = c.fill_states-counted.ensures in
-    builds-same c.from_parts-p.ensures (built-whole z o f c.fill_rows.ensures.targets c.fill_rows.ensures.priorities c.start_of.ensures)
+returns c = built-whole c.requires.room.0 c.fill_states.ensures c.in-Some.is c.fill_rows.ensures.targets c.fill_rows.ensures.priorities c.start_of-start.ensures

@@ -1,11 +1,10 @@
-use mathlib.Core.Path.{◌≡◌, sym, ap, ap₂, ◌∙◌}
-use Prim.Native.Nat.{ℕ, ◌-◌, ◌≤◌}
+use mathlib.Core.Path.{sym, ap, ◌∙◌}
+use Prim.Native.Nat.{ℕ}
 use native.Mathlib.Nat.{le_antisymm}
 use native.Mathlib.Omega.{arith}
 use lib.Bits.{bit_and}
 use lib.Dec.{eqb}
 use lib.ListN.{get_or}
-use borrow.Author.Rules.{rules}
 use Rattle.masks.specs.Masks.{mask_of}
 use Rattle.masks.proofs.MaskOf.{mask-of-none}
 use Rattle.graph.specs.Through.{cycle_states}
@@ -25,4 +24,4 @@ returns c =
     let rows = c.args.rows.now in
     let row = get_or rows c.args.v 0 in
     c.both.ensures
-    ∙ ap₂ bit_and (at.invariant.1 ∙ ap (mask_of (λ (u : ℕ). eqb (get_or rows u 0) row)) (le_antisymm at.invariant.0 c.loop-w-test.false)) c.wide.ensures
+    ∙ ap (λ (m : ℕ). bit_and m row) (at.invariant.1 ∙ ap (mask_of (λ (u : ℕ). eqb (get_or rows u 0) row)) (le_antisymm at.invariant.0 c.loop-w-test.false))

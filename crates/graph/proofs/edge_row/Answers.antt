@@ -1,8 +1,7 @@
-use mathlib.Core.Path.{◌≡◌, sym, subst}
-use Prim.Native.Nat.{ℕ, ◌+◌, ◌*◌, ◌-◌, ◌^◌, ◌≤◌, ◌<◌}
+use mathlib.Core.Path.{sym, subst}
+use Prim.Native.Nat.{ℕ, ◌+◌, ◌*◌, ◌^◌, ◌<◌}
 use native.Mathlib.Nat.{le_antisymm}
 use native.Mathlib.Omega.{arith}
-use Rattle.graph.specs.Through.{edge_row}
 use Rattle.graph.proofs.CodeLaws.{edge-row-none, edge-row-more, edge-row-few}
 use mathlib.Core.Path.{◌∙◌, ap}
 use Rattle.graph.specs.Through.{with_target}

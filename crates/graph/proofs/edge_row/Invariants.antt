@@ -1,10 +1,7 @@
 -- `graph::edge_row` meets its contract. The invariant: the row has the targets of the edges passed. Assumes nothing.
-use mathlib.Core.Path.{◌≡◌, sym, subst}
-use Prim.Native.Nat.{ℕ, ◌+◌, ◌*◌, ◌-◌, ◌^◌, ◌≤◌, ◌<◌}
-use native.Mathlib.Nat.{le_antisymm}
-use native.Mathlib.Omega.{arith}
+use mathlib.Core.Path.{◌≡◌}
+use Prim.Native.Nat.{◌-◌, ◌≤◌}
 use Rattle.graph.specs.Through.{edge_row}
-use Rattle.graph.proofs.CodeLaws.{edge-row-none, edge-row-more, edge-row-few}
 use Rattle.graph.proofs.edge_row.Given as goal
 
 abbrev pub invariant-loop-a : goal.invariant-loop-a

@@ -1,8 +1,7 @@
-use mathlib.Core.Path.{◌≡◌, sym}
-use Prim.Native.Nat.{ℕ, ◌-◌, ◌≤◌}
+use mathlib.Core.Path.{sym}
+use Prim.Native.Nat.{ℕ}
 use native.Mathlib.Nat.{le_antisymm}
 use native.Mathlib.Omega.{arith}
-use Rattle.graph.specs.Through.{edge_rows}
 use Rattle.graph.proofs.CodeLaws.{row_within, row-states, edge-rows-none, edge-rows-more}
 use mathlib.Core.Path.{◌∙◌, ap₂}
 use mathlib.Core.List.{List}

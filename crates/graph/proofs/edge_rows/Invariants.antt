@@ -1,10 +1,7 @@
 -- `graph::edge_rows` meets its contract. The invariant: the rows below v stand. Assumes nothing.
-use mathlib.Core.Path.{◌≡◌, sym}
+use mathlib.Core.Path.{◌≡◌}
 use Prim.Native.Nat.{◌-◌, ◌≤◌}
-use native.Mathlib.Nat.{le_antisymm}
-use native.Mathlib.Omega.{arith}
 use Rattle.graph.specs.Through.{edge_rows}
-use Rattle.graph.proofs.CodeLaws.{row_within, row-states, edge-rows-none, edge-rows-more}
 use Rattle.graph.proofs.edge_rows.Given as goal
 
 abbrev pub invariant-loop-v : goal.invariant-loop-v

@@ -1,11 +1,7 @@
 -- `graph::edges_into` meets its contract. The invariant: t has the edges passed, by their targets. Assumes nothing.
 use mathlib.Core.Path.{◌≡◌}
-use Prim.Native.Nat.{◌-◌, ◌≤◌, ◌<◌}
-use native.Mathlib.Nat.{le_antisymm}
-use native.Mathlib.Omega.{arith}
-use lib.ListN.{get_or}
+use Prim.Native.Nat.{◌-◌, ◌≤◌}
 use Rattle.graph.specs.Through.{entering}
-use Rattle.graph.proofs.OnCycle.{entering-none, entering-more}
 use Rattle.graph.proofs.edges_into.Given as goal
 
 abbrev pub invariant-loop-e : goal.invariant-loop-e

@@ -1,8 +1,5 @@
-use mathlib.Core.Path.{◌≡◌}
-use Prim.Native.Nat.{◌-◌, ◌≤◌}
 use native.Mathlib.Nat.{le_antisymm}
 use native.Mathlib.Omega.{arith}
-use Rattle.graph.specs.Through.{leaving}
 use Rattle.graph.proofs.CodeLaws.{row_within}
 use Rattle.graph.proofs.OnCycle.{leaving-none, leaving-more}
 use Rattle.graph.proofs.edges_out.Goals as goal

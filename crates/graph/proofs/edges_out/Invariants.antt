@@ -1,11 +1,7 @@
 -- `graph::edges_out` meets its contract. The invariant: the places of the states passed stand. Assumes nothing.
 use mathlib.Core.Path.{◌≡◌}
 use Prim.Native.Nat.{◌-◌, ◌≤◌}
-use native.Mathlib.Nat.{le_antisymm}
-use native.Mathlib.Omega.{arith}
 use Rattle.graph.specs.Through.{leaving}
-use Rattle.graph.proofs.CodeLaws.{row_within}
-use Rattle.graph.proofs.OnCycle.{leaving-none, leaving-more}
 use Rattle.graph.proofs.edges_out.Given as goal
 
 abbrev pub invariant-loop-v : goal.invariant-loop-v

@@ -1,5 +1,4 @@
 -- `graph::join_row` meets its contract: by whether the row has k. Assumes nothing.
-use borrow.Author.Rules.{rules}
 use Rattle.lists.proofs.Bools.{≡eqb, neqb}
 use Rattle.masks.specs.Masks.{has}
 use Rattle.graph.specs.Through.{join_row}

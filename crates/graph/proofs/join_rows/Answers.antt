@@ -1,8 +1,6 @@
-use mathlib.Core.Path.{◌≡◌, sym}
-use Prim.Native.Nat.{◌-◌, ◌≤◌}
+use mathlib.Core.Path.{sym}
 use native.Mathlib.Nat.{le_antisymm}
 use native.Mathlib.Omega.{arith}
-use Rattle.graph.specs.Through.{join_rows}
 use Rattle.graph.proofs.CodeLaws.{join-none, join_more}
 use Rattle.graph.proofs.join_rows.Goals as goal
 

@@ -1,10 +1,7 @@
 -- `graph::join_rows` meets its contract. The invariant: the rows below u are joined. Assumes nothing.
-use mathlib.Core.Path.{◌≡◌, sym}
+use mathlib.Core.Path.{◌≡◌}
 use Prim.Native.Nat.{◌-◌, ◌≤◌}
-use native.Mathlib.Nat.{le_antisymm}
-use native.Mathlib.Omega.{arith}
 use Rattle.graph.specs.Through.{join_rows}
-use Rattle.graph.proofs.CodeLaws.{join-none, join_more}
 use Rattle.graph.proofs.join_rows.Given as goal
 
 abbrev pub invariant-loop-u : goal.invariant-loop-u

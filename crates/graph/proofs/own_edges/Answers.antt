@@ -1,7 +1,6 @@
 -- `graph::own_edges` meets its contract. Assumes nothing.
 use Prim.Native.Nat.{ℕ, ◌*◌, ◌%◌, ◌^◌}
 use mathlib.Core.Path.{ap, ◌∙◌}
-use borrow.Author.Rules.{rules}
 use Rattle.graph.proofs.OnCycle.{first-few, own-moved}
 use Rattle.graph.proofs.own_edges.Goals as goal
 

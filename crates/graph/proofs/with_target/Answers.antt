@@ -2,7 +2,6 @@
 use mathlib.Core.Path.{ap, ◌∙◌}
 use mathlib.Core.Bool.{Bool, cond}
 use lib.ListN.{get_or}
-use borrow.Author.Rules.{rules}
 use Rattle.masks.specs.Masks.{insert}
 use Rattle.graph.specs.Through.{with_target}
 use Rattle.graph.proofs.with_target.Goals as goal

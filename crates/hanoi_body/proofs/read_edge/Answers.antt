@@ -1,35 +1,24 @@
 -- `read_edge` meets its contract: a target, then marks in braces or none. Assumes nothing.
-use native.Mathlib.Omega.{arith}
-use Rattle.lists.proofs.Bools.{not-true, unnot}
-use Rattle.hanoi_body.proofs.Edges.{edge_none, edge-breaks, edge-plain, edge-unmarked, edge-marked}
+use mathlib.Core.Path.{◌≡◌}
+use borrow.Author.Rules.{rules}
+use Rattle.std.specs.Prelude.{Err}
+use Rattle.hanoi_body.proofs.Edges.{edge_none, edge-breaks, edge-plain, edge-unmarked, edge-open, edge-marked}
 use Rattle.hanoi_body.proofs.read_edge.Goals as goal
 
-pub read_digits-t-requires : goal.read_digits-t-requires
-read_digits-t-requires c = (c.requires.0, omega (arith, c.requires.1))
+pub returns-in_err-target : goal.returns-in_err-target
+returns-in_err-target c = let e : c.from_residual.result ≡ Err c.in_err-target.field-0.0 = search rules in rw e (edge_none _ _ _ c.args.sets _ c.in_err-target.ensures)
 
-pub returns-then-not-t : goal.returns-then-not-t
-returns-then-not-t c = rw c.stopped.ensures (edge_none _ _ _ _ _ c.read_digits-t.ensures (not-true _ c.if-not-t.true))
+pub returns-in_err-first : goal.returns-in_err-first
+returns-in_err-first c = let e : c.from_residual-in_err-first.result ≡ Err c.in_err-first.field-0.0 = search rules in rw e (edge-breaks _ _ _ c.args.sets _ c.in_ok-target.ensures _ c.in_err-first.ensures)
 
-pub next-n-requires : goal.next-n-requires
-next-n-requires c = c.read_digits-t.ensures.within (unnot _ c.if-not-t.false)
+pub returns-then-first-ne123 : goal.returns-then-first-ne123
+returns-then-first-ne123 c = edge-plain _ _ _ c.args.sets _ c.in_ok-target.ensures _ c.in_ok-first.ensures c.if-first-ne123.true
 
-pub returns-then-not-n : goal.returns-then-not-n
-returns-then-not-n c = rw c.stopped-then-not-n.ensures (edge-breaks _ _ _ _ _ c.read_digits-t.ensures (unnot _ c.if-not-t.false) _ c.next-n.ensures (not-true _ c.if-not-n.true))
+pub returns-in_err-braces : goal.returns-in_err-braces
+returns-in_err-braces c = let e : c.from_residual-in_err-braces.result ≡ Err c.in_err-braces.field-0.0 = search rules in rw e (edge-unmarked _ _ _ _ _ c.in_ok-target.ensures _ c.in_ok-first.ensures c.if-first-ne123.false _ c.in_err-braces.ensures)
 
-pub returns-then-n-ne123 : goal.returns-then-n-ne123
-returns-then-n-ne123 c = edge-plain _ _ _ _ _ c.read_digits-t.ensures (unnot _ c.if-not-t.false) _ c.next-n.ensures (unnot _ c.if-not-n.false) c.if-n-ne123.true
-
-pub overflow_add-i : goal.overflow_add-i
-overflow_add-i c = omega (arith, c.next-n.ensures.there (unnot _ c.if-not-n.false))
-
-pub read_marks-m-requires : goal.read_marks-m-requires
-read_marks-m-requires c = (omega (arith, c.next-n.ensures.there (unnot _ c.if-not-n.false)), c.requires.2)
-
-pub returns-then-not-m : goal.returns-then-not-m
-returns-then-not-m c = rw c.stopped-then-not-m.ensures (edge-unmarked _ _ _ _ _ c.read_digits-t.ensures (unnot _ c.if-not-t.false) _ c.next-n.ensures (unnot _ c.if-not-n.false) c.if-n-ne123.false _ c.read_marks-m.ensures (not-true _ c.if-not-m.true))
-
-pub next-e-requires : goal.next-e-requires
-next-e-requires c = c.read_marks-m.ensures.within (unnot _ c.if-not-m.false)
+pub returns-in_err-behind : goal.returns-in_err-behind
+returns-in_err-behind c = let e : c.from_residual-in_err-behind.result ≡ Err c.in_err-behind.field-0.0 = search rules in rw e (edge-open _ _ _ _ _ c.in_ok-target.ensures _ c.in_ok-first.ensures c.if-first-ne123.false _ c.in_ok-braces.ensures _ c.in_err-behind.ensures)
 
 pub returns : goal.returns
-returns c = edge-marked _ _ _ _ _ c.read_digits-t.ensures (unnot _ c.if-not-t.false) _ c.next-n.ensures (unnot _ c.if-not-n.false) c.if-n-ne123.false _ c.read_marks-m.ensures (unnot _ c.if-not-m.false) _ c.next-e.ensures
+returns c = edge-marked _ _ _ _ _ c.in_ok-target.ensures _ c.in_ok-first.ensures c.if-first-ne123.false _ c.in_ok-braces.ensures _ c.in_ok-behind.ensures

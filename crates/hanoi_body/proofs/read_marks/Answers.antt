@@ -1,34 +1,27 @@
 use native.Mathlib.Omega.{arith}
-use Rattle.lists.proofs.Bools.{not-true, unnot}
+use mathlib.Core.Path.{◌≡◌}
+use borrow.Author.Rules.{rules}
+use Rattle.std.specs.Prelude.{Err}
 use Rattle.hanoi_body.proofs.Edges.{marking-none, marking-breaks, marking-closed, marking-not, marking-more, mark-small}
 use Rattle.hanoi_body.proofs.read_marks.Goals as goal
 
-pub loop-n-init : goal.loop-n-init
-loop-n-init c = marking-none _ _ _ c.requires.0
+pub loop-first-init : goal.loop-first-init
+loop-first-init c = marking-none _ _ _ c.requires.0
 
-pub next-n-requires : goal.next-n-requires
-next-n-requires c = c.loop-n.invariant.within
+pub returns-in_err-first : goal.returns-in_err-first
+returns-in_err-first c = let e : c.from_residual.result ≡ Err c.in_err-first.field-0.0 = search rules in rw e (marking-breaks _ _ _ _ _ c.loop-first.invariant _ c.in_err-first.ensures)
 
-pub returns-then-not-n : goal.returns-then-not-n
-returns-then-not-n c = marking-breaks _ _ _ _ _ c.loop-n.invariant _ c.next-n.ensures (not-true _ c.if-not-n.true)
+pub returns-then-first-eq125 : goal.returns-then-first-eq125
+returns-then-first-eq125 c = marking-closed _ _ _ _ _ c.loop-first.invariant _ c.in_ok-first.ensures c.if-first-eq125.true
 
-pub overflow_add-result : goal.overflow_add-result
-overflow_add-result c = omega (arith, c.next-n.ensures.there (unnot _ c.if-not-n.false))
-
-pub returns-then-n-eq125 : goal.returns-then-n-eq125
-returns-then-n-eq125 c = marking-closed _ _ _ _ _ c.loop-n.invariant _ c.next-n.ensures (unnot _ c.if-not-n.false) c.if-n-eq125.true
-
-pub read_digits-m-requires : goal.read_digits-m-requires
-read_digits-m-requires c = (c.next-n.ensures.there (unnot _ c.if-not-n.false), omega (arith, c.requires.1))
-
-pub returns-then-not-m : goal.returns-then-not-m
-returns-then-not-m c = marking-not _ _ _ _ _ c.loop-n.invariant _ c.next-n.ensures (unnot _ c.if-not-n.false) c.if-n-eq125.false _ c.read_digits-m.ensures (not-true _ c.if-not-m.true)
+pub returns-in_err-mark : goal.returns-in_err-mark
+returns-in_err-mark c = let e : c.from_residual-in_err-mark.result ≡ Err c.in_err-mark.field-0.0 = search rules in rw e (marking-not _ _ _ _ _ c.loop-first.invariant _ c.in_ok-first.ensures c.if-first-eq125.false _ c.in_err-mark.ensures)
 
 pub overflow_shl-marks : goal.overflow_shl-marks
-overflow_shl-marks c = mark-small _ _ _ _ _ c.loop-n.invariant _ c.next-n.ensures (unnot _ c.if-not-n.false) c.if-n-eq125.false _ c.read_digits-m.ensures c.requires.1 (unnot _ c.if-not-m.false)
+overflow_shl-marks c = mark-small _ _ _ _ _ c.loop-first.invariant _ c.in_ok-first.ensures c.if-first-eq125.false _ c.in_ok-mark.ensures c.requires.1
 
-pub loop-n-smaller : goal.loop-n-smaller
-loop-n-smaller c = omega (arith, c.next-n.ensures.later, c.next-n.ensures.there (unnot _ c.if-not-n.false), c.read_digits-m.ensures.later (unnot _ c.if-not-m.false), c.read_digits-m.ensures.within (unnot _ c.if-not-m.false))
+pub loop-first-smaller : goal.loop-first-smaller
+loop-first-smaller c = omega (arith, c.in_ok-first.ensures.later, c.in_ok-mark.ensures.later, c.in_ok-mark.ensures.within)
 
-pub loop-n-preserved : goal.loop-n-preserved
-loop-n-preserved c = marking-more _ _ _ _ _ c.loop-n.invariant _ c.next-n.ensures (unnot _ c.if-not-n.false) c.if-n-eq125.false _ c.read_digits-m.ensures c.requires.1 (unnot _ c.if-not-m.false)
+pub loop-first-preserved : goal.loop-first-preserved
+loop-first-preserved c = marking-more _ _ _ _ _ c.loop-first.invariant _ c.in_ok-first.ensures c.if-first-eq125.false _ c.in_ok-mark.ensures c.requires.1

@@ -4,8 +4,8 @@ use lib.ListN.{length}
 use Rattle.hanoi_body.proofs.Edges.{Marking}
 use Rattle.hanoi_body.proofs.read_marks.Given as goal
 
-abbrev pub invariant-loop-n : goal.invariant-loop-n
-invariant-loop-n l = Marking l.text l.at l.sets l.i l.marks
+abbrev pub invariant-loop-first : goal.invariant-loop-first
+invariant-loop-first l = Marking l.text l.at l.sets l.i l.marks
 
-abbrev pub decreases-loop-n : goal.decreases-loop-n
-decreases-loop-n l = length l.text - l.i
+abbrev pub decreases-loop-first : goal.decreases-loop-first
+decreases-loop-first l = length l.text - l.i

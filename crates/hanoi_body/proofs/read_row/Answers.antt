@@ -1,29 +1,24 @@
 use native.Mathlib.Omega.{arith}
-use mathlib.Core.Path.{refl}
-use Rattle.lists.proofs.Bools.{not-true, unnot}
+use mathlib.Core.Path.{◌≡◌}
+use borrow.Author.Rules.{rules}
+use Rattle.std.specs.Prelude.{Err}
 use Rattle.hanoi_body.proofs.Rows.{place-lt, row-no-state, rowing-none, row-no-edge, rowing_more, row_read}
 use Rattle.hanoi_body.proofs.read_row.Goals as goal
 
-pub read_state-s-requires : goal.read_state-s-requires
-read_state-s-requires c = (c.requires.0, omega (arith, c.requires.1, c.requires.2))
-
-pub returns-then-not-s : goal.returns-then-not-s
-returns-then-not-s c = row-no-state _ _ _ _ _ _ _ c.requires.1 _ c.read_state-s.ensures _ refl refl (not-true _ c.if-not-s.true)
+pub returns-in_err-at : goal.returns-in_err-at
+returns-in_err-at c = let e : c.from_residual.result ≡ Err c.in_err-at.field-0.0 = search rules in rw e (row-no-state _ _ c.args.letters c.args.sets c.args.fits _ _ c.requires.1 _ c.in_err-at.ensures)
 
 pub loop-a-init : goal.loop-a-init
-loop-a-init c = rowing-none _ _ _ _ _ _ _ c.requires.1 _ c.read_state-s.ensures (unnot _ c.if-not-s.false)
+loop-a-init c = rowing-none _ _ _ _ _ _ _ c.requires.1 _ c.in_ok-at.ensures
 
-pub read_edge-e-requires : goal.read_edge-e-requires
-read_edge-e-requires c = (c.loop-a.invariant.there, c.requires.2, c.requires.3)
-
-pub returns-then-not-e : goal.returns-then-not-e
-returns-then-not-e c = row-no-edge _ _ _ _ _ _ _ _ _ _ c.loop-a.invariant c.loop-a-test.true _ c.read_edge-e.ensures _ refl refl (not-true _ c.if-not-e.true)
+pub returns-in_err-e : goal.returns-in_err-e
+returns-in_err-e c = let e : c.from_residual-in_err-e.result ≡ Err c.in_err-e.field-0.0 = search rules in rw e (row-no-edge _ _ _ _ _ _ _ _ _ _ c.loop-a.invariant c.loop-a-test.true _ c.in_err-e.ensures)
 
 pub with_edge-b-requires : goal.with_edge-b-requires
-with_edge-b-requires c = λ e. (place-lt _ _ _ _ c.requires.1 c.loop-a-test.true (c.requires.4 e).1, let h = c.requires.4 e in omega (arith, c.read_edge-e.ensures.below (unnot _ c.if-not-e.false), h.0))
+with_edge-b-requires c = λ e. (place-lt _ _ _ _ c.requires.1 c.loop-a-test.true (c.requires.4 e).1, let h = c.requires.4 e in omega (arith, c.in_ok-e.ensures.below, h.0))
 
 pub loop-a-preserved : goal.loop-a-preserved
-loop-a-preserved c = rowing_more _ _ _ _ _ _ _ _ _ _ c.loop-a.invariant c.loop-a-test.true _ c.read_edge-e.ensures (λ e. place-lt _ _ _ _ c.requires.1 c.loop-a-test.true (c.requires.4 e).1) (unnot _ c.if-not-e.false) _ c.with_edge-b.ensures
+loop-a-preserved c = rowing_more _ _ _ _ _ _ _ _ _ _ c.loop-a.invariant c.loop-a-test.true _ c.in_ok-e.ensures (λ e. place-lt _ _ _ _ c.requires.1 c.loop-a-test.true (c.requires.4 e).1) _ c.with_edge-b.ensures
 
 pub returns : goal.returns
-returns c = row_read _ _ _ _ _ _ _ _ _ _ c.loop-a.invariant c.loop-a-test.false _ refl refl refl refl
+returns c = row_read _ _ _ _ _ _ _ _ _ _ c.loop-a.invariant c.loop-a-test.false

@@ -1,20 +1,21 @@
 -- `read_state` meets its contract: the word, the number, and the first byte behind them. Assumes nothing.
-use mathlib.Core.Path.{refl}
-use Rattle.lists.proofs.Bools.{not-true, unnot}
-use Rattle.hanoi_body.proofs.Rows.{state-within, state-no-word, state-no-number, state-read}
+use mathlib.Core.Path.{◌≡◌, refl}
+use borrow.Author.Rules.{rules}
+use Rattle.std.specs.Prelude.{Err}
+use Rattle.hanoi_body.proofs.Rows.{state-within, state-no-word, state-no-number, state-no-edge, state-read}
 use Rattle.hanoi_body.proofs.read_state.Goals as goal
 
-pub returns-then-not-w : goal.returns-then-not-w
-returns-then-not-w c = state-no-word _ _ _ _ _ refl c.read_word-w.ensures (not-true _ c.if-not-w.true)
+pub returns-in_err-word : goal.returns-in_err-word
+returns-in_err-word c = let e : c.from_residual.result ≡ Err c.in_err-word.field-0.0 = search rules in rw e (state-no-word _ _ c.args.row _ refl _ c.in_err-word.ensures)
 
-pub read_number-n-requires : goal.read_number-n-requires
-read_number-n-requires c = (state-within _ _ _ _ refl c.read_word-w.ensures (unnot _ c.if-not-w.false), c.requires.1)
+pub read_number-requires : goal.read_number-requires
+read_number-requires c = (state-within _ _ _ _ refl c.in_ok-word.ensures, c.requires.1)
 
-pub returns-then-not-n : goal.returns-then-not-n
-returns-then-not-n c = state-no-number _ _ _ _ _ refl c.read_word-w.ensures (unnot _ c.if-not-w.false) _ c.read_number-n.ensures (not-true _ c.if-not-n.true)
+pub returns-in_err-number : goal.returns-in_err-number
+returns-in_err-number c = let e : c.from_residual-in_err-number.result ≡ Err c.in_err-number.field-0.0 = search rules in rw e (state-no-number _ _ _ _ refl _ c.in_ok-word.ensures _ c.in_err-number.ensures)
 
-pub next-b-requires : goal.next-b-requires
-next-b-requires c = c.read_number-n.ensures.within (unnot _ c.if-not-n.false)
+pub returns-in_err-first : goal.returns-in_err-first
+returns-in_err-first c = let e : c.from_residual-in_err-first.result ≡ Err c.in_err-first.field-0.0 = search rules in rw e (state-no-edge _ _ _ _ refl _ c.in_ok-word.ensures _ c.in_ok-number.ensures _ c.in_err-first.ensures)
 
 pub returns : goal.returns
-returns c = state-read _ _ _ _ _ refl c.read_word-w.ensures (unnot _ c.if-not-w.false) _ c.read_number-n.ensures (unnot _ c.if-not-n.false) _ c.next-b.ensures
+returns c = state-read _ _ _ _ refl _ c.in_ok-word.ensures _ c.in_ok-number.ensures _ c.in_ok-first.ensures

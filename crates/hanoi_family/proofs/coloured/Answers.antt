@@ -8,11 +8,8 @@ pub returns-then-c-lt6 : goal.returns-then-c-lt6
 unfolding table
 returns-then-c-lt6 c = low-has _ _ c.requires.0 c.if-c-lt6.true
 
-pub has_word-requires : goal.has_word-requires
-has_word-requires c = (omega (arith, c.if-c-lt6.false), c.requires.1)
-
-pub returns-then-has_word : goal.returns-then-has_word
-returns-then-has_word c = high-has _ _ _ c.requires.0 (omega (arith, c.if-c-lt6.false)) c.requires.1 (sym c.if-has_word.true ∙ c.has_word.ensures)
+pub returns-then-has : goal.returns-then-has
+returns-then-has c = high-has _ _ _ c.requires.0 (omega (arith, c.if-c-lt6.false)) c.requires.1 (sym c.if-has.true ∙ c.has.ensures)
 
 pub returns : goal.returns
-returns c = high-has _ _ _ c.requires.0 (omega (arith, c.if-c-lt6.false)) c.requires.1 (sym c.if-has_word.false ∙ c.has_word.ensures)
+returns c = high-has _ _ _ c.requires.0 (omega (arith, c.if-c-lt6.false)) c.requires.1 (sym c.if-has.false ∙ c.has.ensures)

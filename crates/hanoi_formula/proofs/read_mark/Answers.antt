@@ -1,20 +1,20 @@
 -- `read_mark` meets its contract: an opening parenthesis, a number and a closing one. Assumes nothing.
 use native.Mathlib.Omega.{arith}
-use Rattle.lists.proofs.Bools.{not-true, unnot}
-use Rattle.hanoi_formula.proofs.Marks.{opened-within, unopened, numbered_within, unnumbered, marked}
+use borrow.Author.Rules.{rules}
+use Rattle.hanoi_formula.proofs.Marks.{opened-within, unopened, unnumbered, unclosed, marked}
 use Rattle.hanoi_formula.proofs.read_mark.Goals as goal
 
-pub returns-then-not-opens : goal.returns-then-not-opens
-returns-then-not-opens c = rw c.unmarked.ensures (unopened _ _ _ _ c.read_word-opens.ensures (not-true _ c.if-not-opens.true))
+pub returns-in_err-opened : goal.returns-in_err-opened
+returns-in_err-opened c = search (rules, unopened c.args.text.now c.args.at c.args.sets _ c.in_err-opened.ensures)
 
-pub read_number-number-requires : goal.read_number-number-requires
-read_number-number-requires c = (opened-within _ _ c.args.sets _ c.read_word-opens.ensures (unnot _ c.if-not-opens.false), omega (arith, c.requires.1))
+pub read_number-requires : goal.read_number-requires
+read_number-requires c = (opened-within _ _ c.args.sets _ c.in_ok-opened.ensures, omega (arith, c.requires.1))
 
-pub returns-then-not-number : goal.returns-then-not-number
-returns-then-not-number c = rw c.unmarked-then-not-number.ensures (unnumbered _ _ _ _ c.read_word-opens.ensures (unnot _ c.if-not-opens.false) _ c.read_number-number.ensures (not-true _ c.if-not-number.true))
+pub returns-in_err-number : goal.returns-in_err-number
+returns-in_err-number c = search (rules, unnumbered _ _ c.args.sets _ c.in_ok-opened.ensures _ c.in_err-number.ensures)
 
-pub read_word-closes-requires : goal.read_word-closes-requires
-read_word-closes-requires c = numbered_within _ _ _ _ c.read_word-opens.ensures (unnot _ c.if-not-opens.false) _ c.read_number-number.ensures (unnot _ c.if-not-number.false)
+pub returns-in_err-closed : goal.returns-in_err-closed
+returns-in_err-closed c = search (rules, unclosed _ _ c.args.sets _ c.in_ok-opened.ensures _ c.in_ok-number.ensures _ c.in_err-closed.ensures)
 
 pub returns : goal.returns
-returns c = marked _ _ _ _ c.read_word-opens.ensures (unnot _ c.if-not-opens.false) _ c.read_number-number.ensures (unnot _ c.if-not-number.false) _ c.read_word-closes.ensures
+returns c = marked _ _ _ _ c.in_ok-opened.ensures _ c.in_ok-number.ensures _ c.in_ok-closed.ensures

@@ -1,58 +1,48 @@
 -- `read_operand` meets its contract: each byte leads where the reader of documents goes. Assumes nothing.
-use Prim.Native.Nat.{◌<◌}
 use native.Mathlib.Omega.{arith}
-use lib.ListN.{length}
-use Rattle.lists.proofs.Bools.{not-true, unnot, neqb}
-use Rattle.hanoi_formula.proofs.Operands.{operand-stopped, operand-opens, operand-yes, operand-no, operand-no-mark, operand-other, inf-stops, inf-value, fin-stops, fin-value}
+use mathlib.Core.Path.{◌≡◌, ap}
+use lib.Dec.{eqb}
+use borrow.Author.Rules.{rules}
+use Rattle.std.specs.Prelude.{Err}
+use Rattle.hanoi_formula.proofs.Operands.{operand-stopped, operand-opens, operand-yes, operand-no, operand-other, inf-stops, inf-value, fin-stops, fin-value}
 use Rattle.hanoi_formula.proofs.read_operand.Goals as goal
 
-pub returns-then-not-n : goal.returns-then-not-n
-returns-then-not-n c = operand-stopped _ _ _ c.args.all c.args.lanes.now _ c.next-n.ensures (not-true _ c.if-not-n.true)
+pub returns-in_err-first : goal.returns-in_err-first
+returns-in_err-first c = let e : c.from_residual.result ≡ Err c.in_err-first.field-0.0 = search rules in rw e (operand-stopped c.args.text.now c.args.at c.args.sets c.args.all c.args.lanes.now _ c.in_err-first.ensures)
 
-pub overflow_add-result-then-b-eq102 : goal.overflow_add-result-then-b-eq102
-overflow_add-result-then-b-eq102 c = let h : c.next-n.result.at < length c.args.text.now = c.next-n.ensures.there (unnot _ c.if-not-n.false) in omega (arith, h)
+pub returns-in_err-m-in-73 : goal.returns-in_err-m-in-73
+returns-in_err-m-in-73 c = let e : c.from_residual-in_err-m-in-73.result ≡ Err c.in_err-m-in-73.field-0.0 = search rules in rw e (inf-stops _ _ _ c.args.all c.args.lanes.now _ c.in_ok-first.ensures c.if-sets-gt0.true c.in-73.is _ c.in_err-m-in-73.ensures)
 
-pub returns-then-b-eq40 : goal.returns-then-b-eq40
-returns-then-b-eq40 c = operand-opens _ _ _ c.args.all c.args.lanes.now _ c.next-n.ensures (unnot _ c.if-not-n.false) c.if-b-eq40.true
+pub returns-in_err-m-in-70 : goal.returns-in_err-m-in-70
+returns-in_err-m-in-70 c = let e : c.from_residual-in_err-m-in-70.result ≡ Err c.in_err-m-in-70.field-0.0 = search rules in rw e (fin-stops _ _ _ c.args.all c.args.lanes.now _ c.in_ok-first.ensures c.if-sets-gt0-2.true c.in-70.is _ c.in_err-m-in-70.ensures)
 
-pub returns-then-b-eq116 : goal.returns-then-b-eq116
-returns-then-b-eq116 c = operand-yes _ _ _ c.args.all c.args.lanes.now _ c.next-n.ensures (unnot _ c.if-not-n.false) c.if-b-eq116.true
+pub returns-in-40 : goal.returns-in-40
+returns-in-40 c = operand-opens _ _ _ c.args.all c.args.lanes.now _ c.in_ok-first.ensures c.in-40.is
 
-pub returns-then-b-eq102 : goal.returns-then-b-eq102
-returns-then-b-eq102 c = operand-no _ _ _ c.args.all c.args.lanes.now _ c.next-n.ensures (unnot _ c.if-not-n.false) c.if-b-eq102.true
+pub returns-in-116 : goal.returns-in-116
+returns-in-116 c = operand-yes _ _ _ c.args.all c.args.lanes.now _ c.in_ok-first.ensures c.in-116.is
 
-pub returns-then-sets-eq0 : goal.returns-then-sets-eq0
-returns-then-sets-eq0 c = operand-no-mark _ _ _ c.args.all c.args.lanes.now _ c.next-n.ensures (unnot _ c.if-not-n.false) (neqb _ _ c.if-b-eq40.false) (neqb _ _ c.if-b-eq116.false) (neqb _ _ c.if-b-eq102.false) c.if-sets-eq0.true
+pub returns-in-102 : goal.returns-in-102
+returns-in-102 c = operand-no _ _ _ c.args.all c.args.lanes.now _ c.in_ok-first.ensures c.in-102.is
 
-pub overflow_add-i : goal.overflow_add-i
-overflow_add-i c = let h : c.next-n.result.at < length c.args.text.now = c.next-n.ensures.there (unnot _ c.if-not-n.false) in omega (arith, h)
+pub returns-in_ok-m-in-73 : goal.returns-in_ok-m-in-73
+returns-in_ok-m-in-73 c = rw c.mark_lanes.ensures (inf-value _ _ _ c.args.all c.args.lanes.now _ c.in_ok-first.ensures c.if-sets-gt0.true c.in-73.is _ c.in_ok-m-in-73.ensures)
 
-pub read_marked-m-requires : goal.read_marked-m-requires
-read_marked-m-requires c = (omega (arith, c.next-n.ensures.there (unnot _ c.if-not-n.false)), c.requires.1)
+pub returns-in_ok-m-in-70 : goal.returns-in_ok-m-in-70
+returns-in_ok-m-in-70 c = rw c.mark_lanes-in-70.ensures (fin-value _ _ _ c.args.all c.args.lanes.now _ c.in_ok-first.ensures c.if-sets-gt0-2.true c.in-70.is _ c.in_ok-m-in-70.ensures)
 
-pub returns-then-not-m : goal.returns-then-not-m
-returns-then-not-m c = inf-stops _ _ _ c.args.all c.args.lanes.now _ c.next-n.ensures (unnot _ c.if-not-n.false) (omega (arith, c.if-sets-eq0.false)) _ c.if-b-eq73.true c.read_marked-m.ensures (not-true _ c.if-not-m.true)
+-- `I` where no mark may come
+pub returns-in_default : goal.returns-in_default
+returns-in_default c =
+    let no = c.if-sets-gt0.false in
+    operand-other _ _ _ c.args.all c.args.lanes.now _ c.in_ok-first.ensures (ap (λ (x : _). eqb x 40) c.in-73.is) (ap (λ (x : _). eqb x 116) c.in-73.is) (ap (λ (x : _). eqb x 102) c.in-73.is) (λ p. absurd (omega (arith, p, no))) (λ p. absurd (omega (arith, p, no)))
 
-pub mark_lanes-value-requires : goal.mark_lanes-value-requires
-mark_lanes-value-requires c = omega (arith, c.requires.1, c.read_marked-m.ensures.below (unnot _ c.if-not-m.false))
+-- and `F`
+pub returns-in_default-2 : goal.returns-in_default-2
+returns-in_default-2 c =
+    let no = c.if-sets-gt0-2.false in
+    operand-other _ _ _ c.args.all c.args.lanes.now _ c.in_ok-first.ensures (ap (λ (x : _). eqb x 40) c.in-70.is) (ap (λ (x : _). eqb x 116) c.in-70.is) (ap (λ (x : _). eqb x 102) c.in-70.is) (λ p. absurd (omega (arith, p, no))) (λ p. absurd (omega (arith, p, no)))
 
-pub returns-then-b-eq73 : goal.returns-then-b-eq73
-returns-then-b-eq73 c = rw c.mark_lanes-value.ensures (inf-value _ _ _ c.args.all c.args.lanes.now _ c.next-n.ensures (unnot _ c.if-not-n.false) (omega (arith, c.if-sets-eq0.false)) _ c.if-b-eq73.true c.read_marked-m.ensures (unnot _ c.if-not-m.false))
-
-pub overflow_add-i-then-b-eq70 : goal.overflow_add-i-then-b-eq70
-overflow_add-i-then-b-eq70 c = let h : c.next-n.result.at < length c.args.text.now = c.next-n.ensures.there (unnot _ c.if-not-n.false) in omega (arith, h)
-
-pub read_marked-m-requires-then-b-eq70 : goal.read_marked-m-requires-then-b-eq70
-read_marked-m-requires-then-b-eq70 c = (omega (arith, c.next-n.ensures.there (unnot _ c.if-not-n.false)), c.requires.1)
-
-pub returns-then-not-m-2 : goal.returns-then-not-m-2
-returns-then-not-m-2 c = fin-stops _ _ _ c.args.all c.args.lanes.now _ c.next-n.ensures (unnot _ c.if-not-n.false) (omega (arith, c.if-sets-eq0.false)) _ c.if-b-eq70.true c.read_marked-m-then-b-eq70.ensures (not-true _ c.if-not-m-2.true)
-
-pub mark_lanes-value-requires-then-b-eq70 : goal.mark_lanes-value-requires-then-b-eq70
-mark_lanes-value-requires-then-b-eq70 c = omega (arith, c.requires.1, c.read_marked-m-then-b-eq70.ensures.below (unnot _ c.if-not-m-2.false))
-
-pub returns-then-b-eq70 : goal.returns-then-b-eq70
-returns-then-b-eq70 c = rw c.mark_lanes-value-then-b-eq70.ensures (fin-value _ _ _ c.args.all c.args.lanes.now _ c.next-n.ensures (unnot _ c.if-not-n.false) (omega (arith, c.if-sets-eq0.false)) _ c.if-b-eq70.true c.read_marked-m-then-b-eq70.ensures (unnot _ c.if-not-m-2.false))
-
-pub returns : goal.returns
-returns c = operand-other _ _ _ c.args.all c.args.lanes.now _ c.next-n.ensures (unnot _ c.if-not-n.false) (neqb _ _ c.if-b-eq40.false) (neqb _ _ c.if-b-eq116.false) (neqb _ _ c.if-b-eq102.false) (neqb _ _ c.if-b-eq73.false) (neqb _ _ c.if-b-eq70.false) (omega (arith, c.if-sets-eq0.false))
+pub returns-in_default-3 : goal.returns-in_default-3
+returns-in_default-3 c =
+    operand-other _ _ _ c.args.all c.args.lanes.now _ c.in_ok-first.ensures (search rules) (search rules) (search rules) (λ p. search rules) (λ p. search rules)

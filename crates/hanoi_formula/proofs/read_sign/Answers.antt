@@ -1,40 +1,38 @@
 -- `read_sign` meets its contract: each byte leads where the reader of documents goes. Assumes nothing.
-use Prim.Native.Nat.{◌<◌}
-use native.Mathlib.Omega.{arith}
-use lib.ListN.{length}
-use Rattle.lists.proofs.Bools.{not-true, unnot, neqb}
-use Rattle.hanoi_formula.proofs.Operands.{sign-stopped, sign-and, sign-or, sign-closes, sign-not-closes, sign-not-body, sign-not-spelled, sign-body}
+use Prim.Native.Nat.{ℕ}
+use mathlib.Core.Path.{◌≡◌, sym, ap, ◌∙◌}
+use mathlib.Core.Bool.{true≢false}
+use lib.Dec.{eqb}
+use borrow.Author.Rules.{rules}
+use Rattle.std.specs.Prelude.{Err}
+use Rattle.hanoi_formula.proofs.Operands.{sign-stopped, sign-and, sign-or, sign-closes, sign-other, sign-not-spelled, sign-body}
 use Rattle.hanoi_formula.proofs.read_sign.Goals as goal
 
-pub returns-then-not-n : goal.returns-then-not-n
-returns-then-not-n c = sign-stopped _ _ _ c.args.deep _ c.next-n.ensures (not-true _ c.if-not-n.true)
+pub returns-in_err-first : goal.returns-in_err-first
+returns-in_err-first c = let e : c.from_residual.result ≡ Err c.in_err-first.field-0.0 = search rules in rw e (sign-stopped c.args.text.now c.args.at c.args.bar c.args.deep _ c.in_err-first.ensures)
 
-pub overflow_add-result-then-b-eq124 : goal.overflow_add-result-then-b-eq124
-overflow_add-result-then-b-eq124 c = let h : c.next-n.result.at < length c.args.text.now = c.next-n.ensures.there (unnot _ c.if-not-n.false) in omega (arith, h)
+pub returns-in_err-end-in-45 : goal.returns-in_err-end-in-45
+returns-in_err-end-in-45 c = let e : c.from_residual-in_err-end-in-45.result ≡ Err c.in_err-end-in-45.field-0.0 = search rules in rw e (sign-not-spelled _ _ _ c.args.deep _ c.in_ok-first.ensures c.if-not-deep.true c.in-45.is _ c.in_err-end-in-45.ensures)
 
-pub returns-then-b-eq38 : goal.returns-then-b-eq38
-returns-then-b-eq38 c = sign-and _ _ _ c.args.deep _ c.next-n.ensures (unnot _ c.if-not-n.false) c.if-b-eq38.true
+pub returns-in-38 : goal.returns-in-38
+returns-in-38 c = sign-and _ _ _ c.args.deep _ c.in_ok-first.ensures c.in-38.is
 
-pub returns-then-b-eq124 : goal.returns-then-b-eq124
-returns-then-b-eq124 c = sign-or _ _ _ c.args.deep _ c.next-n.ensures (unnot _ c.if-not-n.false) c.if-b-eq124.true
+pub returns-in-124 : goal.returns-in-124
+returns-in-124 c = sign-or _ _ _ c.args.deep _ c.in_ok-first.ensures c.in-124.is
 
-pub returns-then-b-eq41 : goal.returns-then-b-eq41
-returns-then-b-eq41 c = sign-closes _ _ _ c.args.deep _ c.next-n.ensures (unnot _ c.if-not-n.false) c.if-deep.true c.if-b-eq41.true
+pub returns-in-41 : goal.returns-in-41
+returns-in-41 c = sign-closes _ _ _ c.args.deep _ c.in_ok-first.ensures c.if-deep.true c.in-41.is
 
-pub returns-then-deep : goal.returns-then-deep
-returns-then-deep c = sign-not-closes _ _ _ c.args.deep _ c.next-n.ensures (unnot _ c.if-not-n.false) c.if-deep.true (neqb _ _ c.if-b-eq38.false) (neqb _ _ c.if-b-eq124.false) (neqb _ _ c.if-b-eq41.false)
+pub returns-in_ok-end-in-45 : goal.returns-in_ok-end-in-45
+returns-in_ok-end-in-45 c = sign-body _ _ _ c.args.deep _ c.in_ok-first.ensures c.if-not-deep.true c.in-45.is _ c.in_ok-end-in-45.ensures
 
-pub returns-then-b-ne45 : goal.returns-then-b-ne45
-returns-then-b-ne45 c = sign-not-body _ _ _ c.args.deep _ c.next-n.ensures (unnot _ c.if-not-n.false) c.if-deep.false (neqb _ _ c.if-b-eq38.false) (neqb _ _ c.if-b-eq124.false) (neqb _ _ c.if-b-ne45.true)
+-- a parenthesis where none is open
+pub returns-in_default : goal.returns-in_default
+returns-in_default c = sign-other _ _ _ c.args.deep _ c.in_ok-first.ensures (ap (λ (x : ℕ). eqb x 38) c.in-41.is) (ap (λ (x : ℕ). eqb x 124) c.in-41.is) (λ p. absurd (true≢false (sym p ∙ c.if-deep.false))) (λ p. ap (λ (x : ℕ). eqb x 45) c.in-41.is)
 
-pub overflow_add-i : goal.overflow_add-i
-overflow_add-i c = let h : c.next-n.result.at < length c.args.text.now = c.next-n.ensures.there (unnot _ c.if-not-n.false) in omega (arith, h)
+-- the end where one is
+pub returns-in_default-2 : goal.returns-in_default-2
+returns-in_default-2 c = sign-other _ _ _ c.args.deep _ c.in_ok-first.ensures (ap (λ (x : ℕ). eqb x 38) c.in-45.is) (ap (λ (x : ℕ). eqb x 124) c.in-45.is) (λ p. ap (λ (x : ℕ). eqb x 41) c.in-45.is) (λ p. absurd (true≢false (sym c.if-not-deep.false ∙ p)))
 
-pub spelled-word-requires : goal.spelled-word-requires
-spelled-word-requires c = omega (arith, c.next-n.ensures.there (unnot _ c.if-not-n.false))
-
-pub returns-then-not-word : goal.returns-then-not-word
-returns-then-not-word c = sign-not-spelled _ _ _ c.args.deep _ c.next-n.ensures (unnot _ c.if-not-n.false) c.if-deep.false c.if-b-ne45.false _ c.spelled-word.ensures (not-true _ c.if-not-word.true)
-
-pub returns : goal.returns
-returns c = sign-body _ _ _ c.args.deep _ c.next-n.ensures (unnot _ c.if-not-n.false) c.if-deep.false c.if-b-ne45.false _ c.spelled-word.ensures (unnot _ c.if-not-word.false)
+pub returns-in_default-3 : goal.returns-in_default-3
+returns-in_default-3 c = sign-other _ _ _ c.args.deep _ c.in_ok-first.ensures (search rules) (search rules) (λ p. search rules) (λ p. search rules)

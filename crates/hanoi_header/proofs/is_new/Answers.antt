@@ -1,14 +1,9 @@
-use Rattle.hanoi_header.proofs.Names.{unlike-none, unlike-more, unlike-all}
+use mathlib.Core.Path.{refl, sym}
+use Rattle.hanoi_header.proofs.Names.{new-more, new-not}
 use Rattle.hanoi_header.proofs.is_new.Goals as goal
 
-pub loop-i-init : goal.loop-i-init
-loop-i-init c = unlike-none _ _ _ _
+pub returns-then-same_bytes : goal.returns-then-same_bytes
+returns-then-same_bytes c = rw (new-not c.args.text.now c.args.name c.args.names.now c.loop-old.old-index _ c.loop-old-test.true (sym c.if-same_bytes.ensures)) refl
 
-pub same_bytes-requires : goal.same_bytes-requires
-same_bytes-requires c = (c.requires.1, c.requires.2, c.requires.0.ordered _ c.loop-i-test.true, c.requires.0.there _ c.loop-i-test.true)
-
-pub loop-i-preserved : goal.loop-i-preserved
-loop-i-preserved c = unlike-more _ _ _ _ _ _ _ c.loop-i.invariant c.loop-i-test.true c.same_bytes.ensures
-
-pub returns : goal.returns
-returns c = unlike-all _ _ _ _ _ _ c.loop-i.invariant c.loop-i-test.false
+pub loop-old-preserved : goal.loop-old-preserved
+loop-old-preserved c = new-more c.args.text.now c.args.name c.args.names.now c.loop-old.old-index _ c.loop-old-test.true c.loop-old.invariant (sym c.if-same_bytes.ensures)

@@ -1,29 +1,26 @@
 -- `read_counts` meets its contract: version, states, start and number of names, one behind the other. Assumes nothing.
+use borrow.Author.Rules.{rules}
 use native.Mathlib.Omega.{arith}
-use Rattle.lists.proofs.Bools.{not-true, unnot}
-use Rattle.hanoi_header.proofs.Reading.{offered-states, offered-start, offered-ap, counts-version, within-version, counts-states, within-states, states-below, counts_start, within-start, counts-names, counts_all}
+use Rattle.hanoi_header.proofs.Reading.{offered-states, offered-start, offered-ap, within-version, counts-states, within-states, states-below, counts_start, within-start, counts-names, counts_all}
 use Rattle.hanoi_header.proofs.read_counts.Goals as goal
 
-pub returns-then-not-v : goal.returns-then-not-v
-returns-then-not-v c = rw c.uncounted.ensures (counts-version _ _ c.read_version-v.ensures (not-true _ c.if-not-v.true))
+pub read_field-requires : goal.read_field-requires
+read_field-requires c = (within-version _ _ c.in_ok-at.ensures, tt, offered-states)
 
-pub read_field-states-requires : goal.read_field-states-requires
-read_field-states-requires c = (within-version _ _ c.read_version-v.ensures (unnot _ c.if-not-v.false), tt, offered-states)
+pub read_field-requires-2 : goal.read_field-requires-2
+read_field-requires-2 c = (within-states _ _ c.in_ok-at.ensures _ c.in_ok-states.ensures, omega (arith, states-below _ _ c.in_ok-at.ensures _ c.in_ok-states.ensures), offered-start)
 
-pub returns-then-not-states : goal.returns-then-not-states
-returns-then-not-states c = rw c.uncounted-then-not-states.ensures (counts-states _ _ c.read_version-v.ensures (unnot _ c.if-not-v.false) _ c.read_field-states.ensures (not-true _ c.if-not-states.true))
+pub returns-in_err-start : goal.returns-in_err-start
+returns-in_err-start c = search (rules, counts_start _ _ c.in_ok-at.ensures _ c.in_ok-states.ensures _ c.in_err-start.ensures)
 
-pub read_field-start-requires : goal.read_field-start-requires
-read_field-start-requires c = let h = states-below _ _ c.read_version-v.ensures (unnot _ c.if-not-v.false) _ c.read_field-states.ensures (unnot _ c.if-not-states.false) in (within-states _ _ c.read_version-v.ensures (unnot _ c.if-not-v.false) _ c.read_field-states.ensures (unnot _ c.if-not-states.false), omega (arith, h), offered-start)
+pub read_field-requires-3 : goal.read_field-requires-3
+read_field-requires-3 c = (within-start _ _ c.in_ok-at.ensures _ c.in_ok-states.ensures _ c.in_ok-start.ensures, omega arith, offered-ap)
 
-pub returns-then-not-start : goal.returns-then-not-start
-returns-then-not-start c = rw c.uncounted-then-not-start.ensures (counts_start _ _ c.read_version-v.ensures (unnot _ c.if-not-v.false) _ c.read_field-states.ensures (unnot _ c.if-not-states.false) _ c.read_field-start.ensures (not-true _ c.if-not-start.true))
+pub returns-in_err-names : goal.returns-in_err-names
+returns-in_err-names c = search (rules, counts-names _ _ c.in_ok-at.ensures _ c.in_ok-states.ensures _ c.in_ok-start.ensures _ c.in_err-names.ensures)
 
-pub read_field-names-requires : goal.read_field-names-requires
-read_field-names-requires c = (within-start _ _ c.read_version-v.ensures (unnot _ c.if-not-v.false) _ c.read_field-states.ensures (unnot _ c.if-not-states.false) _ c.read_field-start.ensures (unnot _ c.if-not-start.false), omega arith, offered-ap)
-
-pub returns-then-not-names : goal.returns-then-not-names
-returns-then-not-names c = rw c.uncounted-then-not-names.ensures (counts-names _ _ c.read_version-v.ensures (unnot _ c.if-not-v.false) _ c.read_field-states.ensures (unnot _ c.if-not-states.false) _ c.read_field-start.ensures (unnot _ c.if-not-start.false) _ c.read_field-names.ensures (not-true _ c.if-not-names.true))
+pub returns-in_err-states : goal.returns-in_err-states
+returns-in_err-states c = search (rules, counts-states _ _ c.in_ok-at.ensures _ c.in_err-states.ensures)
 
 pub returns : goal.returns
-returns c = counts_all _ _ c.read_version-v.ensures (unnot _ c.if-not-v.false) _ c.read_field-states.ensures (unnot _ c.if-not-states.false) _ c.read_field-start.ensures (unnot _ c.if-not-start.false) _ c.read_field-names.ensures (unnot _ c.if-not-names.false)
+returns c = counts_all _ _ c.in_ok-at.ensures _ c.in_ok-states.ensures _ c.in_ok-start.ensures _ c.in_ok-names.ensures

@@ -1,11 +1,6 @@
 -- `skip_white` meets its contract: all before byte i is white. Assumes nothing.
-use Prim.Native.Nat.{◌-◌}
-use lib.ListN.{length}
 use Rattle.hanoi_tokens.proofs.Tokens.{Skipped}
 use Rattle.hanoi_tokens.proofs.skip_white.Given as goal
 
 abbrev pub invariant-loop-i : goal.invariant-loop-i
 invariant-loop-i l = Skipped l.text l.at l.i
-
-abbrev pub decreases-loop-i : goal.decreases-loop-i
-decreases-loop-i l = length l.text - l.i

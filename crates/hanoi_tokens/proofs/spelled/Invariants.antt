@@ -1,11 +1,6 @@
 -- `spelled` meets its contract: the first i bytes of the word are read. Assumes nothing.
-use Prim.Native.Nat.{◌-◌}
-use lib.ListN.{length}
 use Rattle.hanoi_tokens.proofs.Tokens.{Spelled}
 use Rattle.hanoi_tokens.proofs.spelled.Given as goal
 
 abbrev pub invariant-loop-i : goal.invariant-loop-i
-invariant-loop-i l = Spelled l.text l.rest l.at l.i l.n
-
-abbrev pub decreases-loop-i : goal.decreases-loop-i
-decreases-loop-i l = length l.rest - l.i
+invariant-loop-i l = Spelled l.text l.rest l.at l.i

@@ -1,17 +1,12 @@
-use native.Mathlib.Omega.{arith}
 use mathlib.Core.Path.{refl, sym, ◌∙◌}
 use Rattle.judging.proofs.Turns.{range-turn, range-end}
 use Rattle.judging.proofs.in_range.Goals as goal
 
-pub loop-i-init : goal.loop-i-init
-loop-i-init c = (omega arith, refl)
+pub loop-letter-init : goal.loop-letter-init
+loop-letter-init c = refl
 
-pub loop-i-preserved : goal.loop-i-preserved
-loop-i-preserved c =
-    let a = c.args in
-    (omega arith, sym (range-turn a.letters a.word.now c.loop-i.i c.loop-i.b c.loop-i-test.true) ∙ c.loop-i.invariant.1)
+pub loop-letter-preserved : goal.loop-letter-preserved
+loop-letter-preserved c = let l = c.loop-letter in sym (range-turn c.args.letters c.args.word.now l.letter-index l.b c.loop-letter-test.true) ∙ l.invariant
 
 pub returns : goal.returns
-returns c =
-    let a = c.args in
-    sym (range-end a.letters a.word.now c.loop-i.i c.loop-i.b c.loop-i-test.false) ∙ c.loop-i.invariant.1
+returns c = let l = c.loop-letter in sym (range-end c.args.letters c.args.word.now l.letter-index l.b c.loop-letter-test.false) ∙ l.invariant

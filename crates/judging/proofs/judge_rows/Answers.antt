@@ -1,117 +1,81 @@
 -- Each answer is the definition's by the questions that led there; what the search holds is what the definition's window holds. Assumes nothing.
-use Prim.Native.Nat.{ℕ, ◌≤◌, ◌<◌}
-use mathlib.Core.Path.{◌≡◌, refl, sym, ap₂, ◌∙◌, subst}
-use mathlib.Core.Bool.{true, ◌&&◌}
-use Rattle.lists.proofs.Bools.{and_l, and_r}
+use native.Mathlib.Omega.{arith}
+use Rattle.std.proofs.Common.{ℕ, ◌≡◌, ◌≤◌, ◌<◌, refl, sym, ap, ap₂, ◌∙◌, subst, true, ◌&&◌, List, rules, Result, Ok, Err}
+use Rattle.refusals.specs.declared.Refusal.{Refusal}
 use Rattle.running.specs.declared.Run.{Run}
-use Rattle.running.specs.Running.{row_states, shaped}
+use Rattle.running.specs.Running.{states_of, row_states, shaped}
 use Rattle.running.proofs.Laws.{states-shaped, states-unshaped}
 use Rattle.judging.specs.declared.Seen.{Seen}
-use Rattle.judging.specs.Judging.{non_empty, in_range}
+use Rattle.judging.specs.Judging.{JudgesRows}
+use Rattle.judging.specs.Rounds.{seen_after}
 use Rattle.judging.proofs.Laws.{none_of, some_of}
 use Rattle.judging.proofs.Answers.{rows-8, rows-11, rows-14, rows-12, rows-13, rows_none, judges-rows-refused, judges-rows-least}
 use Rattle.judging.proofs.Rows.{word-stays, least-after, dangling-after}
 use Rattle.judging.proofs.judge_rows.Goals as goal
 
-pub returns-then-n-gt65535 : goal.returns-then-n-gt65535
-returns-then-n-gt65535 c = judges-rows-refused _ _ _ _ _ _ 8 (rows-8 _ _ _ _ _ _ (states-unshaped _ _ _ _ c.states_of-n.ensures c.if-n-gt65535.true)) refl
+module _ (letters : ℕ) (t p : List ℕ) where
+  -- question 8 is answered no
+  unshaped : (r : Run) (stem loop : List ℕ) (e : Refusal) (x : Result ℕ Refusal) → Err e ≡ states_of letters t p → x ≡ Err e → JudgesRows letters t p r stem loop x
+  unshaped r stem loop e x h is =
+      let q = states-unshaped letters t p e h in
+      subst (JudgesRows letters t p r stem loop) (sym (is ∙ ap (λ (e : Refusal). Err e) q.1)) (judges-rows-refused letters t p r stem loop 8 (rows-8 letters t p r stem loop q.0) refl)
 
-pub returns-then-n-state : goal.returns-then-n-state
-returns-then-n-state c =
-    let shape : let a = c.args in shaped a.letters a.targets.now a.priorities.now ≡ true =
-    (states-shaped _ _ _ _ c.states_of-n.ensures c.if-n-gt65535.false).0 in
-    let counted : let a = c.args in c.states_of-n.result ≡ row_states a.letters a.targets.now a.priorities.now =
-    (states-shaped _ _ _ _ c.states_of-n.ensures c.if-n-gt65535.false).1 in
-    let a = c.args in
-    judges-rows-refused _ _ _ _ _ _ 11 (rows-11 _ _ _ _ _ _ shape (subst (λ (n : ℕ). n ≤ a.state) counted c.if-n-state.true)) refl
+  -- past question 8 there are n states
+  module _ (n : ℕ) (h : Ok n ≡ states_of letters t p) where
+    shape : shaped letters t p ≡ true
+    shape = (states-shaped letters t p n h).0
 
-pub returns-then-period-eq0 : goal.returns-then-period-eq0
-returns-then-period-eq0 c =
-    let shape : let a = c.args in shaped a.letters a.targets.now a.priorities.now ≡ true =
-    (states-shaped _ _ _ _ c.states_of-n.ensures c.if-n-gt65535.false).0 in
-    let counted : let a = c.args in c.states_of-n.result ≡ row_states a.letters a.targets.now a.priorities.now =
-    (states-shaped _ _ _ _ c.states_of-n.ensures c.if-n-gt65535.false).1 in
-    let state : let a = c.args in a.state < row_states a.letters a.targets.now a.priorities.now =
-    subst (λ (n : ℕ). c.args.state < n) counted c.if-n-state.false in
-    judges-rows-refused _ _ _ _ _ _ 14 (rows-14 _ _ _ _ _ _ shape state (none_of c.args.period.now c.if-period-eq0.true)) refl
+    counted : n ≡ row_states letters t p
+    counted = (states-shaped letters t p n h).1
+
+    beyond : (v x : ℕ) → v ≡ x → n ≤ v → row_states letters t p ≤ x
+    beyond v x e l = omega (arith, counted)
+
+    among : (v x : ℕ) → v ≡ x → v < n → x < row_states letters t p
+    among v x e l = omega (arith, counted)
+
+    stays : (stem : List ℕ) (s : Seen) (one : Seen) → s.state < n → one ≡ seen_after letters t p stem s → one.state < n
+    stays stem s one l e =
+        subst (λ (s : Seen). s.state < n) (sym e)
+        (subst (λ (n : ℕ). (seen_after letters t p stem s).state < n) (sym counted) (word-stays letters t p stem s (subst (λ (n : ℕ). s.state < n) counted l)))
+
+pub returns-in_err-n : goal.returns-in_err-n
+returns-in_err-n c = unshaped _ _ _ _ _ _ _ _ c.in_err-n.ensures (search rules)
+
+pub returns-then-n-from : goal.returns-then-n-from
+returns-then-n-from c = judges-rows-refused _ _ _ _ _ _ 11 (rows-11 _ _ _ _ _ _ (shape _ _ _ _ c.in_ok-n.ensures) (beyond _ _ _ _ c.in_ok-n.ensures _ _ c.from.ensures c.if-n-from.true)) refl
+
+pub returns-then-is_empty : goal.returns-then-is_empty
+returns-then-is_empty c =
+    judges-rows-refused _ _ _ _ _ _ 14
+    (rows-14 _ _ _ _ _ _ (shape _ _ _ _ c.in_ok-n.ensures) (among _ _ _ _ c.in_ok-n.ensures _ _ c.from.ensures c.if-n-from.false) (none_of c.args.period.now c.if-is_empty.ensures)) refl
 
 pub returns-then-not-in_range : goal.returns-then-not-in_range
 returns-then-not-in_range c =
-    let shape : let a = c.args in shaped a.letters a.targets.now a.priorities.now ≡ true =
-    (states-shaped _ _ _ _ c.states_of-n.ensures c.if-n-gt65535.false).0 in
-    let counted : let a = c.args in c.states_of-n.result ≡ row_states a.letters a.targets.now a.priorities.now =
-    (states-shaped _ _ _ _ c.states_of-n.ensures c.if-n-gt65535.false).1 in
-    let state : let a = c.args in a.state < row_states a.letters a.targets.now a.priorities.now =
-    subst (λ (n : ℕ). c.args.state < n) counted c.if-n-state.false in
-    let some : non_empty c.args.period.now ≡ true =
-    some_of c.args.period.now c.if-period-eq0.false in
     judges-rows-refused _ _ _ _ _ _ 12
-    (rows-12 _ _ _ _ _ _ shape state some (sym (ap₂ ◌&&◌ c.in_range.ensures c.in_range-2.ensures) ∙ c.if-not-in_range.true)) refl
+    (rows-12 _ _ _ _ _ _ (shape _ _ _ _ c.in_ok-n.ensures) (among _ _ _ _ c.in_ok-n.ensures _ _ c.from.ensures c.if-n-from.false) (some_of c.args.period.now c.if-is_empty.ensures)
+    (sym (ap₂ ◌&&◌ c.in_range.ensures c.in_range-2.ensures) ∙ c.if-not-in_range.true)) refl
 
-pub seen_word-before-requires : goal.seen_word-before-requires
-seen_word-before-requires c =
-    let shape : let a = c.args in shaped a.letters a.targets.now a.priorities.now ≡ true =
-    (states-shaped _ _ _ _ c.states_of-n.ensures c.if-n-gt65535.false).0 in
-    let counted : let a = c.args in c.states_of-n.result ≡ row_states a.letters a.targets.now a.priorities.now =
-    (states-shaped _ _ _ _ c.states_of-n.ensures c.if-n-gt65535.false).1 in
-    let range : let a = c.args in in_range a.letters a.stem.now && in_range a.letters a.period.now ≡ true =
-    sym (ap₂ ◌&&◌ c.in_range.ensures c.in_range-2.ensures) ∙ c.if-not-in_range.false in
-    let a = c.args in
-    (record { passes = shape; count_is = counted; among = c.if-n-state.false }, and_l (in_range a.letters a.stem.now) (in_range a.letters a.period.now) range)
+pub invariant_of-rows : goal.invariant_of-rows
+invariant_of-rows c = record { passes = shape _ _ _ _ c.in_ok-n.ensures; count_is = counted _ _ _ _ c.in_ok-n.ensures }
 
-pub seen_recurring-all-requires : goal.seen_recurring-all-requires
-seen_recurring-all-requires c =
-    let shape : let a = c.args in shaped a.letters a.targets.now a.priorities.now ≡ true =
-    (states-shaped _ _ _ _ c.states_of-n.ensures c.if-n-gt65535.false).0 in
-    let counted : let a = c.args in c.states_of-n.result ≡ row_states a.letters a.targets.now a.priorities.now =
-    (states-shaped _ _ _ _ c.states_of-n.ensures c.if-n-gt65535.false).1 in
-    let state : let a = c.args in a.state < row_states a.letters a.targets.now a.priorities.now =
-    subst (λ (n : ℕ). c.args.state < n) counted c.if-n-state.false in
-    let range : let a = c.args in in_range a.letters a.stem.now && in_range a.letters a.period.now ≡ true =
-    sym (ap₂ ◌&&◌ c.in_range.ensures c.in_range-2.ensures) ∙ c.if-not-in_range.false in
-    let a = c.args in (
-      record {
-        passes = shape;
-        count_is = counted;
-        among = subst (λ (n : ℕ). c.seen_word-before.result.state < n) (sym counted)
-            (subst (λ (s : Seen). s.state < row_states a.letters a.targets.now a.priorities.now) (sym c.seen_word-before.ensures) (word-stays a.letters a.targets.now a.priorities.now a.stem.now _ state));
-      },
-      and_r (in_range a.letters a.stem.now) (in_range a.letters a.period.now) range,
-    )
+pub seen_recurring-all-requires-clause-among : goal.seen_recurring-all-requires-clause-among
+seen_recurring-all-requires-clause-among c = stays _ _ _ _ c.in_ok-n.ensures _ _ _ (rw c.from-2.ensures (rw c.from.ensures at c.if-n-from.false)) c.seen_word-before.ensures
 
 pub returns-then-all : goal.returns-then-all
 returns-then-all c =
-    let shape : let a = c.args in shaped a.letters a.targets.now a.priorities.now ≡ true =
-    (states-shaped _ _ _ _ c.states_of-n.ensures c.if-n-gt65535.false).0 in
-    let counted : let a = c.args in c.states_of-n.result ≡ row_states a.letters a.targets.now a.priorities.now =
-    (states-shaped _ _ _ _ c.states_of-n.ensures c.if-n-gt65535.false).1 in
-    let state : let a = c.args in a.state < row_states a.letters a.targets.now a.priorities.now =
-    subst (λ (n : ℕ). c.args.state < n) counted c.if-n-state.false in
-    let some : non_empty c.args.period.now ≡ true =
-    some_of c.args.period.now c.if-period-eq0.false in
-    let range : let a = c.args in in_range a.letters a.stem.now && in_range a.letters a.period.now ≡ true =
-    sym (ap₂ ◌&&◌ c.in_range.ensures c.in_range-2.ensures) ∙ c.if-not-in_range.false in
     let a = c.args in
-    let r : Run = record { state = a.state } in
-    judges-rows-refused a.letters a.targets.now a.priorities.now r a.stem.now a.period.now 13
-    (rows-13 _ _ _ _ _ _ shape state some range
-    (sym (c.seen_recurring-all.ensures.1 ∙ dangling-after a.letters a.targets.now a.priorities.now r a.stem.now a.period.now _ c.seen_word-before.ensures) ∙ c.if-all.true)) refl
+    judges-rows-refused _ _ _ _ _ _ 13
+    (rows-13 _ _ _ _ _ _ (shape _ _ _ _ c.in_ok-n.ensures) (among _ _ _ _ c.in_ok-n.ensures _ _ c.from.ensures c.if-n-from.false) (some_of a.period.now c.if-is_empty.ensures)
+    (sym (ap₂ ◌&&◌ c.in_range.ensures c.in_range-2.ensures) ∙ c.if-not-in_range.false)
+    (sym (c.seen_recurring-all.ensures.1 ∙ dangling-after a.letters a.targets.now a.priorities.now (record { state = a.state }) a.stem.now a.period.now _ (rw c.from-2.ensures at c.seen_word-before.ensures)) ∙ c.if-all.true)) refl
 
 pub returns : goal.returns
 returns c =
-    let shape : let a = c.args in shaped a.letters a.targets.now a.priorities.now ≡ true =
-    (states-shaped _ _ _ _ c.states_of-n.ensures c.if-n-gt65535.false).0 in
-    let counted : let a = c.args in c.states_of-n.result ≡ row_states a.letters a.targets.now a.priorities.now =
-    (states-shaped _ _ _ _ c.states_of-n.ensures c.if-n-gt65535.false).1 in
-    let state : let a = c.args in a.state < row_states a.letters a.targets.now a.priorities.now =
-    subst (λ (n : ℕ). c.args.state < n) counted c.if-n-state.false in
-    let some : non_empty c.args.period.now ≡ true =
-    some_of c.args.period.now c.if-period-eq0.false in
-    let range : let a = c.args in in_range a.letters a.stem.now && in_range a.letters a.period.now ≡ true =
-    sym (ap₂ ◌&&◌ c.in_range.ensures c.in_range-2.ensures) ∙ c.if-not-in_range.false in
     let a = c.args in
     let r : Run = record { state = a.state } in
     judges-rows-least a.letters a.targets.now a.priorities.now r a.stem.now a.period.now
-    (rows_none _ _ _ _ _ _ shape state some range
-    (sym (c.seen_recurring-all.ensures.1 ∙ dangling-after a.letters a.targets.now a.priorities.now r a.stem.now a.period.now _ c.seen_word-before.ensures) ∙ c.if-all.false))
-    _ (c.seen_recurring-all.ensures.0 ∙ least-after a.letters a.targets.now a.priorities.now r a.stem.now a.period.now _ c.seen_word-before.ensures)
+    (rows_none _ _ _ _ _ _ (shape _ _ _ _ c.in_ok-n.ensures) (among _ _ _ _ c.in_ok-n.ensures _ _ c.from.ensures c.if-n-from.false) (some_of a.period.now c.if-is_empty.ensures)
+    (sym (ap₂ ◌&&◌ c.in_range.ensures c.in_range-2.ensures) ∙ c.if-not-in_range.false)
+    (sym (c.seen_recurring-all.ensures.1 ∙ dangling-after a.letters a.targets.now a.priorities.now r a.stem.now a.period.now _ (rw c.from-2.ensures at c.seen_word-before.ensures)) ∙ c.if-all.false))
+    _ (c.seen_recurring-all.ensures.0 ∙ least-after a.letters a.targets.now a.priorities.now r a.stem.now a.period.now _ (rw c.from-2.ensures at c.seen_word-before.ensures))

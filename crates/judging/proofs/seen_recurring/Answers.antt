@@ -1,8 +1,5 @@
-use Prim.Native.Nat.{ℕ, ◌<◌, min}
 use native.Mathlib.Omega.{arith}
-use mathlib.Core.Path.{◌≡◌, sym, ap, ◌∙◌, subst}
-use mathlib.Core.Bool.{false, ◌||◌}
-use mathlib.Core.List.{[]}
+use Rattle.std.proofs.Common.{ℕ, ◌≡◌, ◌<◌, sym, ap, ◌∙◌, subst, ◌||◌, []}
 use borrow.Author.Tests.{not-true, not-false}
 use Rattle.recurrence.specs.declared.Search.{Search}
 use Rattle.recurrence.specs.Search.{search_from, search_next}
@@ -13,65 +10,44 @@ use Rattle.judging.specs.Judging.{ever_dangling, least_recurring}
 use Rattle.judging.proofs.Rows.{SeenSearched, seen_start, seen-within, seen_few, seen_next, seen-found}
 use Rattle.judging.proofs.seen_recurring.Goals as goal
 
+-- the search begins at the state, which is among the rows'
+begins : (search : Search) (v n states : ℕ) → search ≡ search_from v 255 → n ≡ states → v < n → search.state < states
+begins search v n states e q h = subst (λ (s : Search). s.state < states) (sym e) (subst (λ (n : ℕ). v < n) q h)
+
 pub loop-search-init : goal.loop-search-init
 loop-search-init c =
-    let begins : c.new-search.result.state ≡ c.args.s.state =
-    ap (λ (s : Search). s.state) c.new-search.ensures in
-    let low : let a = c.args in c.new-search.result.state < row_states a.letters a.targets.now a.priorities.now =
-    subst (λ (n : ℕ). c.new-search.result.state < n) c.requires.0.count_is (subst (λ (v : ℕ). v < c.args.n) (sym (begins)) c.requires.0.among) in
-    let a = c.args in
-    subst (λ (s : Search). SeenSearched a.letters a.targets.now a.priorities.now a.period.now c.new-search.result.state a.s.dangling s a.s.dangling)
-    (ap (λ (v : ℕ). search_from v 255) (begins) ∙ sym c.new-search.ensures) (seen_start a.letters a.targets.now a.priorities.now a.period.now c.new-search.result.state a.s.dangling (low))
+    let r = c.args.r.now in
+    let v = c.new-search.result.state in
+    subst (λ (s : Search). SeenSearched r.letters r.targets.now r.priorities.now c.args.period.now v c.args.s.dangling s c.args.s.dangling)
+    (ap (λ (s : Search). search_from s.state 255) c.new-search.ensures ∙ sym c.new-search.ensures)
+    (seen_start r.letters r.targets.now r.priorities.now c.args.period.now v c.args.s.dangling (begins _ _ _ _ c.new-search.ensures r.count_is c.requires.among))
 
-pub seen_word-one-requires : goal.seen_word-one-requires
-seen_word-one-requires c =
-    let begins : c.new-search.result.state ≡ c.args.s.state =
-    ap (λ (s : Search). s.state) c.new-search.ensures in
-    let low : let a = c.args in c.new-search.result.state < row_states a.letters a.targets.now a.priorities.now =
-    subst (λ (n : ℕ). c.new-search.result.state < n) c.requires.0.count_is (subst (λ (v : ℕ). v < c.args.n) (sym (begins)) c.requires.0.among) in
-    let going : c.loop-search.search.found ≡ false =
-    not-true _ c.loop-search-test.true in
-    let a = c.args in
-    let h = c.requires.0 in (
-      record {
-        passes = h.passes;
-        count_is = h.count_is;
-        among = subst (λ (n : ℕ). c.loop-search.search.state < n) (sym h.count_is)
-            (seen-within a.letters a.targets.now a.priorities.now a.period.now c.new-search.result.state a.s.dangling (low) c.loop-search.search c.loop-search.dangling c.loop-search.invariant (going));
-      },
-      c.requires.1,
-    )
+pub seen_word-one-requires-clause-among : goal.seen_word-one-requires-clause-among
+seen_word-one-requires-clause-among c =
+    let r = c.args.r.now in
+    subst (λ (n : ℕ). c.loop-search.search.state < n) (sym r.count_is)
+    (seen-within r.letters r.targets.now r.priorities.now c.args.period.now c.new-search.result.state c.args.s.dangling (begins _ _ _ _ c.new-search.ensures r.count_is c.requires.among)
+    c.loop-search.search c.loop-search.dangling c.loop-search.invariant (not-true _ c.loop-search-test.true))
 
 pub next-search-requires : goal.next-search-requires
 unfolding row_states
 next-search-requires c =
-    let begins : c.new-search.result.state ≡ c.args.s.state =
-    ap (λ (s : Search). s.state) c.new-search.ensures in
-    let low : let a = c.args in c.new-search.result.state < row_states a.letters a.targets.now a.priorities.now =
-    subst (λ (n : ℕ). c.new-search.result.state < n) c.requires.0.count_is (subst (λ (v : ℕ). v < c.args.n) (sym (begins)) c.requires.0.among) in
-    let going : c.loop-search.search.found ≡ false =
-    not-true _ c.loop-search-test.true in
-    let a = c.args in
-    let few = seen_few a.letters a.targets.now a.priorities.now a.period.now c.new-search.result.state a.s.dangling (low) c.loop-search.search c.loop-search.dangling c.loop-search.invariant (going) in
-    let states = (shaped-facts _ _ _ c.requires.0.passes).few in
+    let r = c.args.r.now in
+    let few = seen_few r.letters r.targets.now r.priorities.now c.args.period.now c.new-search.result.state c.args.s.dangling (begins _ _ _ _ c.new-search.ensures r.count_is c.requires.among)
+    c.loop-search.search c.loop-search.dangling c.loop-search.invariant (not-true _ c.loop-search-test.true) in
+    let states = (shaped-facts _ _ _ r.passes).few in
     (omega (arith, few, states), omega (arith, few, states))
 
 -- after the round
-after : (c : goal.After-next-search) → let w = c.before.before in let l = w.before.before.before in let a = l.args in
-    SeenSearched a.letters a.targets.now a.priorities.now a.period.now l.new-search.result.state a.s.dangling c.next-search.result w.seen_word-one.result.dangling
-    × (search_left (row_states a.letters a.targets.now a.priorities.now) c.next-search.result < search_left (row_states a.letters a.targets.now a.priorities.now) l.loop-search.search)
+after : (c : goal.After-next-search) → let r = c.args.r.now in
+    SeenSearched r.letters r.targets.now r.priorities.now c.args.period.now c.new-search.result.state c.args.s.dangling c.next-search.result c.seen_word-one.result.dangling
+    × (search_left (row_states r.letters r.targets.now r.priorities.now) c.next-search.result < search_left (row_states r.letters r.targets.now r.priorities.now) c.loop-search.search)
 after c =
-    let begins : c.new-search.result.state ≡ c.args.s.state =
-    ap (λ (s : Search). s.state) c.new-search.ensures in
-    let low : let a = c.args in c.new-search.result.state < row_states a.letters a.targets.now a.priorities.now =
-    subst (λ (n : ℕ). c.new-search.result.state < n) c.requires.0.count_is (subst (λ (v : ℕ). v < c.args.n) (sym (begins)) c.requires.0.among) in
-    let going : c.loop-search.search.found ≡ false =
-    not-true _ c.loop-search-test.true in
-    let a = c.args in
-    let is : c.next-search.result ≡ search_next c.loop-search.search c.seen_word-one.result.state c.seen_word-one.result.least (min c.loop-search.search.value c.seen_word-one.result.least) 255
-    = c.next-search.ensures ∙ ap (λ (k : ℕ). search_next c.loop-search.search c.seen_word-one.result.state c.seen_word-one.result.least k 255) c.lesser-all.ensures in
-    seen_next a.letters a.targets.now a.priorities.now a.period.now c.new-search.result.state a.s.dangling (low) c.loop-search.search c.loop-search.dangling c.loop-search.invariant (going)
-    c.seen_word-one.result c.seen_word-one.ensures c.next-search.result is
+    let r = c.args.r.now in
+    seen_next r.letters r.targets.now r.priorities.now c.args.period.now c.new-search.result.state c.args.s.dangling (begins _ _ _ _ c.new-search.ensures r.count_is c.requires.among)
+    c.loop-search.search c.loop-search.dangling c.loop-search.invariant (not-true _ c.loop-search-test.true)
+    c.seen_word-one.result c.seen_word-one.ensures c.next-search.result
+    (c.next-search.ensures ∙ ap (λ (k : ℕ). search_next c.loop-search.search c.seen_word-one.result.state c.seen_word-one.result.least k 255) c.min-all.ensures)
 
 pub loop-search-smaller : goal.loop-search-smaller
 loop-search-smaller c = (after c).1
@@ -81,10 +57,9 @@ loop-search-preserved c = (after c).0
 
 pub returns : goal.returns
 returns c =
-    let begins : c.new-search.result.state ≡ c.args.s.state =
-    ap (λ (s : Search). s.state) c.new-search.ensures in
-    let a = c.args in
-    let q = seen-found a.letters a.targets.now a.priorities.now a.period.now c.new-search.result.state a.s.dangling c.loop-search.search c.loop-search.dangling c.loop-search.invariant (not-false _ c.loop-search-test.false) in (
-      q.0 ∙ ap (λ (v : ℕ). least_recurring a.letters a.targets.now a.priorities.now (record { state = v }) [] a.period.now) (begins),
-      q.1 ∙ ap (λ (v : ℕ). a.s.dangling || ever_dangling a.letters a.targets.now a.priorities.now (record { state = v }) [] a.period.now) (begins),
+    let r = c.args.r.now in
+    let q = seen-found r.letters r.targets.now r.priorities.now c.args.period.now c.new-search.result.state c.args.s.dangling c.loop-search.search c.loop-search.dangling c.loop-search.invariant (not-false _ c.loop-search-test.false) in
+    let is = ap (λ (s : Search). s.state) c.new-search.ensures in (
+      q.0 ∙ ap (λ (v : ℕ). least_recurring r.letters r.targets.now r.priorities.now (record { state = v }) [] c.args.period.now) is,
+      q.1 ∙ ap (λ (v : ℕ). c.args.s.dangling || ever_dangling r.letters r.targets.now r.priorities.now (record { state = v }) [] c.args.period.now) is,
     )

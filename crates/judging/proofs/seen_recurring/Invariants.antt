@@ -5,7 +5,7 @@ use Rattle.judging.proofs.Rows.{SeenSearched}
 use Rattle.judging.proofs.seen_recurring.Given as goal
 
 abbrev pub invariant-loop-search : goal.invariant-loop-search
-invariant-loop-search l = SeenSearched l.letters l.targets l.priorities l.period l.initial.search.state l.initial.dangling l.search l.dangling
+invariant-loop-search l = SeenSearched l.r.letters l.r.targets.now l.r.priorities.now l.period l.initial.search.state l.initial.dangling l.search l.dangling
 
 abbrev pub decreases-loop-search : goal.decreases-loop-search
-decreases-loop-search l = search_left (row_states l.letters l.targets l.priorities) l.search
+decreases-loop-search l = search_left (row_states l.r.letters l.r.targets.now l.r.priorities.now) l.search

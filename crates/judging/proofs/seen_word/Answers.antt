@@ -1,7 +1,4 @@
-use native.Mathlib.Omega.{arith}
-use Prim.Native.Nat.{ℕ, ◌+◌, ◌<◌}
-use mathlib.Core.Path.{refl, sym, ap, ◌∙◌, subst}
-use lib.ListN.{drop}
+use Rattle.std.proofs.Common.{ℕ, ◌≡◌, ◌+◌, ◌<◌, sym, ap, ◌∙◌, subst, List, drop}
 use Rattle.running.specs.Running.{row_states}
 use Rattle.judging.specs.declared.Seen.{Seen}
 use Rattle.judging.specs.Rounds.{seen_step, seen_after}
@@ -9,33 +6,25 @@ use Rattle.judging.proofs.Turns.{range_at, through-turn, through-end}
 use Rattle.judging.proofs.Rows.{step_stays}
 use Rattle.judging.proofs.seen_word.Goals as goal
 
-pub loop-i-init : goal.loop-i-init
-loop-i-init c = (omega arith, subst (λ (n : ℕ). c.args.s.state < n) c.requires.0.count_is c.requires.0.among, refl)
+pub seen_with-t-requires-clause-letter : goal.seen_with-t-requires-clause-letter
+seen_with-t-requires-clause-letter c = range_at c.args.r.now.letters c.args.word.now c.requires.range c.loop-letter.letter-index c.loop-letter-test.true
 
-pub bounds-word-i : goal.bounds-word-i
-bounds-word-i c = omega (arith, c.loop-i-test.true)
+stays : (letters : ℕ) (t p : List ℕ) (n : ℕ) (s : Seen) (a : ℕ) → n ≡ row_states letters t p → s.state < n → (seen_step letters t p s a).state < n
+stays letters t p n s a e h = subst (λ (n : ℕ). (seen_step letters t p s a).state < n) (sym e) (step_stays letters t p s a (subst (λ (n : ℕ). s.state < n) e h))
 
-pub seen_with-t-requires : goal.seen_with-t-requires
-seen_with-t-requires c =
-    let h = c.requires.0 in (
-      record { passes = h.passes; count_is = h.count_is; among = subst (λ (n : ℕ). c.loop-i.t.state < n) (sym h.count_is) c.loop-i.invariant.1 },
-      range_at c.args.letters c.args.word.now c.requires.1 c.loop-i.i c.loop-i-test.true,
-    )
-
-pub loop-i-smaller : goal.loop-i-smaller
-loop-i-smaller c = omega (arith, c.loop-i-test.true)
-
-pub loop-i-preserved : goal.loop-i-preserved
-loop-i-preserved c =
-    let a = c.args in (
-      omega (arith, c.loop-i-test.true),
-      subst (λ (s : Seen). s.state < row_states a.letters a.targets.now a.priorities.now) (sym c.seen_with-t.ensures) (step_stays a.letters a.targets.now a.priorities.now c.loop-i.t _ c.loop-i.invariant.1),
-      ap (seen_after a.letters a.targets.now a.priorities.now (drop (c.loop-i.i + 1) a.word.now)) c.seen_with-t.ensures
-          ∙ sym (through-turn (seen_step a.letters a.targets.now a.priorities.now) a.word.now c.loop-i.i c.loop-i.t c.loop-i-test.true)
-          ∙ c.loop-i.invariant.2,
-    )
+pub loop-letter-preserved : goal.loop-letter-preserved
+loop-letter-preserved c =
+    let r = c.args.r.now in
+    let l = c.loop-letter in
+    record {
+      among = subst (λ (s : Seen). s.state < r.states) (sym c.seen_with-t.ensures) (stays _ _ _ _ _ _ r.count_is l.invariant.among);
+      leads = ap (seen_after r.letters r.targets.now r.priorities.now (drop (l.letter-index + 1) c.args.word.now)) c.seen_with-t.ensures
+          ∙ sym (through-turn (seen_step r.letters r.targets.now r.priorities.now) c.args.word.now l.letter-index l.t c.loop-letter-test.true)
+          ∙ l.invariant.leads;
+    }
 
 pub returns : goal.returns
 returns c =
-    let a = c.args in
-    sym (through-end (seen_step a.letters a.targets.now a.priorities.now) a.word.now c.loop-i.i c.loop-i.t c.loop-i-test.false) ∙ c.loop-i.invariant.2
+    let r = c.args.r.now in
+    let l = c.loop-letter in
+    sym (through-end (seen_step r.letters r.targets.now r.priorities.now) c.args.word.now l.letter-index l.t c.loop-letter-test.false) ∙ l.invariant.leads

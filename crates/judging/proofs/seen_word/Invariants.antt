@@ -1,14 +1,12 @@
 -- The loop: what the letters to come lead to from here is what the whole word leads to, and the state stays one of the rows'. Assumes nothing.
-use Prim.Native.Nat.{◌-◌, ◌≤◌, ◌<◌}
+use Prim.Native.Nat.{◌<◌}
 use mathlib.Core.Path.{◌≡◌}
-use lib.ListN.{length, drop}
-use Rattle.running.specs.Running.{row_states}
+use lib.ListN.{drop}
 use Rattle.judging.specs.Rounds.{seen_after}
 use Rattle.judging.proofs.seen_word.Given as goal
 
-abbrev pub invariant-loop-i : goal.invariant-loop-i
-invariant-loop-i l =
-    (l.i ≤ length l.word) × (l.t.state < row_states l.letters l.targets l.priorities) × (seen_after l.letters l.targets l.priorities (drop l.i l.word) l.t ≡ seen_after l.letters l.targets l.priorities l.word l.initial.t)
-
-abbrev pub decreases-loop-i : goal.decreases-loop-i
-decreases-loop-i l = length l.word - l.i
+abbrev pub invariant-loop-letter : goal.invariant-loop-letter
+invariant-loop-letter l = record {
+  among : l.t.state < l.r.states;
+  leads : seen_after l.r.letters l.r.targets.now l.r.priorities.now (drop l.letter-index l.word) l.t ≡ seen_after l.r.letters l.r.targets.now l.r.priorities.now l.word l.initial.t;
+}

@@ -3,7 +3,6 @@ use native.Mathlib.Omega.{arith}
 use mathlib.Core.Path.{sym, ap, ◌∙◌}
 use lib.ListN.{length, length-map}
 use lib.Seq.{length-take-le}
-use borrow.Author.Rules.{rules}
 use Rattle.policy.specs.ByColour.{table_colours}
 use Rattle.listing.proofs.Appending.{hued-more, other-colours, left_out, appended}
 use Rattle.listing.proofs.append_cycle.Goals as goal

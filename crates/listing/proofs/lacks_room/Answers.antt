@@ -1,7 +1,6 @@
 -- `lacks_room` meets its contract. Assumes nothing.
 use mathlib.Core.Path.{refl}
 use Rattle.listing.specs.Listing.{lacks_room}
-use borrow.Author.Rules.{rules}
 use Rattle.listing.proofs.lacks_room.Goals as goal
 
 pub returns : goal.returns

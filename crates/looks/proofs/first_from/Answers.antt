@@ -3,7 +3,6 @@ use lib.ListN.{get_or}
 use lib.Dec.{eqb}
 use mathlib.Core.Path.{refl}
 use native.Mathlib.Omega.{arith}
-use borrow.Author.Rules.{rules}
 use Rattle.looks.proofs.first_from.Goals as goal
 
 pub returns-then-up-by : goal.returns-then-up-by

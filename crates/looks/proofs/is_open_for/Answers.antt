@@ -2,7 +2,6 @@ use Rattle.candidates.specs.Candidates.{is_open}
 use lib.ListN.{length}
 use mathlib.Core.Bool.{Bool, cond}
 use mathlib.Core.Path.{sym, ap, ◌∙◌}
-use borrow.Author.Rules.{rules}
 use Rattle.looks.proofs.is_open_for.Goals as goal
 
 pub returns-then-v : goal.returns-then-v

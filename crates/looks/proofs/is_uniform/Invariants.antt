@@ -1,11 +1,8 @@
-use Rattle.looks.proofs.Spans.{uniform-next}
 use Rattle.masks.specs.Masks.{inside}
 use lib.ListN.{get_or}
 use mathlib.Core.Bool.{true, false}
 use mathlib.Core.Path.{◌≡◌}
 use Prim.Native.Nat.{ℕ, ◌-◌, ◌≤◌, ◌<◌}
-use native.Mathlib.Omega.{arith}
-use borrow.Author.Rules.{rules}
 use Rattle.looks.proofs.is_uniform.Given as goal
 
 abbrev pub invariant-loop-s : goal.invariant-loop-s

@@ -1,12 +1,6 @@
 use Rattle.looks.proofs.Looks.{long-wanted, none_yet, one_wanted, none-wanted}
-use Rattle.candidates.specs.Candidates.{may_hold}
-use Rattle.lists.specs.Lists.{any, below}
-use lib.ListN.{get_or}
-use mathlib.Core.Bool.{false}
-use mathlib.Core.Path.{◌≡◌, refl, sym, ◌∙◌}
-use Prim.Native.Nat.{ℕ, ◌-◌, ◌≤◌}
+use mathlib.Core.Path.{refl, sym, ◌∙◌}
 use native.Mathlib.Omega.{arith}
-use borrow.Author.Rules.{rules}
 use Rattle.looks.proofs.is_wanted.Goals as goal
 
 pub returns-then-are_long : goal.returns-then-are_long

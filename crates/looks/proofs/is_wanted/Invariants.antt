@@ -1,13 +1,10 @@
 -- `is_wanted` meets its contract: none of the masks passed may hold one. Assumes nothing.
-use Rattle.looks.proofs.Looks.{long-wanted, none_yet, one_wanted, none-wanted}
 use Rattle.candidates.specs.Candidates.{may_hold}
 use Rattle.lists.specs.Lists.{any, below}
 use lib.ListN.{get_or}
 use mathlib.Core.Bool.{false}
-use mathlib.Core.Path.{◌≡◌, refl, sym, ◌∙◌}
+use mathlib.Core.Path.{◌≡◌}
 use Prim.Native.Nat.{ℕ, ◌-◌, ◌≤◌}
-use native.Mathlib.Omega.{arith}
-use borrow.Author.Rules.{rules}
 use Rattle.looks.proofs.is_wanted.Given as goal
 
 abbrev pub invariant-loop-i : goal.invariant-loop-i

@@ -1,14 +1,9 @@
 use Rattle.candidates.proofs.Live.{live_both, live-less}
 use Rattle.masks.proofs.Bits.{inside-le}
-use mathlib.Core.Path.{◌≡◌, sym, subst}
+use mathlib.Core.Path.{sym, subst}
 use Rattle.candidates.specs.Candidates.{Live}
-use Rattle.policy.specs.Policies.{legal}
-use Rattle.policy.specs.declared.Policy.{Policy}
-use lib.ListN.{length, get_or}
-use mathlib.Core.Bool.{true}
-use Prim.Native.Nat.{ℕ, ◌-◌, ◌≤◌, ◌<◌}
+use lib.ListN.{get_or}
 use native.Mathlib.Omega.{arith}
-use borrow.Author.Rules.{rules}
 use Rattle.looks.proofs.live_in.Goals as goal
 
 pub bounds-live-c : goal.bounds-live-c

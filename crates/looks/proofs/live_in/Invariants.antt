@@ -1,14 +1,10 @@
-use Rattle.candidates.proofs.Live.{live_both, live-less}
-use Rattle.masks.proofs.Bits.{inside-le}
-use mathlib.Core.Path.{◌≡◌, sym, subst}
+use mathlib.Core.Path.{◌≡◌}
 use Rattle.candidates.specs.Candidates.{Live}
 use Rattle.policy.specs.Policies.{legal}
 use Rattle.policy.specs.declared.Policy.{Policy}
 use lib.ListN.{length, get_or}
 use mathlib.Core.Bool.{true}
 use Prim.Native.Nat.{ℕ, ◌-◌, ◌≤◌, ◌<◌}
-use native.Mathlib.Omega.{arith}
-use borrow.Author.Rules.{rules}
 use Rattle.looks.proofs.live_in.Given as goal
 
 abbrev pub invariant-loop-i : goal.invariant-loop-i

@@ -4,7 +4,6 @@ use lib.Bits.{bit_and}
 use mathlib.Core.Path.{◌≡◌, sym, ap, subst}
 use Prim.Native.Nat.{ℕ, ◌+◌, ◌-◌, ◌<◌}
 use native.Mathlib.Omega.{arith}
-use borrow.Author.Rules.{rules}
 use Rattle.looks.proofs.lowest.Goals as goal
 
 pub returns : goal.returns

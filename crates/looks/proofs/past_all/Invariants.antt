@@ -1,16 +1,11 @@
-use Rattle.looks.proofs.Spans.{past_next}
 use Rattle.candidates.specs.Candidates.{wanted}
 use Rattle.policy.specs.ByColour.{table_colours}
 use lib.ListN.{get_or}
 use mathlib.Core.Bool.{false}
 use mathlib.Core.Logic.{◌⊎◌}
 use mathlib.Core.Path.{◌≡◌}
-use Prim.Native.Nat.{ℕ, ◌-◌, ◌≤◌, ◌<◌}
-use native.Mathlib.Omega.{arith}
+use Prim.Native.Nat.{ℕ, ◌≤◌, ◌<◌}
 use Rattle.looks.proofs.past_all.Given as goal
 
-abbrev pub invariant-loop-i : goal.invariant-loop-i
-invariant-loop-i l = (l.i ≤ l.n) × (l.up ≤ l.left) × (l.left ≤ l.c) × (l.left < l.c → (j : ℕ) → j < l.i → (table_colours l.by (get_or l.cycles j 0) < l.left) ⊎ (wanted (table_colours l.by (get_or l.cycles j 0)) (get_or l.cycles j 0) l.other l.hues l.same ≡ false))
-
-abbrev pub decreases-loop-i : goal.decreases-loop-i
-decreases-loop-i l = l.n - l.i
+abbrev pub invariant-loop-x : goal.invariant-loop-x
+invariant-loop-x l = (l.up ≤ l.left) × (l.left ≤ l.c) × (l.left < l.c → (j : ℕ) → j < l.x-index → (table_colours l.by (get_or l.cycles j 0) < l.left) ⊎ (wanted (table_colours l.by (get_or l.cycles j 0)) (get_or l.cycles j 0) l.other l.hues l.same ≡ false))

@@ -3,7 +3,6 @@ use Rattle.looks.specs.Spans.{upper}
 use lib.Bits.{bit_and}
 use mathlib.Core.Path.{ap}
 use native.Mathlib.Omega.{arith}
-use borrow.Author.Rules.{rules}
 use Rattle.looks.proofs.upper.Goals as goal
 
 pub returns : goal.returns

@@ -2,7 +2,6 @@ use mathlib.Core.Path.{◌≡◌, ap, sym}
 use Prim.Native.Nat.{ℕ, ◌*◌, ◌-◌, ◌%◌, ◌^◌}
 use native.Mathlib.Omega.{arith}
 use lib.Pow.{pow_pos}
-use borrow.Author.Rules.{rules}
 use Rattle.masks.proofs.Bits.{shl_one}
 use Rattle.masks.proofs.full.Goals as goal
 

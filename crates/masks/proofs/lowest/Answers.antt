@@ -1,5 +1,4 @@
 -- `masks::lowest` meets its contract: the lowest member stands above the trailing zeros. Assumes nothing.
-use native.Mathlib.Omega.{arith}
 use Rattle.masks.proofs.LowestMember.{trailing-lowest}
 use Rattle.masks.proofs.lowest.Goals as goal
 

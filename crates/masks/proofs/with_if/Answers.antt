@@ -1,19 +1,14 @@
--- `masks::with_if` meets its contract: the flag as a number, shifted to the edge's place. Assumes nothing.
-use mathlib.Core.Path.{◌≡◌, ap, ◌∙◌}
-use mathlib.Core.Bool.{Bool, true, false, cond}
-use Prim.Native.Nat.{ℕ, ◌*◌, ◌%◌, ◌^◌, ◌<◌}
-use native.Mathlib.Nat.{zero-mul}
-use lib.Bits.{bit_or, or_zero_r}
-use mir.Val.{bool_byte}
-use borrow.Author.Rules.{rules}
-use Rattle.masks.specs.Masks.{insert}
-use Rattle.masks.proofs.Bits.{shl_one}
+-- `masks::with_if` meets its contract: the flag as a number, shifted to the member's place. Assumes nothing.
+use Rattle.std.proofs.Common.{ℕ, ◌<◌, ◌^◌, ◌∙◌, sym, subst, arith}
+use Rattle.masks.proofs.Bits.{insert-if-lt, with-bit-if}
 use Rattle.masks.proofs.with_if.Goals as goal
 
-flagged : (m e : ℕ) (b : Bool) → e < 64 → bit_or m (bool_byte b * 2 ^ e % 2 ^ 64) ≡ cond b (insert m e) m
-unfolding insert
-flagged m e true h = ap (λ (x : ℕ). bit_or m x) (shl_one 64 e h)
-flagged m e false h = ap (λ (x : ℕ). bit_or m (x % 2 ^ 64)) (zero-mul (2 ^ e)) ∙ or_zero_r m
+pub narrow-requires : goal.narrow-requires
+narrow-requires g c =
+    let w = g.met.M.Mask.width_fits in
+    subst (λ (x : ℕ). x < 2 ^ g.M.Mask.width) (sym (with-bit-if c.args.e c.args.b c.wide.ensures.0 (omega (arith, w, c.requires)))) (insert-if-lt (g.M.Mask.number c.args.m) c.args.e g.M.Mask.width c.args.b c.wide.ensures.1 c.requires)
 
 pub returns : goal.returns
-returns c = flagged c.args.m c.args.e c.args.b c.requires
+returns g c =
+    let w = g.met.M.Mask.width_fits in
+    c.narrow.ensures ∙ with-bit-if c.args.e c.args.b c.wide.ensures.0 (omega (arith, w, c.requires))

@@ -1,16 +1,33 @@
 -- `offspring::find_children` meets its contract: children have the other verdict than the node. Assumes nothing.
-use Rattle.offspring.proofs.Looking.{node_of, node-verdict}
+use Prim.Native.Nat.{ℕ}
 use mathlib.Core.Bool.{true, false}
+use mathlib.Core.Path.{◌≡◌, refl, ap, sym, subst, ◌∙◌}
+use native.Mathlib.Omega.{arith}
+use Rattle.policy.specs.Policies.{colours_of}
+use Rattle.pool.proofs.Pool.{hue-is}
+use Rattle.offspring.proofs.Looking.{node_of, node-verdict}
 use Rattle.offspring.proofs.find_children.Goals as goal
 
 pub search_sets-requires : goal.search_sets-requires
-search_sets-requires c = record { policy = (c.requires.policy.0, c.requires.policy.1, record { node = node_of c.requires.policy.1.graph.lawful c.requires.policy.2 c.requires.policy.3 c.requires.policy.4 true (node-verdict c.requires.policy.0 _ c.requires.policy.2 c.requires.policy.6 true c.if-family-h.true); states_in = c.requires.policy.5 }, c.requires.policy.6, c.requires.policy.7); places = c.requires.places }
-
-pub returns-then-family-h : goal.returns-then-family-h
-returns-then-family-h c = λ p parts is a full own e l. c.search_sets.ensures p parts (record { node = node_of parts.graph.lawful is a full true (node-verdict p _ is e true c.if-family-h.true); states_in = own }) e l
+search_sets-requires c =
+    let a = c.args in
+    let g = a.r.now.graph.now in
+    let p = g.policy.now in
+    let e : c.colours_in-h.result ≡ colours_of p a.n = c.colours_in-h.ensures ∙ ap (λ (f : ℕ → ℕ). f a.n) (hue-is p g.lawful g.by g.by_is) in
+    record {
+      node = record { node = node_of g.lawful refl c.requires.around c.requires.node.0 true (node-verdict p a.n refl e true c.if-r-h.true); states_in = c.requires.node.1 };
+      pool = c.requires.pool;
+      places = (e, omega (arith, e, c.requires.places));
+    }
 
 pub search_sets-requires-2 : goal.search_sets-requires-2
-search_sets-requires-2 c = record { policy = (c.requires.policy.0, c.requires.policy.1, record { node = node_of c.requires.policy.1.graph.lawful c.requires.policy.2 c.requires.policy.3 c.requires.policy.4 false (node-verdict c.requires.policy.0 _ c.requires.policy.2 c.requires.policy.6 false c.if-family-h.false); states_in = c.requires.policy.5 }, c.requires.policy.6, c.requires.policy.7); places = c.requires.places }
-
-pub returns : goal.returns
-returns c = λ p parts is a full own e l. c.search_sets-2.ensures p parts (record { node = node_of parts.graph.lawful is a full false (node-verdict p _ is e false c.if-family-h.false); states_in = own }) e l
+search_sets-requires-2 c =
+    let a = c.args in
+    let g = a.r.now.graph.now in
+    let p = g.policy.now in
+    let e : c.colours_in-h.result ≡ colours_of p a.n = c.colours_in-h.ensures ∙ ap (λ (f : ℕ → ℕ). f a.n) (hue-is p g.lawful g.by g.by_is) in
+    record {
+      node = record { node = node_of g.lawful refl c.requires.around c.requires.node.0 false (node-verdict p a.n refl e false c.if-r-h.false); states_in = c.requires.node.1 };
+      pool = c.requires.pool;
+      places = (e, omega (arith, e, c.requires.places));
+    }

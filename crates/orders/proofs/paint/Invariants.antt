@@ -1,12 +1,6 @@
-use Rattle.orders.proofs.Walks.{painted-none, painted-more, painted-all}
 use Rattle.orders.specs.Orders.{Painted}
-use Prim.Native.Nat.{◌-◌, ◌≤◌}
-use native.Mathlib.Omega.{arith}
-use borrow.Author.Rules.{rules}
+use Prim.Native.Nat.{◌≤◌}
 use Rattle.orders.proofs.paint.Given as goal
 
-abbrev pub invariant-loop-i : goal.invariant-loop-i
-invariant-loop-i l = (l.i ≤ l.n) × Painted l.b l.i l.order l.initial.marks l.marks
-
-abbrev pub decreases-loop-i : goal.decreases-loop-i
-decreases-loop-i l = l.n - l.i
+abbrev pub invariant-loop-s : goal.invariant-loop-s
+invariant-loop-s l = (l.s-index ≤ l.n) × Painted l.b l.s-index l.order l.initial.marks l.marks

@@ -1,14 +1,13 @@
-use Prim.Native.Nat.{ℕ, ◌-◌, ◌≤◌}
+use Prim.Native.Nat.{ℕ}
 use native.Mathlib.Omega.{arith}
 use native.Mathlib.Nat.{le_antisymm}
-use mathlib.Core.Path.{◌≡◌, sym, ap, ◌∙◌}
+use mathlib.Core.Path.{sym, ap, ◌∙◌}
 use mathlib.Core.Bool.{not, cond}
 use lib.Dec.{eqb}
 use lib.ListN.{get_or}
-use borrow.Author.Rules.{rules}
 use lib.Bits.{bit_and}
 use Rattle.masks.specs.Masks.{insert}
-use Rattle.policy.specs.ByColour.{table_colours_to, table_colours}
+use Rattle.policy.specs.ByColour.{table_colours}
 use Rattle.policy.proofs.ByColour.{colours-to-none, colours-to-next}
 use Rattle.policy.proofs.colours_in.Goals as goal
 
@@ -21,7 +20,7 @@ loop-k-preserved c =
     let m = c.args.m in
     let at = c.loop-k in (
       omega arith,
-      c.set_with_if-s.ensures
+      c.with_if-s.ensures
           ∙ ap (λ (x : ℕ). cond (not (eqb x 0)) (insert at.s at.k) at.s) c.both.ensures
           ∙ ap (λ (x : ℕ). cond (not (eqb (bit_and m (get_or t at.k 0)) 0)) (insert x at.k) x) at.invariant.1
           ∙ sym (colours-to-next t at.k m),

@@ -1,9 +1,7 @@
-use Prim.Native.Nat.{◌-◌, ◌≤◌}
 use native.Mathlib.Omega.{arith}
 use native.Mathlib.Nat.{le_antisymm}
-use mathlib.Core.Path.{◌≡◌, sym}
-use borrow.Author.Rules.{rules}
-use Rattle.policy.specs.ByColour.{table_edges_to, table_edges}
+use mathlib.Core.Path.{sym}
+use Rattle.policy.specs.ByColour.{table_edges}
 use Rattle.policy.proofs.ByColour.{edges_none, edges-next}
 use Rattle.policy.proofs.edges_in.Goals as goal
 

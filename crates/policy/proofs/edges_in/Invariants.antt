@@ -1,11 +1,7 @@
 -- `edges_in` meets its contract: m has the quiet edges, and those of the colours passed. Assumes nothing.
 use Prim.Native.Nat.{◌-◌, ◌≤◌}
-use native.Mathlib.Omega.{arith}
-use native.Mathlib.Nat.{le_antisymm}
-use mathlib.Core.Path.{◌≡◌, sym}
-use borrow.Author.Rules.{rules}
-use Rattle.policy.specs.ByColour.{table_edges_to, table_edges}
-use Rattle.policy.proofs.ByColour.{edges_none, edges-next}
+use mathlib.Core.Path.{◌≡◌}
+use Rattle.policy.specs.ByColour.{table_edges_to}
 use Rattle.policy.proofs.edges_in.Given as goal
 
 abbrev pub invariant-loop-k : goal.invariant-loop-k

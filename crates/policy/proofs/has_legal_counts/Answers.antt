@@ -1,4 +1,3 @@
-use borrow.Author.Rules.{rules}
 use Rattle.policy.specs.Policies.{legal_counts}
 use Rattle.policy.proofs.has_legal_counts.Goals as goal
 

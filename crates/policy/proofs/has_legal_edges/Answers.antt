@@ -1,12 +1,9 @@
-use Prim.Native.Nat.{◌-◌, ◌≤◌}
 use native.Mathlib.Omega.{arith}
 use native.Mathlib.Nat.{le_antisymm}
-use mathlib.Core.Path.{◌≡◌, refl}
-use mathlib.Core.Logic.{⊎_elim, inl, inr}
-use borrow.Author.Rules.{rules}
-use Rattle.lists.specs.Lists.{all, below}
+use mathlib.Core.Path.{refl}
+use mathlib.Core.Logic.{inl, inr}
 use Rattle.lists.proofs.AnyAll.{all-turn-both}
-use Rattle.policy.specs.Policies.{edges, target_of, colour_of, legal_edge, legal_edges}
+use Rattle.policy.specs.Policies.{target_of, colour_of, legal_edge, legal_edges}
 use Rattle.policy.proofs.LegalTests.{legal-edge-by}
 use Rattle.policy.proofs.has_legal_edges.Goals as goal
 use Rattle.policy.proofs.has_legal_edges.Goals.{then-e-n, else-e-n, then-e-n-2, else-e-n-2}
@@ -20,7 +17,7 @@ loop-e-init c = (omega arith, refl)
 pub loop-e-preserved : goal.loop-e-preserved
 unfolding target_of colour_of
 loop-e-preserved c =
-    let p = c.args.p in
+    let p = c.args.p.now in
     let e = c.loop-e.e in (
       omega arith,
       all-turn-both (legal_edge p) e _ _ _ c.loop-e.invariant.1

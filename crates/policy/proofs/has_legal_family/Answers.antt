@@ -1,52 +1,44 @@
-use Prim.Native.Nat.{ℕ, ◌-◌, ◌^◌, ◌≤◌}
-use native.Mathlib.Omega.{arith}
-use native.Mathlib.Nat.{le_antisymm}
-use mathlib.Core.Path.{◌≡◌, sym, ap, ◌∙◌}
-use mathlib.Core.Logic.{⊎_elim}
-use borrow.Author.Rules.{rules}
+use Rattle.std.proofs.Common.{◌≡◌, ℕ, ◌*◌, ◌%◌, ◌^◌, ◌≤◌, length, rules, sym, ap, ◌∙◌, arith}
+use Rattle.std.proofs.Math.Nat.{add-zero}
 use lib.Pow.{pow_mono}
 use Rattle.lists.specs.Lists.{all, below}
-use Rattle.lists.proofs.AnyAll.{all-turn}
 use Rattle.masks.proofs.Bits.{shl_one}
-use Rattle.policy.specs.Policies.{in_family, legal_set, legal_family}
-use Rattle.policy.proofs.LegalTests.{legal-set-outside, legal-sets-within}
+use Rattle.policy.specs.Policies.{legal_set, legal_family}
+use Rattle.policy.proofs.LegalTests.{family-turn, family-passed, legal-sets-within}
 use Rattle.policy.proofs.has_legal_family.Goals as goal
-use Rattle.policy.proofs.has_legal_family.Goals.{then-top-lt16, else-top-lt16}
 
-pub loop-s-init : goal.loop-s-init
-unfolding in_family
-loop-s-init c =
-    let p = c.args.p in
-    let top = shl_one 64 p.colours (omega (arith, c.requires)) in
-    let few = pow_mono c.requires in (
-      omega (arith, top),
-      elim c.if-top-lt16.branch [ then-top-lt16 w ↦ omega arith | else-top-lt16 w ↦ omega arith ],
-      elim c.if-top-lt16.branch [ then-top-lt16 w ↦ omega arith | else-top-lt16 w ↦ omega (arith, top, few) ],
-      legal-sets-within p _ top,
-    )
+pub loop-accepted-init : goal.loop-accepted-init
+loop-accepted-init c =
+    let p = c.args.p.now in
+    legal-sets-within p _ (add-zero _ ∙ shl_one 64 p.colours (omega (arith, c.requires)))
 
-pub loop-s-preserved : goal.loop-s-preserved
-unfolding in_family
-loop-s-preserved c =
-    let p = c.args.p in (
-      omega arith,
-      omega arith,
-      c.loop-s.invariant.2,
-      all-turn (legal_set p) c.loop-s.s _ _ c.loop-s.invariant.3 (sym (legal-set-outside p c.loop-s.s c.loop-s.invariant.0)),
-    )
+pub loop-accepted-preserved : goal.loop-accepted-preserved
+loop-accepted-preserved c =
+    let p = c.args.p.now in
+    let top : 1 * 2 ^ p.colours % 2 ^ 64 ≡ 2 ^ p.colours = shl_one 64 p.colours (omega (arith, c.requires)) in
+    family-turn p (1 * 2 ^ p.colours % 2 ^ 64) _ _ _ (omega (arith, top)) c.loop-accepted-test.true c.loop-accepted.invariant
 
-pub loop-s-2-init : goal.loop-s-2-init
-loop-s-2-init c =
-    let p = c.args.p in
-    let done = le_antisymm c.loop-s.invariant.1 c.loop-s-test.false in
-    (omega (arith, c.loop-s.invariant.0), c.loop-s.invariant.2, c.loop-s.invariant.3 ∙ ap (λ (s : ℕ). all (legal_set p) (below s)) done)
+pub loop-accepted-2-init : goal.loop-accepted-2-init
+loop-accepted-2-init c =
+    let p = c.args.p.now in
+    let top : 1 * 2 ^ p.colours % 2 ^ 64 ≡ 2 ^ p.colours = shl_one 64 p.colours (omega (arith, c.requires)) in
+    let few : 2 ^ p.colours ≤ 2 ^ 8 = pow_mono c.requires in
+    let long : length p.family ≡ 256 = search rules in
+    let done = family-passed p (1 * 2 ^ p.colours % 2 ^ 64) c.max-from.result c.loop-accepted.accepted-index (omega (arith, c.max-from.ensures)) (omega (arith, c.max-from.ensures, top, few, long)) c.loop-accepted.auto.accepted-index-end c.loop-accepted-test.false in
+    c.loop-accepted.invariant ∙ ap (λ (n : ℕ). all (legal_set p) (below n)) (done ∙ sym (add-zero c.max-from.result))
 
-pub loop-s-2-preserved : goal.loop-s-2-preserved
-unfolding in_family
-loop-s-2-preserved c =
-    let p = c.args.p in
-    (omega arith, omega arith, all-turn (legal_set p) c.loop-s-2.s _ _ c.loop-s-2.invariant.2 (sym (legal-set-outside p c.loop-s-2.s c.loop-s-2.invariant.0)))
+pub loop-accepted-2-preserved : goal.loop-accepted-2-preserved
+loop-accepted-2-preserved c =
+    let p = c.args.p.now in
+    let top : 1 * 2 ^ p.colours % 2 ^ 64 ≡ 2 ^ p.colours = shl_one 64 p.colours (omega (arith, c.requires)) in
+    family-turn p c.max-from.result _ _ _ (omega (arith, top, c.max-from.ensures)) c.loop-accepted-2-test.true c.loop-accepted-2.invariant
 
 pub returns : goal.returns
 unfolding legal_family
-returns c = cc (le_antisymm c.loop-s-2.invariant.1 c.loop-s-2-test.false)
+returns c =
+    let p = c.args.p.now in
+    let top : 1 * 2 ^ p.colours % 2 ^ 64 ≡ 2 ^ p.colours = shl_one 64 p.colours (omega (arith, c.requires)) in
+    let few : 2 ^ p.colours ≤ 2 ^ 8 = pow_mono c.requires in
+    let long : length p.family ≡ 256 = search rules in
+    let done = family-passed p c.max-from.result 256 c.loop-accepted-2.accepted-index (omega (arith, c.max-from.ensures, top, few)) (omega (arith, long)) c.loop-accepted-2.auto.accepted-index-end c.loop-accepted-2-test.false in
+    c.loop-accepted-2.invariant ∙ ap (λ (n : ℕ). all (legal_set p) (below n)) done

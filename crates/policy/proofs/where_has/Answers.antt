@@ -2,7 +2,6 @@
 use Prim.Native.Nat.{◌/◌, ◌^◌}
 use native.Mathlib.Omega.{arith}
 use Rattle.policy.proofs.ByColour.{times-le, times-chosen}
-use borrow.Author.Rules.{rules}
 use Rattle.policy.proofs.where_has.Goals as goal
 
 pub overflow_mul-result : goal.overflow_mul-result

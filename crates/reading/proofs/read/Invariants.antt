@@ -5,8 +5,8 @@ use lib.ListN.{length}
 use Rattle.reading.proofs.Commands.{Onway}
 use Rattle.reading.proofs.read.Given as goal
 
-abbrev pub invariant-loop-p : goal.invariant-loop-p
-invariant-loop-p l = Onway l.bytes l.at (record { policy = l.p; given = l.given })
+abbrev pub invariant-loop-d : goal.invariant-loop-d
+invariant-loop-d l = Onway l.bytes l.at l.d
 
-abbrev pub decreases-loop-p : goal.decreases-loop-p
-decreases-loop-p l = length l.bytes - l.at
+abbrev pub decreases-loop-d : goal.decreases-loop-d
+decreases-loop-d l = length l.bytes - l.at

@@ -39,7 +39,7 @@ returns-then-not-is_within_limits c =
     no-limits _ w (sym c.is_in_place.ensures ∙ c.if-not-is_in_place.false) (sym c.is_within_limits.ensures ∙ c.if-not-is_within_limits.true)
 
 pub is_first_time-requires : goal.is_first_time-requires
-is_first_time-requires c = (c.requires.0, sym c.is_within_limits.ensures ∙ c.if-not-is_within_limits.false, c.requires.1)
+is_first_time-requires c = (c.requires, sym c.is_within_limits.ensures ∙ c.if-not-is_within_limits.false)
 
 pub returns-then-not-is_first_time : goal.returns-then-not-is_first_time
 returns-then-not-is_first_time c =

@@ -1,15 +1,11 @@
-use native.Mathlib.Omega.{arith}
-use mathlib.Core.Path.{refl}
+-- `records::bytes_at` meets its contract: a part of the bytes is copied. Assumes nothing.
+use Rattle.std.proofs.Common.{◌≡◌, ◌+◌, ◌-◌, ◌∙◌, arith}
 use Rattle.records.specs.Records.{bytes_at}
-use Rattle.records.proofs.Copies.{copied_none, copied_more, copied_all}
+use Rattle.records.proofs.Copies.{part-of}
 use Rattle.records.proofs.bytes_at.Goals as goal
-
-pub loop-i-init : goal.loop-i-init
-loop-i-init c = copied_none _ _ _ _ refl
-
-pub loop-i-preserved : goal.loop-i-preserved
-loop-i-preserved c = copied_more _ _ _ _ _ _ (omega arith) refl c.loop-i.invariant
 
 pub returns : goal.returns
 unfolding bytes_at
-returns c = copied_all _ _ _ _ _ (omega arith) c.loop-i.invariant
+returns c =
+    let e : c.args.at + 64 - c.args.at ≡ 64 = omega arith in
+    c.copy_from_slice.ensures.after ∙ part-of c.args.packed.now c.args.at _ e c.requires

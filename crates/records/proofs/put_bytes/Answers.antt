@@ -1,16 +1,7 @@
-use native.Mathlib.Omega.{arith}
-use mathlib.Core.Path.{refl}
-use Rattle.records.proofs.Copies.{storing-none, storing-more, storing-all}
+-- `records::put_bytes` meets its contract: the bytes are copied into their part. Assumes nothing.
+use Rattle.std.proofs.Common.{arith}
+use Rattle.records.proofs.Copies.{put-part}
 use Rattle.records.proofs.put_bytes.Goals as goal
 
-pub loop-i-init : goal.loop-i-init
-loop-i-init c = (refl, storing-none _ _ _ c.requires)
-
-pub loop-i-preserved : goal.loop-i-preserved
-loop-i-preserved c = (refl, storing-more _ _ _ _ _ 0 _ (omega arith) refl c.loop-i.invariant.1)
-
-pub shape_of-packed : goal.shape_of-packed
-shape_of-packed c = c.loop-i.invariant.1.long
-
 pub returns : goal.returns
-returns c = storing-all _ _ _ _ _ (omega arith) c.loop-i.invariant.1
+returns c = put-part c.args.packed.now c.args.at _ c.args.bytes.now _ c.copy_from_slice.ensures.after (omega arith) c.requires

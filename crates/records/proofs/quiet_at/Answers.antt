@@ -1,9 +1,9 @@
 use native.Mathlib.Omega.{arith}
-use native.Mathlib.Nat.{le_antisymm}
-use mathlib.Core.Path.{refl, sym, ap, ◌∙◌}
+use mathlib.Core.Path.{◌≡◌, sym, ap, ◌∙◌}
 use Rattle.masks.specs.Masks.{mask_of}
 use Rattle.masks.proofs.MaskOf.{mask-of-none}
-use Rattle.records.specs.Records.{quiet_at, quiet_byte}
+use Rattle.records.specs.Records.{is_set, quiet_at, quiet_byte}
+use Rattle.records.proofs.Copies.{part-at, part-long}
 use Rattle.records.proofs.Packing.{quiet-turn, quiet_none}
 use Rattle.records.proofs.quiet_at.Goals as goal
 
@@ -16,10 +16,12 @@ loop-i-init c = (omega arith, sym (mask-of-none (quiet_byte c.args.packed.now)))
 pub loop-i-preserved : goal.loop-i-preserved
 loop-i-preserved c =
     let loop = c.loop-i in
-    (omega arith, quiet-turn c.args.packed.now loop.i loop.m _ _ loop.invariant.1 refl c.with_if-m.ensures)
+    (omega arith, quiet-turn c.args.packed.now loop.i loop.m _ _ loop.invariant.1 (ap is_set (part-at c.args.packed.now 388 64 loop.i (omega arith))) c.with_if-m.ensures)
 
 pub returns : goal.returns
 unfolding quiet_at
 returns c =
     let loop = c.loop-i in
-    loop.invariant.1 ∙ ap (mask_of (quiet_byte c.args.packed.now)) (le_antisymm loop.invariant.0 c.loop-i-test.false)
+    let e = part-long c.args.packed.now 388 64 (omega arith) in
+    let done : loop.i ≡ 64 = omega arith in
+    loop.invariant.1 ∙ ap (mask_of (quiet_byte c.args.packed.now)) done

@@ -6,7 +6,7 @@ use Rattle.records.proofs.Copies.{Copied}
 use Rattle.records.proofs.quiet_flags.Given as goal
 
 abbrev pub invariant-loop-i : goal.invariant-loop-i
-invariant-loop-i l = Copied false (has l.m) 64 l.flags l.i
+invariant-loop-i l = Copied false (has l.m) 64 l.flag-items l.i
 
 abbrev pub decreases-loop-i : goal.decreases-loop-i
 decreases-loop-i l = 64 - l.i

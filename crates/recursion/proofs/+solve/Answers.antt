@@ -1,13 +1,10 @@
 use native.Mathlib.Omega.{arith}
-use Rattle.recursion.proofs.Going.{going_start, going_end, going-lt, going-asks, going-head, going-arena, going-listed, going-turning, going_less, going_more}
+use Rattle.recursion.proofs.Going.{going_start, going_end, going-lt, going-head, going-arena, going-listed, going-turning, going_more}
 use Rattle.recursion.proofs.Steps.{marks-few}
 use Rattle.recursion.proofs.+solve.Goals as goal
 
 pub loop-left-init : goal.loop-left-init
 loop-left-init t c = going_start _ _ _ _ _ _ _ _ _ _ _ c.requires.levels.0 c.requires.arena.0 c.requires.arena.1 c.requires.lists
-
-pub attract-rest-requires-clause-order : goal.attract-rest-requires-clause-order
-attract-rest-requires-clause-order t c = (going-asks _ _ _ _ _ _ _ _ _ _ _ _ _ _ _ c.loop-left.invariant _ c.rows_task.ensures c.requires.rows).2
 
 pub solve-requires : goal.solve-requires
 solve-requires t c =
@@ -20,16 +17,13 @@ solve-requires t c =
     let listed = going-listed _ _ _ _ _ _ _ _ _ _ _ _ _ _ _ x _ _ _ _ _ c.rows_task.ensures c.attract-rest.ensures in
     let m = marks-few few.0 x.level.marks_long so_far.marks_long in
     let k = marks-few few.1 x.level.choices_long so_far.choices_long in
-    (omega (arith, lt, c.decreases), (c.requires.rows, ((omega (arith, lt), c.requires.levels.1), ((m, k), ((head, arena), listed)))))
+    (omega (arith, lt, c.decreases), ((omega (arith, lt), c.requires.levels.1), ((m, k), ((head, arena), listed))))
 
 pub turn-left-requires-clause-turning : goal.turn-left-requires-clause-turning
-turn-left-requires-clause-turning t c = going-turning _ _ _ _ _ _ _ _ _ _ _ _ _ _ _ c.loop-left.invariant _ _ _ _ _ c.rows_task.ensures c.attract-rest.ensures c.requires.rows _ _ _ c.solve.ensures
-
-pub loop-left-smaller : goal.loop-left-smaller
-loop-left-smaller t c = going_less _ _ _ _ _ _ _ _ _ _ _ _ _ _ _ c.loop-left.invariant _ _ _ _ _ c.rows_task.ensures c.attract-rest.ensures c.requires.rows _ _ _ c.solve.ensures _ _ _ _ c.turn-left.ensures c.loop-left-test.true
+turn-left-requires-clause-turning t c = going-turning _ _ _ _ _ _ _ _ _ _ _ _ _ _ _ c.loop-left.invariant _ _ _ _ _ c.rows_task.ensures c.attract-rest.ensures c.args.g.now.rows _ _ _ c.solve.ensures
 
 pub loop-left-preserved : goal.loop-left-preserved
-loop-left-preserved t c = going_more _ _ _ _ _ _ _ _ _ _ _ _ _ _ _ c.loop-left.invariant _ _ _ _ _ c.rows_task.ensures c.attract-rest.ensures c.requires.rows _ _ _ c.solve.ensures _ _ _ _ c.turn-left.ensures c.loop-left-test.true
+loop-left-preserved t c = going_more _ _ _ _ _ _ _ _ _ _ _ _ _ _ _ c.loop-left.invariant _ _ _ _ _ c.rows_task.ensures c.attract-rest.ensures c.args.g.now.rows _ _ _ c.solve.ensures _ _ _ _ c.turn-left.ensures c.loop-left-test.true
 
 pub returns : goal.returns
 returns t c = going_end _ _ _ _ _ _ _ _ _ _ _ _ _ _ _ c.loop-left-test.false c.loop-left.invariant

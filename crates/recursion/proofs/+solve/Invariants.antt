@@ -11,7 +11,7 @@ decreases-solve l = 10 - l.l.at
 abbrev pub invariant-loop-left : goal.invariant-loop-left
 invariant-loop-left l =
     let i = l.initial in
-    Going l.owners l.sources l.targets l.priorities l.l.letters (length l.sources) l.l.at i.marks i.choices l.n i.order l.left l.order l.marks l.choices
+    Going l.g.owners.now l.g.sources.now l.g.targets.now l.g.priorities.now l.g.letters (length l.g.sources.now) l.l.at i.marks i.choices l.n i.order l.left l.order l.marks l.choices
 
 abbrev pub decreases-loop-left : goal.decreases-loop-left
 decreases-loop-left l = l.left

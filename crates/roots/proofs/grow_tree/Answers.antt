@@ -1,71 +1,56 @@
 -- `grow_tree` meets its contract. Assumes nothing.
 use native.Mathlib.Omega.{arith}
-use mathlib.Core.Path.{◌≡◌, refl, sym, ◌∙◌}
-use mathlib.Core.Bool.{false, true≢false, false≢true}
-use mathlib.Core.List.{Memᴰ}
-use lib.ListN.{get_or, take}
+use mathlib.Core.Path.{◌≡◌, refl, sym, ◌∙◌, subst}
+use mathlib.Core.Bool.{false, false≢true}
+use Prim.Native.Nat.{ℕ}
+use lib.ListN.{get_or}
 use lib.Seq.{length-take-le}
-use Rattle.policy.specs.declared.Policy.{Policy}
-use Rattle.forest.specs.Forest.{roots}
-use Rattle.listing.specs.Listing.{PartsOf, Outcome}
-use Rattle.trees.specs.Growing.{RootToWrite}
+use Rattle.trees.specs.Growing.{RootWritten}
+use Rattle.listing.proofs.Appending.{parts_of}
 use Rattle.roots.proofs.Roots.{verdict_is, outcome-is, root-to-write}
-use borrow.Author.Rules.{rules}
 use Rattle.roots.proofs.grow_tree.Goals as goal
 
 pub fill_candidates-listing-requires : goal.fill_candidates-listing-requires
-fill_candidates-listing-requires c = let q = c.requires.space in record { policy = c.requires.policy; places = (omega (arith, q.some), q.accepted_long, omega (arith, q.some, q.rejecting_long), omega (arith, q.rejected_long, q.rejecting_long)) }
+fill_candidates-listing-requires c = let q = c.requires.space in record { root = c.requires.root; places = (omega (arith, q.some), q.accepted_long, omega (arith, q.some, q.rejecting_long), omega (arith, q.rejected_long, q.rejecting_long)) }
 
-pub slice_bounds-grow_root-end : goal.slice_bounds-grow_root-end
-slice_bounds-grow_root-end c =
-    let here : let q = c.requires.policy in Outcome c.requires.policy.0 c.args.m c.fill_candidates-listing.new.accepting c.fill_candidates-listing.new.rejecting c.fill_candidates-listing.result.whole c.fill_candidates-listing.result.counts =
-    let q = c.requires.policy in c.fill_candidates-listing.ensures c.requires.policy.0 c.requires.policy.1 c.requires.policy.2 c.requires.policy.3 in
-    (here).accepting_long
+pub slice_bounds-lists-end : goal.slice_bounds-lists-end
+slice_bounds-lists-end c = c.fill_candidates-listing.ensures.accepting_long
 
-pub slice_bounds-grow_root-end-then-listing : goal.slice_bounds-grow_root-end-then-listing
-slice_bounds-grow_root-end-then-listing c =
-    let here : let q = c.requires.policy in Outcome c.requires.policy.0 c.args.m c.fill_candidates-listing.new.accepting c.fill_candidates-listing.new.rejecting c.fill_candidates-listing.result.whole c.fill_candidates-listing.result.counts =
-    let q = c.requires.policy in c.fill_candidates-listing.ensures c.requires.policy.0 c.requires.policy.1 c.requires.policy.2 c.requires.policy.3 in
-    sym (length-take-le c.fill_candidates-listing.result.counts.accepting _ (here).accepting_long)
+pub slice_bounds-lists-end-then-listing : goal.slice_bounds-lists-end-then-listing
+slice_bounds-lists-end-then-listing c = sym (length-take-le c.fill_candidates-listing.result.counts.accepting _ c.fill_candidates-listing.ensures.accepting_long)
 
-pub slice_bounds-grow_root-end-then-listing-2 : goal.slice_bounds-grow_root-end-then-listing-2
-slice_bounds-grow_root-end-then-listing-2 c =
-    let here : let q = c.requires.policy in Outcome c.requires.policy.0 c.args.m c.fill_candidates-listing.new.accepting c.fill_candidates-listing.new.rejecting c.fill_candidates-listing.result.whole c.fill_candidates-listing.result.counts =
-    let q = c.requires.policy in c.fill_candidates-listing.ensures c.requires.policy.0 c.requires.policy.1 c.requires.policy.2 c.requires.policy.3 in
-    (here).rejecting_long
+pub slice_bounds-lists-end-then-listing-2 : goal.slice_bounds-lists-end-then-listing-2
+slice_bounds-lists-end-then-listing-2 c = c.fill_candidates-listing.ensures.rejecting_long
 
-pub slice_bounds-grow_root-end-then-listing-3 : goal.slice_bounds-grow_root-end-then-listing-3
-slice_bounds-grow_root-end-then-listing-3 c =
-    let here : let q = c.requires.policy in Outcome c.requires.policy.0 c.args.m c.fill_candidates-listing.new.accepting c.fill_candidates-listing.new.rejecting c.fill_candidates-listing.result.whole c.fill_candidates-listing.result.counts =
-    let q = c.requires.policy in c.fill_candidates-listing.ensures c.requires.policy.0 c.requires.policy.1 c.requires.policy.2 c.requires.policy.3 in
-    sym (length-take-le c.fill_candidates-listing.result.counts.rejecting _ (here).rejecting_long)
+pub slice_bounds-lists-end-then-listing-3 : goal.slice_bounds-lists-end-then-listing-3
+slice_bounds-lists-end-then-listing-3 c = sym (length-take-le c.fill_candidates-listing.result.counts.rejecting _ c.fill_candidates-listing.ensures.rejecting_long)
 
 pub grow_root-next-requires : goal.grow_root-next-requires
 grow_root-next-requires c =
-    let to_write : (p : Policy) → let a = c.args in let o = c.fill_candidates-listing in PartsOf p a.states a.letters a.heads.now a.out.now a.into.now a.by.now → a.family.now ≡ p.family → Memᴰ a.m (roots p) → RootToWrite p (take c.fill_candidates-listing.result.counts.accepting c.fill_candidates-listing.new.accepting) (take c.fill_candidates-listing.result.counts.rejecting c.fill_candidates-listing.new.rejecting) a.m (get_or a.family.now c.colours_in.result false) a.at a.masks.now a.parents.now a.scratch.now =
-    λ p t f root. let o = c.fill_candidates-listing in
-    root-to-write t.graph.lawful root (outcome-is c.if-listing.true (c.fill_candidates-listing.ensures p t f root)) c.requires.space c.fill_candidates-listing.auto.accepting c.fill_candidates-listing.auto.rejecting c.requires.tables.0 c.requires.tables.1
-    (get_or c.args.family.now c.colours_in.result false) (verdict_is t c.args.family.now f c.args.m c.colours_in.result c.colours_in.ensures) in
-    (c.requires.policy.0, to_write c.requires.policy.0 c.requires.policy.1 c.requires.policy.2 c.requires.policy.3)
+    let g = c.args.g.now in
+    let used = c.colours_in.result in
+    root-to-write g.lawful c.requires.root (outcome-is c.if-listing.true c.fill_candidates-listing.ensures) c.requires.space c.fill_candidates-listing.auto.accepting c.fill_candidates-listing.auto.rejecting c.requires.tables.0 c.requires.tables.1
+    (get_or g.policy.now.family used false) (verdict_is (parts_of g) g.policy.now.family refl c.args.m used c.colours_in.ensures)
 
 pub returns-then-listing : goal.returns-then-listing
 returns-then-listing c =
-    let to_write : (p : Policy) → let a = c.args in let o = c.fill_candidates-listing in PartsOf p a.states a.letters a.heads.now a.out.now a.into.now a.by.now → a.family.now ≡ p.family → Memᴰ a.m (roots p) → RootToWrite p (take c.fill_candidates-listing.result.counts.accepting c.fill_candidates-listing.new.accepting) (take c.fill_candidates-listing.result.counts.rejecting c.fill_candidates-listing.new.rejecting) a.m (get_or a.family.now c.colours_in.result false) a.at a.masks.now a.parents.now a.scratch.now =
-    λ p t f root. let o = c.fill_candidates-listing in
-    root-to-write t.graph.lawful root (outcome-is c.if-listing.true (c.fill_candidates-listing.ensures p t f root)) c.requires.space c.fill_candidates-listing.auto.accepting c.fill_candidates-listing.auto.rejecting c.requires.tables.0 c.requires.tables.1
-    (get_or c.args.family.now c.colours_in.result false) (verdict_is t c.args.family.now f c.args.m c.colours_in.result c.colours_in.ensures) in
-    λ p t f root. record {
-      written = λ _. c.grow_root-next.ensures.tree p (to_write p t f root);
-      masks_same = λ w. absurd (false≢true w);
-      parents_same = λ w. absurd (false≢true w);
-      enough = λ _. refl;
+    let a = c.args in
+    let g = a.g.now in
+    let used = c.colours_in.result in
+    let l = c.fill_candidates-listing in
+    record {
+      written = λ next e. let same : c.grow_root-next.result ≡ next = cc in subst (λ (n : ℕ). RootWritten g.policy.now a.m a.at n a.masks.now a.parents.now c.grow_root-next.new.masks c.grow_root-next.new.parents) same c.grow_root-next.ensures.tree;
+      masks_same = λ e. cc;
+      parents_same = λ e. cc;
+      enough = λ _ e. cc;
     }
 
 pub returns : goal.returns
 returns c =
-    λ p t f root. record {
-      written = λ w. absurd (true≢false w);
+    let l = c.fill_candidates-listing in
+    record {
+      written = λ next e. absurd (cc);
       masks_same = λ _. refl;
       parents_same = λ _. refl;
-      enough = λ h. absurd (false≢true (sym c.if-listing.false ∙ (c.fill_candidates-listing.ensures p t f root).enough (omega (arith, c.fill_candidates-listing.auto.accepting)) (omega (arith, c.fill_candidates-listing.auto.rejecting, c.requires.space.rejecting_long))));
+      enough = λ h _. false≢true (sym c.if-listing.false ∙ l.ensures.enough (omega (arith, l.auto.accepting)) (omega (arith, l.auto.rejecting, c.requires.space.rejecting_long)));
     }

@@ -1,145 +1,115 @@
-use Prim.Native.Nat.{ℕ, ◌+◌, ◌-◌}
 use native.Mathlib.Omega.{arith}
-use mathlib.Core.Path.{◌≡◌, refl, sym, ◌∙◌}
-use mathlib.Core.Bool.{true≢false, false≢true}
-use mathlib.Core.List.{List}
-use lib.ListN.{length}
-use borrow.Author.Rules.{rules}
-use Rattle.tables.specs.Tables.{places}
-use Rattle.policy.specs.declared.Policy.{Policy}
-use Rattle.candidates.specs.Candidates.{root_candidates}
-use Rattle.listing.specs.Listing.{PartsOf}
-use Rattle.roots.specs.Roots.{TreeGrown, RootsWritten}
-use Rattle.roots.proofs.Roots.{space-still, places-still, roots-still, root-mem, roots-more, roots-grow, roots-over, roots-all, roots-long, roots-searched, over, under}
+use mathlib.Core.Path.{refl, sym, ◌∙◌}
+use Rattle.roots.proofs.Roots.{grown-all, grown-part, space-still, places-still, roots-still, root-mem, roots-more, roots-grow, roots-over, roots-all, roots-long, roots-searched, over, under}
 use Rattle.roots.proofs.grow_trees.Goals as goal
 
-pub loop-states-init : goal.loop-states-init
-loop-states-init c = (λ p m₀ r₀ t f e w. w, refl, refl, refl, refl, refl, refl, refl)
+pub loop-places-init : goal.loop-places-init
+loop-places-init c = (λ m₀ r₀ w. w, refl, refl, refl, refl, refl, refl, refl)
 
 pub next_root-m-requires : goal.next_root-m-requires
-next_root-m-requires c = roots-searched c.requires.policy.0 c.requires.policy.3.graph.lawful c.requires.policy.5
+next_root-m-requires c = let g = c.args.g.now in roots-searched g.policy.now g.lawful c.requires.roots
 
 pub shape_of-accepting-then-m-eq0 : goal.shape_of-accepting-then-m-eq0
-shape_of-accepting-then-m-eq0 c = c.loop-states.invariant.1
+shape_of-accepting-then-m-eq0 c = c.loop-places.invariant.1
 
 pub shape_of-accepted-then-m-eq0 : goal.shape_of-accepted-then-m-eq0
-shape_of-accepted-then-m-eq0 c = c.loop-states.invariant.2
+shape_of-accepted-then-m-eq0 c = c.loop-places.invariant.2
 
 pub shape_of-rejecting-then-m-eq0 : goal.shape_of-rejecting-then-m-eq0
-shape_of-rejecting-then-m-eq0 c = c.loop-states.invariant.3
+shape_of-rejecting-then-m-eq0 c = c.loop-places.invariant.3
 
 pub shape_of-rejected-then-m-eq0 : goal.shape_of-rejected-then-m-eq0
-shape_of-rejected-then-m-eq0 c = c.loop-states.invariant.4
+shape_of-rejected-then-m-eq0 c = c.loop-places.invariant.4
 
 pub shape_of-scratch-then-m-eq0 : goal.shape_of-scratch-then-m-eq0
-shape_of-scratch-then-m-eq0 c = c.loop-states.invariant.5
+shape_of-scratch-then-m-eq0 c = c.loop-places.invariant.5
 
 pub shape_of-masks-then-m-eq0 : goal.shape_of-masks-then-m-eq0
-shape_of-masks-then-m-eq0 c = c.loop-states.invariant.6
+shape_of-masks-then-m-eq0 c = c.loop-places.invariant.6
 
 pub shape_of-parents-then-m-eq0 : goal.shape_of-parents-then-m-eq0
-shape_of-parents-then-m-eq0 c = c.loop-states.invariant.7
+shape_of-parents-then-m-eq0 c = c.loop-places.invariant.7
 
 pub returns-then-m-eq0 : goal.returns-then-m-eq0
-returns-then-m-eq0 c =
-    λ p m₀ r₀ t f e w. record {
-      finished = λ _. roots-all t.graph.lawful e (c.loop-states.invariant.0 p m₀ r₀ t f e w) c.next_root-m.ensures c.if-m-eq0.true;
-      unfinished = λ z. absurd (true≢false z);
-      enough = λ _. refl;
-    }
+returns-then-m-eq0 c = λ m₀ r₀ w. grown-all (roots-all c.args.g.now.lawful c.requires.roots (c.loop-places.invariant.0 m₀ r₀ w) c.next_root-m.ensures c.if-m-eq0.true)
 
-pub grow_tree-grown-requires : goal.grow_tree-grown-requires
-grow_tree-grown-requires c = let here : let q = c.requires.policy in RootsWritten c.requires.policy.0 c.requires.policy.1 c.requires.policy.2 c.loop-states.masks c.loop-states.parents c.loop-states.next c.loop-states.after =
-    let q = c.requires.policy in c.loop-states.invariant.0 c.requires.policy.0 c.requires.policy.1 c.requires.policy.2 c.requires.policy.3 c.requires.policy.4 c.requires.policy.5 c.requires.policy.6 in
-    let q = c.requires.policy in
-    let v = here in
-    let l = roots-long v in record { policy = (c.requires.policy.0, c.requires.policy.3, c.requires.policy.4, root-mem c.requires.policy.3.graph.lawful c.requires.policy.5 v c.next_root-m.ensures c.if-m-eq0.false); space = space-still c.requires.space c.loop-states.invariant.1 c.loop-states.invariant.2 c.loop-states.invariant.3 c.loop-states.invariant.4 c.loop-states.invariant.5; tables = (l.1 ∙ v.one_length ∙ sym l.0, places-still _ _ l.0 v.fits) }
+pub grow_tree-requires : goal.grow_tree-requires
+grow_tree-requires c =
+    let i = c.loop-places.invariant in
+    let v = i.0 c.requires.begun.0 c.requires.begun.1 c.requires.begun.2 in
+    let l = roots-long v in
+    record { root = root-mem c.args.g.now.lawful c.requires.roots v c.next_root-m.ensures c.if-m-eq0.false; space = space-still c.requires.space i.1 i.2 i.3 i.4 i.5; tables = (l.1 ∙ v.one_length ∙ sym l.0, places-still _ _ l.0 v.fits) }
 
-pub shape_of-accepting-then-grown : goal.shape_of-accepting-then-grown
-shape_of-accepting-then-grown c = c.grow_tree-grown.auto.accepting ∙ c.loop-states.invariant.1
+pub shape_of-accepting-in-None : goal.shape_of-accepting-in-None
+shape_of-accepting-in-None c = c.grow_tree.auto.accepting ∙ c.loop-places.invariant.1
 
-pub shape_of-accepted-then-grown : goal.shape_of-accepted-then-grown
-shape_of-accepted-then-grown c = c.grow_tree-grown.auto.accepted ∙ c.loop-states.invariant.2
+pub shape_of-accepted-in-None : goal.shape_of-accepted-in-None
+shape_of-accepted-in-None c = c.grow_tree.auto.accepted ∙ c.loop-places.invariant.2
 
-pub shape_of-rejecting-then-grown : goal.shape_of-rejecting-then-grown
-shape_of-rejecting-then-grown c = c.grow_tree-grown.auto.rejecting ∙ c.loop-states.invariant.3
+pub shape_of-rejecting-in-None : goal.shape_of-rejecting-in-None
+shape_of-rejecting-in-None c = c.grow_tree.auto.rejecting ∙ c.loop-places.invariant.3
 
-pub shape_of-rejected-then-grown : goal.shape_of-rejected-then-grown
-shape_of-rejected-then-grown c = c.grow_tree-grown.auto.rejected ∙ c.loop-states.invariant.4
+pub shape_of-rejected-in-None : goal.shape_of-rejected-in-None
+shape_of-rejected-in-None c = c.grow_tree.auto.rejected ∙ c.loop-places.invariant.4
 
-pub shape_of-scratch-then-grown : goal.shape_of-scratch-then-grown
-shape_of-scratch-then-grown c = c.grow_tree-grown.auto.scratch ∙ c.loop-states.invariant.5
+pub shape_of-scratch-in-None : goal.shape_of-scratch-in-None
+shape_of-scratch-in-None c = c.grow_tree.auto.scratch ∙ c.loop-places.invariant.5
 
-pub shape_of-masks-then-grown : goal.shape_of-masks-then-grown
-shape_of-masks-then-grown c = c.grow_tree-grown.auto.masks ∙ c.loop-states.invariant.6
+pub shape_of-masks-in-None : goal.shape_of-masks-in-None
+shape_of-masks-in-None c = c.grow_tree.auto.masks ∙ c.loop-places.invariant.6
 
-pub shape_of-parents-then-grown : goal.shape_of-parents-then-grown
-shape_of-parents-then-grown c = c.grow_tree-grown.auto.parents ∙ c.loop-states.invariant.7
+pub shape_of-parents-in-None : goal.shape_of-parents-in-None
+shape_of-parents-in-None c = c.grow_tree.auto.parents ∙ c.loop-places.invariant.7
 
-pub returns-then-grown : goal.returns-then-grown
-returns-then-grown c =
-    let grown : (p : Policy) (m₀ r₀ : List ℕ) → let a = c.args in PartsOf p a.states a.letters a.heads.now a.out.now a.into.now a.by.now → a.family.now ≡ p.family → a.roots.now ≡ root_candidates p → RootsWritten p m₀ r₀ a.masks.now a.parents.now a.from.next a.from.after → TreeGrown p c.next_root-m.result c.loop-states.next (length c.loop-states.accepting) c.loop-states.masks c.loop-states.parents c.grow_tree-grown.new.masks c.grow_tree-grown.new.parents c.grow_tree-grown.result =
-    λ p m₀ r₀ t f e w. c.grow_tree-grown.ensures p t f (root-mem t.graph.lawful e (c.loop-states.invariant.0 p m₀ r₀ t f e w) c.next_root-m.ensures c.if-m-eq0.false) in
-    λ p m₀ r₀ t f e w. let g = grown p m₀ r₀ t f e w in record {
-      finished = λ z. absurd (false≢true z);
-      unfinished = λ _. roots-still (c.loop-states.invariant.0 p m₀ r₀ t f e w) (g.masks_same c.if-grown.true) (g.parents_same c.if-grown.true);
-      enough = λ h. absurd (true≢false (sym c.if-grown.true ∙ g.enough (omega (arith, c.loop-states.invariant.1))));
-    }
+pub returns-in-None : goal.returns-in-None
+returns-in-None c =
+    λ m₀ r₀ w.
+    let g = c.grow_tree.ensures in
+    grown-part (roots-still (c.loop-places.invariant.0 m₀ r₀ w) (g.masks_same c.in-None.is) (g.parents_same c.in-None.is)) (λ h. g.enough (omega (arith, c.loop-places.invariant.1)) c.in-None.is)
 
 pub shape_of-accepting-then-places-next : goal.shape_of-accepting-then-places-next
-shape_of-accepting-then-places-next c = c.grow_tree-grown.auto.accepting ∙ c.loop-states.invariant.1
+shape_of-accepting-then-places-next c = c.grow_tree.auto.accepting ∙ c.loop-places.invariant.1
 
 pub shape_of-accepted-then-places-next : goal.shape_of-accepted-then-places-next
-shape_of-accepted-then-places-next c = c.grow_tree-grown.auto.accepted ∙ c.loop-states.invariant.2
+shape_of-accepted-then-places-next c = c.grow_tree.auto.accepted ∙ c.loop-places.invariant.2
 
 pub shape_of-rejecting-then-places-next : goal.shape_of-rejecting-then-places-next
-shape_of-rejecting-then-places-next c = c.grow_tree-grown.auto.rejecting ∙ c.loop-states.invariant.3
+shape_of-rejecting-then-places-next c = c.grow_tree.auto.rejecting ∙ c.loop-places.invariant.3
 
 pub shape_of-rejected-then-places-next : goal.shape_of-rejected-then-places-next
-shape_of-rejected-then-places-next c = c.grow_tree-grown.auto.rejected ∙ c.loop-states.invariant.4
+shape_of-rejected-then-places-next c = c.grow_tree.auto.rejected ∙ c.loop-places.invariant.4
 
 pub shape_of-scratch-then-places-next : goal.shape_of-scratch-then-places-next
-shape_of-scratch-then-places-next c = c.grow_tree-grown.auto.scratch ∙ c.loop-states.invariant.5
+shape_of-scratch-then-places-next c = c.grow_tree.auto.scratch ∙ c.loop-places.invariant.5
 
 pub shape_of-masks-then-places-next : goal.shape_of-masks-then-places-next
-shape_of-masks-then-places-next c = c.clear64.auto.t ∙ c.grow_tree-grown.auto.masks ∙ c.loop-states.invariant.6
+shape_of-masks-then-places-next c = c.clear.auto.t ∙ c.grow_tree.auto.masks ∙ c.loop-places.invariant.6
 
 pub shape_of-parents-then-places-next : goal.shape_of-parents-then-places-next
-shape_of-parents-then-places-next c = c.clear16.auto.t ∙ c.grow_tree-grown.auto.parents ∙ c.loop-states.invariant.7
+shape_of-parents-then-places-next c = c.clear-then-places-next.auto.t ∙ c.grow_tree.auto.parents ∙ c.loop-places.invariant.7
 
 pub returns-then-places-next : goal.returns-then-places-next
 returns-then-places-next c =
-    let grown : (p : Policy) (m₀ r₀ : List ℕ) → let a = c.args in PartsOf p a.states a.letters a.heads.now a.out.now a.into.now a.by.now → a.family.now ≡ p.family → a.roots.now ≡ root_candidates p → RootsWritten p m₀ r₀ a.masks.now a.parents.now a.from.next a.from.after → TreeGrown p c.next_root-m.result c.loop-states.next (length c.loop-states.accepting) c.loop-states.masks c.loop-states.parents c.grow_tree-grown.new.masks c.grow_tree-grown.new.parents c.grow_tree-grown.result =
-    λ p m₀ r₀ t f e w. c.grow_tree-grown.ensures p t f (root-mem t.graph.lawful e (c.loop-states.invariant.0 p m₀ r₀ t f e w) c.next_root-m.ensures c.if-m-eq0.false) in
-    λ p m₀ r₀ t f e w.
-    let v = c.loop-states.invariant.0 p m₀ r₀ t f e w in
+    λ m₀ r₀ w.
+    let v = c.loop-places.invariant.0 m₀ r₀ w in
     let l = roots-long v in
-    record {
-      finished = λ _. roots-over t.graph.lawful e v c.next_root-m.ensures c.if-m-eq0.false ((grown p m₀ r₀ t f e w).written c.if-grown.false)
-          (over w c.places-places.ensures c.if-places-next.true) _ _ (c.grow_tree-grown.auto.masks ∙ l.0) (c.grow_tree-grown.auto.parents ∙ l.1) c.clear64.ensures c.clear16.ensures;
-      unfinished = λ z. absurd (true≢false z);
-      enough = λ _. refl;
-    }
+    grown-all (roots-over c.args.g.now.lawful c.requires.roots v c.next_root-m.ensures c.if-m-eq0.false (c.grow_tree.ensures.written _ c.in-Some.is)
+    (over w c.places-places.ensures c.if-places-next.true) _ _ (c.grow_tree.auto.masks ∙ l.0) (c.grow_tree.auto.parents ∙ l.1) c.clear.ensures c.clear-then-places-next.ensures)
 
-pub loop-states-smaller : goal.loop-states-smaller
-loop-states-smaller c =
-    let here : let q = c.requires.policy in RootsWritten c.requires.policy.0 c.requires.policy.1 c.requires.policy.2 c.loop-states.masks c.loop-states.parents c.loop-states.next c.loop-states.after =
-    let q = c.requires.policy in c.loop-states.invariant.0 c.requires.policy.0 c.requires.policy.1 c.requires.policy.2 c.requires.policy.3 c.requires.policy.4 c.requires.policy.5 c.requires.policy.6 in
-    let grown : (p : Policy) (m₀ r₀ : List ℕ) → let a = c.args in PartsOf p a.states a.letters a.heads.now a.out.now a.into.now a.by.now → a.family.now ≡ p.family → a.roots.now ≡ root_candidates p → RootsWritten p m₀ r₀ a.masks.now a.parents.now a.from.next a.from.after → TreeGrown p c.next_root-m.result c.loop-states.next (length c.loop-states.accepting) c.loop-states.masks c.loop-states.parents c.grow_tree-grown.new.masks c.grow_tree-grown.new.parents c.grow_tree-grown.result =
-    λ p m₀ r₀ t f e w. c.grow_tree-grown.ensures p t f (root-mem t.graph.lawful e (c.loop-states.invariant.0 p m₀ r₀ t f e w) c.next_root-m.ensures c.if-m-eq0.false) in
-    let q = c.requires.policy in
-    omega (arith, roots-grow c.requires.policy.3.graph.lawful c.requires.policy.5 (here) c.next_root-m.ensures c.if-m-eq0.false ((grown c.requires.policy.0 c.requires.policy.1 c.requires.policy.2 c.requires.policy.3 c.requires.policy.4 c.requires.policy.5 c.requires.policy.6).written c.if-grown.false) (under c.requires.policy.6 c.places-places.ensures c.if-places-next.false), c.if-places-next.false)
+pub loop-places-smaller : goal.loop-places-smaller
+loop-places-smaller c =
+    let w = c.requires.begun.2 in
+    let here = c.loop-places.invariant.0 c.requires.begun.0 c.requires.begun.1 w in
+    omega (arith, roots-grow c.args.g.now.lawful c.requires.roots here c.next_root-m.ensures c.if-m-eq0.false (c.grow_tree.ensures.written _ c.in-Some.is) (under w c.places-places.ensures c.if-places-next.false), c.if-places-next.false)
 
-pub loop-states-preserved : goal.loop-states-preserved
-loop-states-preserved c =
-    let grown : (p : Policy) (m₀ r₀ : List ℕ) → let a = c.args in PartsOf p a.states a.letters a.heads.now a.out.now a.into.now a.by.now → a.family.now ≡ p.family → a.roots.now ≡ root_candidates p → RootsWritten p m₀ r₀ a.masks.now a.parents.now a.from.next a.from.after → TreeGrown p c.next_root-m.result c.loop-states.next (length c.loop-states.accepting) c.loop-states.masks c.loop-states.parents c.grow_tree-grown.new.masks c.grow_tree-grown.new.parents c.grow_tree-grown.result =
-    λ p m₀ r₀ t f e w. c.grow_tree-grown.ensures p t f (root-mem t.graph.lawful e (c.loop-states.invariant.0 p m₀ r₀ t f e w) c.next_root-m.ensures c.if-m-eq0.false) in (
-      λ p m₀ r₀ t f e w. roots-more t.graph.lawful e (c.loop-states.invariant.0 p m₀ r₀ t f e w) c.next_root-m.ensures c.if-m-eq0.false ((grown p m₀ r₀ t f e w).written c.if-grown.false) (under w c.places-places.ensures c.if-places-next.false),
-      c.grow_tree-grown.auto.accepting ∙ c.loop-states.invariant.1,
-      c.grow_tree-grown.auto.accepted ∙ c.loop-states.invariant.2,
-      c.grow_tree-grown.auto.rejecting ∙ c.loop-states.invariant.3,
-      c.grow_tree-grown.auto.rejected ∙ c.loop-states.invariant.4,
-      c.grow_tree-grown.auto.scratch ∙ c.loop-states.invariant.5,
-      c.grow_tree-grown.auto.masks ∙ c.loop-states.invariant.6,
-      c.grow_tree-grown.auto.parents ∙ c.loop-states.invariant.7,
-    )
+pub loop-places-preserved : goal.loop-places-preserved
+loop-places-preserved c = (
+  λ m₀ r₀ w. roots-more c.args.g.now.lawful c.requires.roots (c.loop-places.invariant.0 m₀ r₀ w) c.next_root-m.ensures c.if-m-eq0.false (c.grow_tree.ensures.written _ c.in-Some.is) (under w c.places-places.ensures c.if-places-next.false),
+  c.grow_tree.auto.accepting ∙ c.loop-places.invariant.1,
+  c.grow_tree.auto.accepted ∙ c.loop-places.invariant.2,
+  c.grow_tree.auto.rejecting ∙ c.loop-places.invariant.3,
+  c.grow_tree.auto.rejected ∙ c.loop-places.invariant.4,
+  c.grow_tree.auto.scratch ∙ c.loop-places.invariant.5,
+  c.grow_tree.auto.masks ∙ c.loop-places.invariant.6,
+  c.grow_tree.auto.parents ∙ c.loop-places.invariant.7,
+)

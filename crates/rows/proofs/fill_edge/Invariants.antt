@@ -1,13 +1,9 @@
 -- `fill_edge` meets its contract. The invariant: the rows of the states over v up to s are written, and the row at hand is that of each leaf that shares it.
 -- Assumes nothing.
-use Prim.Native.Nat.{◌-◌}
 use Rattle.rows.specs.Rows.{Shares}
 use Rattle.rows.proofs.RowTables.{EdgeRows}
 use Rattle.rows.proofs.fill_edge.Given as goal
 
 abbrev pub invariant-loop-s : goal.invariant-loop-s
 invariant-loop-s l =
-    EdgeRows l.p l.v l.letter l.initial.targets l.initial.priorities l.targets l.priorities l.s × Shares l.p l.e l.row.from l.row.to l.row.target l.row.priority
-
-abbrev pub decreases-loop-s : goal.decreases-loop-s
-decreases-loop-s l = l.end - l.s
+    EdgeRows l.states.forest.now.policy.now l.v l.letter l.initial.targets l.initial.priorities l.targets l.priorities l.s × Shares l.states.forest.now.policy.now l.e l.row.from l.row.to l.row.target l.row.priority

@@ -1,8 +1,5 @@
 -- `halve` meets its contract. The invariant: what is sought lies from `from` up to `to`. Assumes nothing.
 use Prim.Native.Nat.{◌-◌}
-use native.Mathlib.Omega.{arith}
-use borrow.Author.Rules.{rules}
-use Rattle.search.proofs.Narrowing.{narrowed-up, narrowed-down, narrowed-done}
 use Rattle.search.specs.LowerBound.{Narrowed}
 use Rattle.search.proofs.halve.Given as goal
 

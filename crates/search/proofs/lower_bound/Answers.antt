@@ -1,7 +1,6 @@
 -- `lower_bound` meets its contract: what a search narrows down is narrowed down in the whole run. Assumes nothing.
 use native.Mathlib.Omega.{arith}
 use Rattle.search.proofs.Narrowing.{narrowed_none, narrowed-up, narrowed-down, narrowed-both, narrowed-bound}
-use borrow.Author.Rules.{rules}
 use Rattle.lists.proofs.Numbers.{within}
 use Rattle.search.proofs.lower_bound.Goals as goal
 
@@ -14,24 +13,24 @@ bounds-entries-hint c = omega (arith, within c.args.from c.args.to c.args.hint c
 pub overflow_add-hint : goal.overflow_add-hint
 overflow_add-hint c = omega (arith, within c.args.from c.args.to c.args.hint c.if-hint-from.false)
 
-pub step_up-s-requires : goal.step_up-s-requires
-step_up-s-requires c = let h = within c.args.from c.args.to c.args.hint c.if-hint-from.false in (omega arith, omega arith, λ i j p q r. c.requires.run.2 i j (omega arith) q (omega arith))
+pub stride-above-requires : goal.stride-above-requires
+stride-above-requires c = let h = within c.args.from c.args.to c.args.hint c.if-hint-from.false in (omega arith, omega arith, λ i j p q r. c.requires.run.2 i j (omega arith) q (omega arith))
 
-pub halve-requires-then-wide-x : goal.halve-requires-then-wide-x
-halve-requires-then-wide-x c = let h = within c.args.from c.args.to c.args.hint c.if-hint-from.false in let n = c.step_up-s.ensures in (n.low_high, omega (arith, n.high_to), λ i j p q r. c.requires.run.2 i j (omega arith) q (omega arith))
+pub halve-requires-then-entries-hint : goal.halve-requires-then-entries-hint
+halve-requires-then-entries-hint c = let h = within c.args.from c.args.to c.args.hint c.if-hint-from.false in let n = c.stride-above.ensures in (n.low_high, omega (arith, n.high_to), λ i j p q r. c.requires.run.2 i j (omega arith) q (omega arith))
 
-pub returns-then-wide-x : goal.returns-then-wide-x
-returns-then-wide-x c =
+pub returns-then-entries-hint : goal.returns-then-entries-hint
+returns-then-entries-hint c =
     let h = within c.args.from c.args.to c.args.hint c.if-hint-from.false in
-    narrowed-bound _ _ _ _ _ _ _ (narrowed-both _ _ _ _ _ _ _ _ (narrowed-up _ _ _ _ _ _ _ c.requires.run.2 (narrowed_none _ _ _ _ c.requires.run.0) h.0 h.1 (omega arith)) c.step_up-s.ensures) c.halve-then-wide-x.ensures
+    narrowed-bound _ _ _ _ _ _ _ (narrowed-both _ _ _ _ _ _ _ _ (narrowed-up _ _ _ _ _ _ _ c.requires.run.2 (narrowed_none _ _ _ _ c.requires.run.0) h.0 h.1 (omega arith)) c.stride-above.ensures) c.halve-then-entries-hint.ensures
 
-pub step_down-s-requires : goal.step_down-s-requires
-step_down-s-requires c = let h = within c.args.from c.args.to c.args.hint c.if-hint-from.false in (omega arith, omega arith, λ i j p q r. c.requires.run.2 i j (omega arith) q (omega arith))
+pub stride-below-requires : goal.stride-below-requires
+stride-below-requires c = let h = within c.args.from c.args.to c.args.hint c.if-hint-from.false in (omega arith, omega arith, λ i j p q r. c.requires.run.2 i j (omega arith) q (omega arith))
 
 pub halve-requires-2 : goal.halve-requires-2
-halve-requires-2 c = let h = within c.args.from c.args.to c.args.hint c.if-hint-from.false in let n = c.step_down-s.ensures in (n.low_high, omega (arith, n.high_to), λ i j p q r. c.requires.run.2 i j (omega arith) q (omega arith))
+halve-requires-2 c = let h = within c.args.from c.args.to c.args.hint c.if-hint-from.false in let n = c.stride-below.ensures in (n.low_high, omega (arith, n.high_to), λ i j p q r. c.requires.run.2 i j (omega arith) q (omega arith))
 
 pub returns : goal.returns
 returns c =
     let h = within c.args.from c.args.to c.args.hint c.if-hint-from.false in
-    narrowed-bound _ _ _ _ _ _ _ (narrowed-both _ _ _ _ _ _ _ _ (narrowed-down _ _ _ _ _ _ _ c.requires.run.2 (narrowed_none _ _ _ _ c.requires.run.0) h.0 h.1 (omega arith)) c.step_down-s.ensures) c.halve-2.ensures
+    narrowed-bound _ _ _ _ _ _ _ (narrowed-both _ _ _ _ _ _ _ _ (narrowed-down _ _ _ _ _ _ _ c.requires.run.2 (narrowed_none _ _ _ _ c.requires.run.0) h.0 h.1 (omega arith)) c.stride-below.ensures) c.halve-2.ensures

@@ -1,9 +1,6 @@
-use Prim.Native.Nat.{◌-◌}
 use native.Mathlib.Omega.{arith}
 use mathlib.Core.Path.{sym, ◌∙◌}
-use lib.ListN.{length}
-use borrow.Author.Rules.{rules}
-use Rattle.siblings.proofs.Passing.{Passing, passing-none, passing-positions, passing-skip, passing-more, passing-all}
+use Rattle.siblings.proofs.Passing.{passing-none, passing-positions, passing-skip, passing-more, passing-all}
 use Rattle.siblings.proofs.fill_children.Goals as goal
 use Rattle.siblings.proofs.fill_children.Goals.{then-is_kept, else-is_kept}
 

@@ -1,9 +1,6 @@
-use Prim.Native.Nat.{◌-◌, ◌<◌}
 use native.Mathlib.Omega.{arith}
 use mathlib.Core.Path.{sym, ◌∙◌}
-use lib.ListN.{length}
-use borrow.Author.Rules.{rules}
-use Rattle.siblings.proofs.Carrying.{Carrying, carrying-none, carrying-put, carrying-past, carrying-all}
+use Rattle.siblings.proofs.Carrying.{carrying-none, carrying-put, carrying-past, carrying-all}
 use Rattle.siblings.proofs.insert.Goals as goal
 use Rattle.siblings.proofs.insert.Goals.{then-is_before, else-is_before}
 

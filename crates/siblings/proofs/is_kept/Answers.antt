@@ -1,6 +1,5 @@
 -- `is_kept` meets its contract. Assumes nothing.
 use mathlib.Core.Path.{sym, ◌∙◌}
-use borrow.Author.Rules.{rules}
 use Rattle.siblings.specs.Positions.{kept}
 use Rattle.siblings.proofs.is_kept.Goals as goal
 

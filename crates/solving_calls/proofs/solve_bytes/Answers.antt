@@ -1,10 +1,9 @@
+-- `solving_calls::solve_bytes` meets its contract: after a refused reading nothing is solved, and a policy that was read is legal. Assumes nothing.
 use Prim.Native.Nat.{ℕ}
-use mathlib.Core.Path.{◌≡◌, refl, sym, ap, ◌∙◌}
+use mathlib.Core.Path.{◌≡◌, sym, ap, ◌∙◌}
 use mathlib.Core.Bool.{cond}
 use lib.Dec.{eqb}
 use Rattle.policy.specs.Policies.{legal}
-use Rattle.policy.specs.Making.{from_parts}
-use Rattle.policy.proofs.Making.{parts_are}
 use Rattle.reading.specs.declared.Answer.{Answer}
 use Rattle.reading.specs.Reading.{reading_of, offset_of, number_of as read_number_of}
 use Rattle.reading.proofs.Legal.{number-legal, number-illegal}
@@ -33,37 +32,8 @@ pub solve_legal-t-requires : goal.solve_legal-t-requires
 solve_legal-t-requires c =
     let number_read : c.of_reading-read.result.number ≡ read_number_of (reading_of c.args.bytes.now).outcome =
     c.of_reading-read.ensures.0 ∙ ap (λ (x : Answer). read_number_of x.outcome) c.read-answer.ensures.answer_is in
-    let q = c.read-answer.result.policy in
-    let parts : from_parts c.shape_of.result q.quiet q.target q.colour q.family ≡ (reading_of c.args.bytes.now).policy =
-    parts_are q c.shape_of.ensures refl refl refl ∙ ap (λ (x : Answer). x.policy) c.read-answer.ensures.answer_is in
-    (refl, ap legal parts ∙ number-legal c.args.bytes.now (sym number_read ∙ c.if-read-ne0.false))
-
-pub shape_of-masks : goal.shape_of-masks
-shape_of-masks c = c.solve_legal-t.auto.masks
-
-pub shape_of-parents : goal.shape_of-parents
-shape_of-parents c = c.solve_legal-t.auto.parents
-
-pub shape_of-node_priorities : goal.shape_of-node_priorities
-shape_of-node_priorities c = c.solve_legal-t.auto.node_priorities
-
-pub shape_of-sources : goal.shape_of-sources
-shape_of-sources c = c.solve_legal-t.auto.sources
-
-pub shape_of-leaves : goal.shape_of-leaves
-shape_of-leaves c = c.solve_legal-t.auto.leaves
-
-pub shape_of-targets : goal.shape_of-targets
-shape_of-targets c = c.solve_legal-t.auto.targets
-
-pub shape_of-priorities : goal.shape_of-priorities
-shape_of-priorities c = c.solve_legal-t.auto.priorities
-
-pub shape_of-winners : goal.shape_of-winners
-shape_of-winners c = c.solve_legal-t.auto.winners
-
-pub shape_of-letters : goal.shape_of-letters
-shape_of-letters c = c.solve_legal-t.auto.letters
+    let parts = ap (λ (x : Answer). x.policy) c.read-answer.ensures.answer_is in
+    ap legal parts ∙ number-legal c.args.bytes.now (sym number_read ∙ c.if-read-ne0.false)
 
 pub returns : goal.returns
 returns c =
@@ -71,17 +41,15 @@ returns c =
     c.of_reading-read.ensures.0 ∙ ap (λ (x : Answer). read_number_of x.outcome) c.read-answer.ensures.answer_is in
     let offset_read : c.of_reading-read.result.offset ≡ offset_of (reading_of c.args.bytes.now).outcome =
     c.of_reading-read.ensures.1 ∙ ap (λ (x : Answer). offset_of x.outcome) c.read-answer.ensures.answer_is in
-    let q = c.read-answer.result.policy in
-    let parts : from_parts c.shape_of.result q.quiet q.target q.colour q.family ≡ (reading_of c.args.bytes.now).policy =
-    parts_are q c.shape_of.ensures refl refl refl ∙ ap (λ (x : Answer). x.policy) c.read-answer.ensures.answer_is in
+    let parts = ap (λ (x : Answer). x.policy) c.read-answer.ensures.answer_is in
     let t = same-solves parts c.solve_legal-t.ensures in
     let zero = sym number_read ∙ c.if-read-ne0.false in
-    let n = c.of_translation-values.ensures.0 ∙ ap number_of t.answer_is in
-    let offset = c.unless_refused.ensures ∙ ap (λ (x : ℕ). cond (eqb c.of_translation-values.result.number 0) x 0) offset_read ∙ offset-passed _ _ _ _ zero n in
+    let n = c.of_translation-number.ensures.number ∙ ap number_of t.answer_is in
+    let offset = c.unless_refused.ensures ∙ ap (λ (x : ℕ). cond (eqb c.of_translation-number.result 0) x 0) offset_read ∙ offset-passed _ _ _ _ zero n in
     record {
       number_is = first-passed _ _ _ 0 zero n;
       solved = record {
-        counts_are = c.of_translation-values.ensures.1 ∙ ap counts_of t.answer_is;
+        counts_are = c.of_translation-number.ensures.counts ∙ ap counts_of t.answer_is;
         tables_are = t.tables_are;
         winners_are = t.winners_are;
         letters_are = t.letters_are;

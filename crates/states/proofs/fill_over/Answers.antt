@@ -5,8 +5,8 @@ use Rattle.states.proofs.fill_over.Goals as goal
 
 pub returns-then-next-at : goal.returns-then-next-at
 returns-then-next-at c =
-    (over_none c.args.p c.args.v c.args.leaves.now _ c.args.at c.fill_leaves-next.result c.args.count c.requires.place.0 c.fill_leaves-next.ensures.0 (omega (arith, c.if-next-at.true, c.fill_leaves-next.ensures.0.next_is)) c.put_leaf.new.t c.put_leaf.ensures, omega arith)
+    (over_none c.args.nodes.now.policy.now c.args.v c.args.leaves.now _ c.args.at c.fill_leaves-next.result c.args.nodes.now.count c.args.nodes.now.counted c.fill_leaves-next.ensures.0 (omega (arith, c.if-next-at.true, c.fill_leaves-next.ensures.0.next_is)) c.put.new.t c.put.ensures, omega arith)
 
 pub returns : goal.returns
 returns c =
-    (over-some c.args.p c.args.v c.args.leaves.now _ c.args.at c.fill_leaves-next.result c.args.count c.requires.place.0 c.fill_leaves-next.ensures.0 (λ e. omega (arith, e, c.if-next-at.false)), omega (arith, c.fill_leaves-next.ensures.1))
+    (over-some c.args.nodes.now.policy.now c.args.v c.args.leaves.now _ c.args.at c.fill_leaves-next.result c.args.nodes.now.count c.args.nodes.now.counted c.fill_leaves-next.ensures.0 (λ e. omega (arith, e, c.if-next-at.false)), omega (arith, c.fill_leaves-next.ensures.1))

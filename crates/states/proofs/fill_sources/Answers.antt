@@ -13,7 +13,7 @@ loop-i-init c = let a = c.args in (omega arith, omega arith, replicate-none a.so
 pub loop-i-preserved : goal.loop-i-preserved
 loop-i-preserved c =
     let a = c.args in
-    (omega arith, omega arith, c.put_source.ensures ∙ replicate_more a.sources.now c.loop-i.sources a.from c.loop-i.i a.v (omega arith) c.loop-i.invariant.2)
+    (omega arith, omega arith, c.put.ensures ∙ replicate_more a.sources.now c.loop-i.sources a.from c.loop-i.i a.v (omega arith) c.loop-i.invariant.2)
 
 pub shape_of-sources : goal.shape_of-sources
 shape_of-sources c = let a = c.args in ap length c.loop-i.invariant.2 ∙ length-sets a.sources.now a.from (replicate (c.loop-i.i - a.from) a.v)

@@ -7,6 +7,3 @@ use Rattle.states.proofs.fill_sources.Given as goal
 
 abbrev pub invariant-loop-i : goal.invariant-loop-i
 invariant-loop-i l = (l.from ≤ l.i) × (l.i ≤ l.to) × (l.sources ≡ sets l.initial.sources l.from (replicate (l.i - l.from) l.v))
-
-abbrev pub decreases-loop-i : goal.decreases-loop-i
-decreases-loop-i l = l.to - l.i

@@ -9,7 +9,7 @@ returns-then-states-le4 c =
     let g = c.args in
     λ p ok is steps v l.
     let a = c.word_of-a.result in
-    c.closed_4.ensures v (omega (arith, c.if-states-le4.true, l))
+    c.closed.ensures v (omega (arith, c.if-states-le4.true, l))
     ∙ rows-reach p ok g.steps.now steps g.s a 0 0 0 4 (rowed-4 p ok g.steps.now steps g.s a 0 0 0 c.word_of-a.ensures) (omega arith) (omega (arith, is, c.if-states-le4.true)) v (omega (arith, is, l))
 
 pub returns-then-states-le8 : goal.returns-then-states-le8
@@ -18,7 +18,7 @@ returns-then-states-le8 c =
     λ p ok is steps v l.
     let a = c.word_of-a.result in
     let b = c.word_of-b.result in
-    c.closed_8.ensures v (omega (arith, c.if-states-le8.true, l))
+    c.closed-then-states-le8.ensures v (omega (arith, c.if-states-le8.true, l))
     ∙ rows-reach p ok g.steps.now steps g.s a b 0 0 8 (rowed-8 p ok g.steps.now steps g.s a b 0 0 c.word_of-a.ensures c.word_of-b.ensures) (omega arith) (omega (arith, is, c.if-states-le8.true)) v (omega (arith, is, l))
 
 pub returns : goal.returns

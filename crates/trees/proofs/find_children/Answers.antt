@@ -1,5 +1,4 @@
 -- `trees::find_children` meets its contract: the list that is searched is that of the other verdict. Assumes nothing.
-use borrow.Author.Rules.{rules}
 use Rattle.trees.proofs.find_children.Goals as goal
 
 pub returns-then-verdict : goal.returns-then-verdict

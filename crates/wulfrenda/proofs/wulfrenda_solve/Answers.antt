@@ -1,5 +1,4 @@
 -- `wulfrenda::wulfrenda_solve` meets its contract, which is that of the call that it hands on to. Assumes nothing.
-use borrow.Author.Rules.{rules}
 use Rattle.wulfrenda.proofs.wulfrenda_solve.Goals as goal
 
 pub shape_of-masks : goal.shape_of-masks

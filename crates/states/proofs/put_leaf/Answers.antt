@@ -1,8 +1,0 @@
--- `states::put_leaf` meets its contract: a store past the end is none. Assumes nothing.
-use mathlib.Core.Path.{sym}
-use lib.Seq.{set_out}
-use native.Mathlib.Omega.{arith}
-use Rattle.states.proofs.put_leaf.Goals as goal
-
-pub returns-else-at-t : goal.returns-else-at-t
-returns-else-at-t c = sym (set_out _ _ _ (omega arith))
