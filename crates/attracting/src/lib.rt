@@ -49,13 +49,28 @@ impl Task {
     }
 }
 
+// Whether an owner is the player.
+pub fn is_own(plant: bool, owner: u8) -> bool
+    ensures { result ≡ owns plant owner }
+{
+    (owner == 1) == plant
+}
+
+// Whether the owner of a state is the player.
+pub fn owns_state(plant: bool, owners: &[u8], sources: &[u8], s: usize) -> bool
+    requires { (s < length sources.now) × (get_or sources.now s 0 < length owners.now) }
+    ensures { result ≡ owns plant (get_or owners.now (get_or sources.now s 0) 0) }
+{
+    is_own(plant, owners[usize::from(sources[s])])
+}
+
 impl Game<'_> {
-    // Whether the owner of a state is the player.
+    // The same in a game.
     pub fn is_owned(&self, plant: bool, s: usize) -> bool
         requires { s < length self.now.sources.now }
         ensures { result ≡ owns plant (get_or self.now.owners.now (get_or self.now.sources.now s 0) 0) }
     {
-        (self.owners[usize::from(self.sources[s])] == 1) == plant
+        owns_state(plant, self.owners, self.sources, s)
     }
 
     // The first letter whose row from a state passes; their number where none does.
@@ -64,6 +79,7 @@ impl Game<'_> {
         ensures { First k own self.now.targets.now self.now.priorities.now marks.now (s * self.now.letters) self.now.letters result }
     {
         let row = s * self.letters;
+        // By index: two tables are read at one row.
         for a in 0..self.letters {
             let target = usize::from(self.targets[row + a]);
             if k.passes(own, self.priorities[row + a], marks[target]) {
@@ -113,6 +129,7 @@ fn sweep(
     ensures { Swept g.now.owners.now g.now.sources.now g.now.targets.now g.now.priorities.now g.now.letters (length g.now.sources.now) k n order.old marks.old choices.old result order.new marks.new choices.new }
 {
     let mut w = 0;
+    // By index: the order is rearranged as it is walked.
     for i in 0..n {
         let s = usize::from(order[i]);
         let gone = visit(k, g, s, marks, choices);

@@ -51,6 +51,7 @@ fn has_fitting_lengths(
 
 // A policy's forest and its automaton, in the seven tables: mask, parent and priority of each node; policy state and leaf of each built state; target and
 // priority of each row.
+// The tables are seven parameters: as one struct of loans, the borrow check does not let the node tables be read while the state tables are filled.
 pub fn translate(
     p: &Policy,
     masks: &mut [u64],

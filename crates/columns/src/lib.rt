@@ -96,7 +96,14 @@ pub fn fill_columns(g: &Graph<'_>, masks: &mut [u64], parents: &mut [u16]) -> us
     let n = policy::edges(g.policy);
     let mut rows = [0u16; 16];
     let mut roots = [0u64; 16];
-    let rooted = components::fill_cycles(g, masks::full(n), &mut rows, &mut roots);
+    let rooted = components::fill_cycles(
+        g.policy,
+        &g.out,
+        &g.into,
+        masks::full(n),
+        &mut rows,
+        &mut roots,
+    );
     let none = Progress { next: 0, after: 0 };
     if (g.policy.states <= 4) & (g.policy.colours <= 3) {
         let mut accepting = [0u64; 24];

@@ -20,6 +20,7 @@ fn has_same_targets(p: &Policy, q: &Policy) -> bool
     ensures { result ≡ same_targets p.now q.now }
 {
     let n = policy::edges(p);
+    // By index: two tables are read side by side.
     for e in 0..n {
         if p.target[e] != q.target[e] {
             return false;
@@ -58,13 +59,13 @@ fn has_no_cycle(g: &Graph<'_>, h: &Graph<'_>, rows: &mut [u16; 16], c: u8, d: u8
     ensures { (result ≡ no_cycle g.now.policy.now h.now.policy.now c d) × (length rows.new ≡ 16) }
 {
     let m = masks::both(policy::edges_in(&g.by, c), policy::edges_in(&h.by, d));
-    graph::reach_all(g, m, rows);
-    let mut left = graph::states_on_cycles(g, rows);
+    graph::reach_all(g.policy, m, rows);
     let states = g.policy.states as usize;
+    let mut left = graph::states_on_cycles(states, rows);
     for v in 0..states {
         if masks::has(left, v) {
             let s = graph::cycle_states(rows, v);
-            let x = graph::edges_between(g, m, s);
+            let x = graph::edges_between(states, &g.out, &g.into, m, s);
             if has_exactly(g, h, c, d, x) {
                 return false;
             }

@@ -40,7 +40,7 @@ second_none a b e = go (test (eqb a 0))
 
 pub wulfrenda-translated-bytes : (t : Call wulfrenda_translate_bytes) → (wulfrenda_translate_bytes_shows t.at).number ≡ 0 → Success (wulfrenda_translate_bytes_shows t.at)
 wulfrenda-translated-bytes t returned = record {
-  number_is = second_none (read_number_of (bytes_reading_of t.at.given.0.now).outcome) (translate_number_of (translation_of (wulfrenda_translate_bytes_shows t.at).policy (wulfrenda_translate_bytes_shows t.at).entry)) (sym t.learnt.0 ∙ returned);
+  number_is = second_none (read_number_of (bytes_reading_of t.at.given.0.now)) (translate_number_of (translation_of (wulfrenda_translate_bytes_shows t.at).policy (wulfrenda_translate_bytes_shows t.at).entry)) (sym t.learnt.0 ∙ returned);
   counts_are = t.learnt.1.0;
   tables_are = t.learnt.1.1.0;
 }

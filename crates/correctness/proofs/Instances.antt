@@ -7,13 +7,15 @@ use lib.Dec.{ltb}
 use lib.ListN.{length, get_or, take}
 use Rattle.lists.specs.Lists.{any, greatest, lowest}
 use Rattle.std.specs.Borrow.{Bor, MutBor}
+use Rattle.std.specs.Prelude.{Result}
 use Rattle.masks.specs.Masks.{has, insert, inside, properly, members, submasks, set_of}
 use Rattle.tables.specs.Tables.{padded, zeros, places}
 use Rattle.policy.specs.declared.Policy.{Policy}
 use Rattle.policy.specs.Policies.{edges, edge_of, source, target_of, colour_of, is_quiet, edge_colours, colours_of, in_family, accepting, counts_fit, legal_counts, legal_edge, legal_edges, uncoloured, legal_quiet, legal_set, legal_family, legal_graph, legal, full}
 use Rattle.policy.specs.Making.{counted, zero_policy, with_edge, with_set, with_tables}
-use Rattle.reading.specs.Reading.{operand_count, command_at, is_shape, is_end, operands_there, in_place, within_limits, first_time, all_given, complete_at_end, empty_draft, draft_after, next_offset, stop_most, stop_from, stop_of, number_at, answer_at, reading_of as bytes_reading_of, refusal_of as read_refusal_of, offset_of, number_of as read_number_of}
-use Rattle.reading.specs.declared.Answer.{Answer}
+use Rattle.reading.specs.Reading.{operand_count, command_at, is_shape, is_end, operands_there, in_place, within_limits, first_time, all_given, complete_at_end, empty_draft, draft_after, next_offset, stop_most, stop_from, stop_of, number_at, answer_at, reading_of as bytes_reading_of, refusal_of as read_refusal_of, offset_of, policy_read, number_of as read_number_of}
+use Rattle.reading.specs.declared.Found.{Found}
+use Rattle.reading.specs.declared.Refused.{Refused}
 use Rattle.graph.specs.Cycles.{spread, closure, reach, is_cycle, contains, cycles_in}
 use Rattle.forest.specs.Forest.{before, place, in_order, largest, roots, opposed, children, trees, tree, forest, greatest_level, from_zero, root_priority, priority, transient_priority, node, up_from, chain, child_of, in_root, node_masks, node_parents, node_priorities_of, forest_fits}
 use Rattle.automaton.specs.Automaton.{next, holds, kids, is_leaf, leaves, first_leaf, states_over, built_states, deepest, lead, entered, first_leaf_below, leaf_after, priority_after, built, state_at, number, start, row_target, row_priority, row_targets, row_priorities, state_sources, state_leaves, built_fit}
@@ -89,15 +91,15 @@ wulfrenda-translate-bytes-call : List ℕ → Tables → Call wulfrenda_translat
 unfolding place_of mut_of slices
 wulfrenda-translate-bytes-call bytes t =
     let a = bytes_reading_of bytes in
-    let q = translation_of a.policy t in
+    let q = translation_of (policy_read a) t in
     record {
       at = record {
         lifetimes = ([], ([], ([], ([], ([], ([], ([], ([], ([], ([], tt))))))))));
         given = (place_of bytes, slices t (mut_of (0 ∷ 0 ∷ 0 ∷ []), (mut_of 0, tt)));
-        answer = first_of (read_number_of a.outcome) (translate_number_of q);
-        left = (place_of bytes, slices (tables_after a.policy t) (mut_of (counts_of q), (mut_of (offset_after (read_number_of a.outcome) (translate_number_of q) (offset_of a.outcome)), tt)));
+        answer = first_of (read_number_of a) (translate_number_of q);
+        left = (place_of bytes, slices (tables_after (policy_read a) t) (mut_of (counts_of q), (mut_of (offset_after (read_number_of a) (translate_number_of q) (offset_of a)), tt)));
       };
-      learnt = (refl, (refl, (hold-same (tables_after a.policy t), refl)));
+      learnt = (refl, (refl, (hold-same (tables_after (policy_read a) t), refl)));
     }
 
 -- ---- calls of running
@@ -228,18 +230,18 @@ unfolding place_of mut_of slices wulfrenda-translate-bytes-call first_of
 library-from-bytes =
     let t = wulfrenda-translate-bytes-call bytes_of_b room in
     let shown = wulfrenda_translate_bytes_shows t.at in
-    let number : Answer → ℕ = λ (a : Answer). first_of (read_number_of a.outcome) (translate_number_of (translation_of a.policy room)) in
+    let number : Result Found Refused → ℕ = λ (a : Result Found Refused). first_of (read_number_of a) (translate_number_of (translation_of (policy_read a) room)) in
     let returned : shown.number ≡ 0 = ap number bytes-give ∙ ap translate_number_of cases-hold.0 in
     let done = wulfrenda-translated-bytes t returned in
     let begins = (success-start shown done).0 in
-    let is-B = ap (λ (a : Answer). a.policy) bytes-give in
+    let is-B = ap policy_read bytes-give in
     record {
       call = t;
       policy_is = is-B;
       succeeded = returned;
       calls = runs shown done stem loop (get_or shown.counts 2 0) begins;
       run = runs-run shown done stem loop (get_or shown.counts 2 0) begins;
-      letter = ap (λ (a : Answer). any (λ x. ltb x a.policy.letters) loop) bytes-give;
+      letter = ap (λ (a : Result Found Refused). any (λ x. ltb x (policy_read a).letters) loop) bytes-give;
     }
 
 pub instances : Instances

@@ -7,7 +7,7 @@ use denote.Triple.Clauses.{AtExit}
 use borrow.Fn.Claims.{AllOf}
 use borrow.Fn.Kinds.{ParamKind, ResultKind, Dens, res_t, ended_of, In, Out}
 use Rattle.policy.specs.declared.Policy.{Policy}
-use Rattle.reading.specs.Reading.{reading_of as bytes_reading_of, offset_of, number_of as read_number_of}
+use Rattle.reading.specs.Reading.{reading_of as bytes_reading_of, offset_of, policy_read, number_of as read_number_of}
 use Rattle.builder.specs.Tables.{Tables, tables, Hold, counts_of, translation_of, tables_after, Translates, number_of as translate_number_of}
 use Rattle.running.specs.Running.{reading_of, run_after, priority_of, ReadsLetter, number_of as run_number_of}
 use Rattle.records.specs.Records.{policy_of}
@@ -114,7 +114,7 @@ wulfrenda_translate_shows x = record {
 
 abbrev pub wulfrenda_translate_bytes_shows : Places wulfrenda_translate_bytes → Translating
 wulfrenda_translate_bytes_shows x = record {
-  policy = (bytes_reading_of x.given.0.now).policy;
+  policy = policy_read (bytes_reading_of x.given.0.now);
   entry = seven x.given.1;
   number = x.answer;
   counts = x.left.1.1.1.1.1.1.1.1.0.now;
@@ -180,7 +180,7 @@ wulfrenda_translate_says x =
 abbrev pub wulfrenda_translate_bytes_says : Places wulfrenda_translate_bytes → List (Type 0)
 wulfrenda_translate_bytes_says x =
     let t = wulfrenda_translate_bytes_shows x in
-    let read = (bytes_reading_of x.given.0.now).outcome in
+    let read = bytes_reading_of x.given.0.now in
     let q = translation_of t.policy t.entry in
     (t.number ≡ first_of (read_number_of read) (translate_number_of q)) ∷ (t.counts ≡ counts_of q) ∷ TablesHold t ∷ (x.left.1.1.1.1.1.1.1.1.1.0.now ≡ offset_after (read_number_of read) (translate_number_of q) (offset_of read)) ∷ []
 

@@ -1,10 +1,9 @@
 -- Premises that are met: policy B of document 01 from its own bytes, a translation of B that succeeded with places to spare, each refusal of translating, and calls of which demand 3 speaks.
-use Rattle.std.specs.Prelude.{ℕ, ◌≡◌, true, List, [], ◌∷◌, ltb, replicate, Result}
+use Rattle.std.specs.Prelude.{ℕ, ◌≡◌, true, List, [], ◌∷◌, ltb, replicate, Result, Ok}
 use Rattle.lists.specs.Lists.{any}
 use Rattle.policy.specs.declared.Policy.{Policy}
 use Rattle.policy.specs.Making.{zero_policy}
 use Rattle.reading.specs.Reading.{reading_of}
-use Rattle.reading.specs.declared.Outcome.TheVariants.{Read}
 use Rattle.builder.specs.Tables.{Tables, tables, translated, refused, translation_of, tables_after}
 use Rattle.refusals.specs.declared.Refusal.{Refusal}
 use Rattle.builder.specs.declared.Counts.{Counts}
@@ -19,7 +18,7 @@ bytes_of_b =
 
 -- all 30 bytes are read, and give B
 abbrev pub BytesGiveB : Type 0
-BytesGiveB = reading_of bytes_of_b ≡ record { outcome = Read 30; policy = B }
+BytesGiveB = reading_of bytes_of_b ≡ Ok (record { policy = B; end = 30 })
 
 -- ---- translating
 -- tables for so many nodes, states and rows, with one number in every place

@@ -72,6 +72,7 @@ fn number_from_zero(
     let mut most: u8 = 0;
     let mut first: usize = 0;
     let mut root: u8 = 1;
+    // By index: a node reads its parent's entry.
     for n in 0..count {
         let parent = parents[n];
         let mut priority: u8 = 0;
@@ -108,6 +109,7 @@ fn raise(p: &Policy, parents: &[u16], node_priorities: &mut [u8], count: usize)
     ensures { node_priorities.new ≡ padded (length node_priorities.old) (node_priorities_of p.now) }
 {
     let mut more: u8 = 0;
+    // By index: two tables, side by side.
     for n in 0..count {
         let priority = node_priorities[n];
         if parents[n] == 65535 {

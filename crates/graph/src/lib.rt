@@ -98,11 +98,10 @@ fn join_rows(rows: &mut [u16; 16], k: usize)
 }
 
 // The rows of m, whatever they held before. Nothing is said of rows past the states.
-pub fn reach_all(g: &Graph<'_>, m: u64, rows: &mut [u16; 16])
-    requires { length rows.old ≡ 16 }
-    ensures { Rows g.now.policy.now m rows.new × (length rows.new ≡ 16) }
+pub fn reach_all(p: &Policy, m: u64, rows: &mut [u16; 16])
+    requires { (legal p.now ≡ true) × (length rows.old ≡ 16) }
+    ensures { Rows p.now m rows.new × (length rows.new ≡ 16) }
 {
-    let p = g.policy;
     let states = p.states as usize;
     edge_rows(states, p.letters as usize, &p.target, m, rows);
     for k in 0..states {
@@ -113,10 +112,10 @@ pub fn reach_all(g: &Graph<'_>, m: u64, rows: &mut [u16; 16])
 // ---- the largest cycle through a state: the edges of m between the states on it
 
 // The states on cycles: those that are in their own rows.
-pub fn states_on_cycles(g: &Graph<'_>, rows: &[u16; 16]) -> u64
-    ensures { result ≡ states_on_cycles rows.now g.now.policy.now.states }
+pub fn states_on_cycles(states: usize, rows: &[u16; 16]) -> u64
+    requires { states ≤ 16 }
+    ensures { result ≡ states_on_cycles rows.now states }
 {
-    let states = g.policy.states as usize;
     let mut s: u64 = 0;
     for w in 0..states {
         s = masks::with_if(s, w, masks::has(rows[w] as u64, w));
@@ -139,15 +138,15 @@ pub fn cycle_states(rows: &[u16; 16], v: usize) -> u64
 
 // The edges of m between states of s, by the tables of the edges that leave and enter each state. The tables are read before
 // the test, so that there is no branch.
-pub fn edges_between(g: &Graph<'_>, m: u64, s: u64) -> u64
-    ensures { result ≡ between g.now.out g.now.into m s g.now.policy.now.states }
+pub fn edges_between(states: usize, out: &[u64; 16], into: &[u64; 16], m: u64, s: u64) -> u64
+    requires { states ≤ 16 }
+    ensures { result ≡ between out.now into.now m s states }
 {
-    let states = g.policy.states as usize;
     let mut a: u64 = 0;
     let mut b: u64 = 0;
     for v in 0..states {
-        let x = g.out[v];
-        let y = g.into[v];
+        let x = out[v];
+        let y = into[v];
         if masks::has(s, v) {
             a = masks::either(a, x);
             b = masks::either(b, y);
@@ -157,17 +156,17 @@ pub fn edges_between(g: &Graph<'_>, m: u64, s: u64) -> u64
 }
 
 // The same, through the members of s alone: faster where they are few.
-pub fn edges_among(g: &Graph<'_>, m: u64, s: u64) -> u64
-    requires { (v : ℕ) → has s v ≡ true → v < g.now.policy.now.states }
-    ensures { result ≡ between g.now.out g.now.into m s g.now.policy.now.states }
+pub fn edges_among(states: usize, out: &[u64; 16], into: &[u64; 16], m: u64, s: u64) -> u64
+    requires { (states ≤ 16) × ((v : ℕ) → has s v ≡ true → v < states) }
+    ensures { result ≡ between out.now into.now m s states }
 {
     let mut a: u64 = 0;
     let mut b: u64 = 0;
     let mut left = s;
     while left != 0 {
         let v = masks::lowest(left);
-        a = masks::either(a, g.out[v]);
-        b = masks::either(b, g.into[v]);
+        a = masks::either(a, out[v]);
+        b = masks::either(b, into[v]);
         left = masks::both(left, left - 1);
     }
     masks::both(masks::both(a, b), m)

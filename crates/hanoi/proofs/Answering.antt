@@ -9,12 +9,12 @@ use lib.Dec.{eqb, ltb, leb}
 use lib.ListN.{length, take}
 use Rattle.lists.specs.Lists.{all}
 use Rattle.lists.proofs.Bools.{test, both, ≡eqb}
-use Rattle.hanoi.specs.declared.Answer.{Answer}
+use Rattle.refusals.specs.declared.Refusal.TheVariants.{NotHanoi}
 use Rattle.hanoi.specs.Texts.{white, Token, quotable, sticks, Spaced, apart, none, written}
 use Rattle.hanoi.specs.Documents.{Formula, Edge, plain, Document, formed, different, letters, lawful_row, lawful, Says, Begins, Longest}
 use Rattle.hanoi.specs.Offers.{no_number, below, ends, numbered, Goes, Spot, between, in_word, digits, in_name, dead, step_byte, run}
 use Rattle.hanoi.specs.Reader.{Head, At, hoa, v1, states_word, states_number, start_word, start_number, ap_word, ap_number, naming, sets_number, operand, opening, mark, closing, after, body, state_number, edges, target, braces, finished, row_over, edge_next, names_next, offers, first, is_dead, alive_for}
-use Rattle.hanoi.specs.Answers.{refused, Answers}
+use Rattle.hanoi.specs.Answers.{Answer, refused, Answers}
 use Rattle.hanoi.specs.Reading.{answer_in, answer_at, hanoi_of}
 use Rattle.hanoi.proofs.Digits.{lt_yes, le_yes}
 use Rattle.hanoi.proofs.Forth.{run-append, dead-stays, Lands, free, barred, counted, forth}
@@ -254,6 +254,6 @@ answer-none x dead h = refl
 pub answers : (text : List ℕ) → Answers text (hanoi_of text)
 unfolding hanoi_of
 answers text = record {
-  said = λ d s. ap (answer_at (refused 18 (alive_for text first))) (taken text d s).1;
-  unsaid = λ n. (alive_for text first, longest text, answer-none (refused 18 (alive_for text first)) (run offers first text) (λ bar d e. n d (said-back text bar d e)));
+  said = λ d s. ap (answer_at (refused NotHanoi (alive_for text first))) (taken text d s).1;
+  unsaid = λ n. (alive_for text first, longest text, answer-none (refused NotHanoi (alive_for text first)) (run offers first text) (λ bar d e. n d (said-back text bar d e)));
 }

@@ -1,7 +1,7 @@
 -- The answer for a text as it is computed: by the reader of specs/Reader. `answers` (proofs/Answering) says what it means.
 use Rattle.std.specs.Prelude.{ℕ, List}
-use Rattle.hanoi.specs.declared.Answer.{Answer}
-use Rattle.hanoi.specs.Answers.{answer_of, refused}
+use Rattle.refusals.specs.declared.Refusal.TheVariants.{NotHanoi}
+use Rattle.hanoi.specs.Answers.{Answer, answer_of, refused}
 use Rattle.hanoi.specs.Offers.{Spot, between, in_word, digits, in_name, dead, run}
 use Rattle.hanoi.specs.Reader.{At, hoa, v1, states_word, states_number, start_word, start_number, ap_word, ap_number, naming, sets_number, operand, opening, mark, closing, after, body, state_number, edges, target, braces, finished, offers, first, alive_for}
 
@@ -37,4 +37,4 @@ answer_at x (in_name s q b) = x
 answer_at x dead = x
 
 unfoldable pub hanoi_of : List ℕ → Answer
-hanoi_of text = answer_at (refused 18 (alive_for text first)) (run offers first text)
+hanoi_of text = answer_at (refused NotHanoi (alive_for text first)) (run offers first text)

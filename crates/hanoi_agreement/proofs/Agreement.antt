@@ -30,7 +30,6 @@ use Rattle.running.proofs.Steps.{policy-moves, policy-stays, policy-within}
 use Rattle.judging.specs.Judging.{recurring_colours}
 use Rattle.judging.proofs.Meaning.{recurring-colours}
 use Rattle.mark_sets.specs.MarkSets.{union_at}
-use Rattle.hanoi.specs.declared.Outcome.TheVariants.{Read}
 use Rattle.hanoi.specs.Documents.{Document, marks_of, letters, lawful}
 use Rattle.hanoi.specs.Meaning.{holds, mark_set, edges_of, mark_sets, colour_of as edge_colour, policy_of, edge_at, meets}
 use Rattle.hanoi.specs.Answers.{answer_of}
@@ -40,7 +39,7 @@ use Rattle.hanoi_agreement.specs.Agreement.{text_state, marks_met, Agreement}
 use Rattle.mark_sets.proofs.Unions.{union-has}
 use Rattle.hanoi.proofs.Documents.{colour-lt, colour-has, edges-long, edge_in}
 use Rattle.hanoi_agreement.proofs.PolicyOf.{letters_are, no-quiet, colour-at, step_same, family-at, named-is}
-use Rattle.hanoi_agreement.proofs.Legal.{read-parts, read-legal}
+use Rattle.hanoi_agreement.proofs.Legal.{is_read, read-parts, read-legal}
 use Rattle.hanoi_agreement.proofs.Recurring.{recurs-with}
 
 -- ---- one letter
@@ -123,7 +122,7 @@ module _ (d : Document) (ok : lawful d ≡ true) where
       go (inr f) ih = let c = ih (rw f at e) in (c.0, Memᴰ.append_right (policy_meets p v a) c.1)
 
   -- ---- a stem and a loop, from v
-  module _ (read : (answer_of d).outcome ≡ Read) (v : ℕ) (h : v < d.states) (stem loop : List ℕ) where
+  module _ (read : is_read (answer_of d) ≡ true) (v : ℕ) (h : v < d.states) (stem loop : List ℕ) where
     p-legal : legal p ≡ true
     p-legal = read-legal d ok read
 
@@ -215,5 +214,5 @@ module _ (d : Document) (ok : lawful d ≡ true) where
     pub agreement : Agreement d p v stem loop
     agreement = record { same_state = same_state; decided = λ some. record { marks = marks; marks_recur = marks_recur; colours = colours; colours_recur = colours_recur; verdict = verdict some } }
 
-pub agrees : (d : Document) → lawful d ≡ true → (answer_of d).outcome ≡ Read → (v : ℕ) → v < d.states → (stem loop : List ℕ) → Agreement d (policy_of d) v stem loop
+pub agrees : (d : Document) → lawful d ≡ true → is_read (answer_of d) ≡ true → (v : ℕ) → v < d.states → (stem loop : List ℕ) → Agreement d (policy_of d) v stem loop
 agrees d ok read v h stem loop = agreement d ok read v h stem loop

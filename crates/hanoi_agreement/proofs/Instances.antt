@@ -2,6 +2,7 @@
 use mathlib.Core.Path.{◌≡◌, refl, sym, ap, ◌∙◌}
 use Prim.Native.Nat.{ℕ}
 use mathlib.Core.Bool.{true, false, cond}
+use Rattle.std.specs.Prelude.{Ok}
 use mathlib.Core.List.{List, []}
 use lib.Dec.{ltb}
 use lib.ListN.{replicate}
@@ -10,14 +11,12 @@ use Rattle.lists.specs.Questions.{ask}
 use Rattle.records.specs.Records.{is_record, policy_of, record_of}
 use Rattle.masks.specs.Masks.{has, insert, set_of}
 use Rattle.mark_sets.specs.MarkSets.{firsts, colour_in, union_at}
-use Rattle.hanoi.specs.declared.Answer.{Answer}
-use Rattle.hanoi.specs.declared.Outcome.TheVariants.{Read}
 use Rattle.hanoi.specs.Texts.{white, goes_on, decimal_in, decimal}
 use Rattle.hanoi.specs.Documents.{letters, Says}
 use Rattle.hanoi.specs.Meaning.{holds, mark_set, edges_of, mark_sets, colour_of, named, policy_of as policy_of_text}
 use Rattle.hanoi.specs.Offers.{takes, ends, takes_name, is_new, numbered, named as name_read, word_on, begin_word, begin, byte_at, between, step_byte, run}
 use Rattle.hanoi.specs.Reader.{finished, plug, whole, and_then, marking, document_of, row_over, edge_next, row_next, marks_next, close, names_next, offers, first}
-use Rattle.hanoi.specs.Answers.{answer_of, number_of, shared_of}
+use Rattle.hanoi.specs.Answers.{Answer, answer_of, number_of, shared_of, policy_read}
 use Rattle.hanoi.specs.Reading.{hanoi_of}
 use Rattle.hanoi.proofs.Answering.{said-back, answers}
 use Rattle.correctness.specs.Calls.{Call, translate, translate_shows, read, read_shows, wulfrenda_translate, wulfrenda_translate_shows, wulfrenda_run, wulfrenda_run_shows}
@@ -35,11 +34,11 @@ taken = refl
 said : Says text document
 said = said-back text false document taken
 
-document-read : answer_of document ≡ record { outcome = Read; policy = B }
+document-read : answer_of document ≡ Ok B
 unfolding has insert set_of firsts colour_in union_at letters holds mark_set edges_of mark_sets colour_of named policy_of_text answer_of
 document-read = refl
 
-read_is : hanoi_of text ≡ record { outcome = Read; policy = B }
+read_is : hanoi_of text ≡ Ok B
 read_is = (answers text).said document said ∙ document-read
 
 -- ---- a call of reading for every text
@@ -55,8 +54,8 @@ wulfrenda-read-hanoi-call t place =
       at = record {
         lifetimes = ([], ([], ([], tt)));
         given = (place_of t, (mut_of place, (mut_of 0, tt)));
-        answer = ask (is_record place) 7 (number_of a.outcome);
-        left = (place_of t, (mut_of (cond (is_record place) (record_of a.policy) place), (mut_of (cond (is_record place) (shared_of a.outcome) 0), tt)));
+        answer = ask (is_record place) 7 (number_of a);
+        left = (place_of t, (mut_of (cond (is_record place) (record_of (policy_read a)) place), (mut_of (cond (is_record place) (shared_of a) 0), tt)));
       };
       learnt = (refl, (refl, (refl, answers t)));
     }
@@ -73,9 +72,9 @@ core =
     record {
       reading = read-text-call text;
       text_is = refl;
-      read = ap (λ (a : Answer). number_of a.outcome) read_is;
+      read = ap number_of read_is;
       call = m.call;
-      policy_is = m.policy_is ∙ sym (ap (λ (a : Answer). a.policy) read_is);
+      policy_is = m.policy_is ∙ sym (ap policy_read read_is);
       succeeded = m.succeeded;
       calls = m.calls;
       run = m.run;
@@ -89,9 +88,9 @@ library =
     record {
       reading = wulfrenda-read-hanoi-call text (replicate 452 0);
       text_is = refl;
-      read = ap (λ (a : Answer). number_of a.outcome) read_is;
+      read = ap number_of read_is;
       call = m.call;
-      policy_is = m.policy_is ∙ sym (ap (λ (a : Answer). policy_of (record_of a.policy)) read_is ∙ policy-back);
+      policy_is = m.policy_is ∙ sym (ap (λ (a : Answer). policy_of (record_of (policy_read a))) read_is ∙ policy-back);
       succeeded = m.succeeded;
       calls = m.calls;
       run = m.run;

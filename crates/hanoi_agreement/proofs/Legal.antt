@@ -4,6 +4,7 @@ use native.Mathlib.Omega.{arith}
 use mathlib.Core.Path.{◌≡◌, refl, sym, ap, ◌∙◌, subst}
 use mathlib.Core.Logic.{◌⊎◌, inl, inr}
 use mathlib.Core.Bool.{Bool, true, false, ◌&&◌, false≢true}
+use Rattle.std.specs.Prelude.{Ok, Err}
 use lib.Dec.{eqb, ltb, leb}
 use lib.ListN.{length}
 use borrow.Author.Tests.{lt-ltb, le-leb}
@@ -15,28 +16,25 @@ use Rattle.policy.specs.Policies.{edges, target_of, colour_of, in_family, counts
 use Rattle.policy.proofs.Laws.{parts-legal}
 use Rattle.policy.proofs.LegalTests.{legal-quiet-none}
 use Rattle.mark_sets.specs.MarkSets.{union_at}
-use Rattle.hanoi.specs.declared.Answer.{Answer}
-use Rattle.hanoi.specs.declared.Outcome.{Outcome}
-use Rattle.hanoi.specs.declared.Outcome.TheVariants.{Read, Refused}
 use Rattle.hanoi.specs.Documents.{plain, Document, letters, lawful}
 use Rattle.hanoi.specs.Meaning.{holds, edges_of, mark_sets, named, policy_of}
-use Rattle.hanoi.specs.Answers.{answer_of}
+use Rattle.hanoi.specs.Answers.{Answer, answer_of, policy_read}
 use Rattle.hanoi.proofs.Documents.{colour-lt, start-lt, letters_some, letters_few, edges-long, edge-target, colours_some}
 use Rattle.hanoi_agreement.proofs.PolicyOf.{edge, target-at, colour-at, past-target, past-colour, no-quiet, family-at}
 
 -- ---- the answer
-abbrev pub is_read : Outcome → Bool
-is_read Read = true
-is_read (Refused n k) = false
+abbrev pub is_read : Answer → Bool
+is_read (Ok p) = true
+is_read (Err e) = false
 
 pub record IsRead (d : Document) : Type 0 where
   pub states_few : d.states ≤ 16
   pub edges_few : d.states * letters d ≤ 64
   pub colours_few : length (mark_sets d) ≤ 8
-  pub answer_is : answer_of d ≡ record { outcome = Read; policy = policy_of d }
+  pub answer_is : answer_of d ≡ Ok (policy_of d)
 
--- where the outcome is that it was read, both tests were passed, and the policy is the document's
-pub read-parts : (d : Document) → (answer_of d).outcome ≡ Read → IsRead d
+-- where it was read, both tests were passed, and the policy is the document's
+pub read-parts : (d : Document) → is_read (answer_of d) ≡ true → IsRead d
 unfolding answer_of
 read-parts d h = go (test small) (test few)
   where
@@ -46,9 +44,6 @@ read-parts d h = go (test small) (test few)
     few : Bool
     few = leb (length (mark_sets d)) 8
 
-    read : Answer
-    read = record { outcome = Read; policy = policy_of d }
-
     go : (small ≡ true) ⊎ (small ≡ false) → (few ≡ true) ⊎ (few ≡ false) → IsRead d
     go (inl a) (inl b) = record {
       states_few = le-true d.states 16 (and_l (leb d.states 16) (leb (d.states * letters d) 64) a);
@@ -56,11 +51,11 @@ read-parts d h = go (test small) (test few)
       colours_few = le-true (length (mark_sets d)) 8 b;
       answer_is = rw (a, b) refl;
     }
-    go (inl a) (inr b) = absurd (false≢true (ap is_read (rw (a, b) at h)))
-    go (inr a) b = absurd (false≢true (ap is_read (rw a at h)))
+    go (inl a) (inr b) = absurd (false≢true (rw (a, b) at h))
+    go (inr a) b = absurd (false≢true (rw a at h))
 
-pub read-policy : (d : Document) → (answer_of d).outcome ≡ Read → (answer_of d).policy ≡ policy_of d
-read-policy d h = ap (λ (a : Answer). a.policy) (read-parts d h).answer_is
+pub read-policy : (d : Document) → is_read (answer_of d) ≡ true → policy_read (answer_of d) ≡ policy_of d
+read-policy d h = ap policy_read (read-parts d h).answer_is
 
 -- ---- it is legal
 module _ (d : Document) (ok : lawful d ≡ true) (r : IsRead d) where
@@ -112,5 +107,5 @@ module _ (d : Document) (ok : lawful d ≡ true) (r : IsRead d) where
       (sym (legal-quiet-none p (no-quiet d)))
       (each_all (legal_set p) (below 256) (λ s m. set-legal s (below-lt 256 s m) (test (in_family p s))))
 
-pub read-legal : (d : Document) → lawful d ≡ true → (answer_of d).outcome ≡ Read → legal (policy_of d) ≡ true
+pub read-legal : (d : Document) → lawful d ≡ true → is_read (answer_of d) ≡ true → legal (policy_of d) ≡ true
 read-legal d ok h = policy-legal d ok (read-parts d h)

@@ -10,15 +10,15 @@ use lib.ListN.{length, replicate, length-append, length-map, length-replicate}
 use Rattle.lists.specs.Questions.{ask}
 use Rattle.lists.proofs.Bools.{test}
 use Rattle.lists.proofs.Lists.{length-map-below}
+use Rattle.std.specs.Prelude.{Ok}
+use Rattle.refusals.specs.declared.Refusal.TheVariants.{OutOfRange, NotHanoi, TooManyMarkSets}
 use Rattle.policy.specs.declared.Policy.{Policy}
 use Rattle.policy.specs.Policies.{legal}
-use Rattle.hanoi.specs.declared.Answer.{Answer}
-use Rattle.hanoi.specs.declared.Outcome.TheVariants.{Read}
 use Rattle.hanoi.specs.Documents.{Document, letters, lawful, target_of, Says}
 use Rattle.hanoi.specs.Meaning.{filled, edges_of, mark_sets, colour_of, named, policy_of as policy_of_text}
 use Rattle.hanoi.specs.Offers.{Spot, between, in_word, digits, in_name, dead, run}
 use Rattle.hanoi.specs.Reader.{At, hoa, v1, states_word, states_number, start_word, start_number, ap_word, ap_number, naming, sets_number, operand, opening, mark, closing, after, body, state_number, edges, target, braces, finished, offers, first}
-use Rattle.hanoi.specs.Answers.{answer_of, refused, number_of, shared_of, Answers}
+use Rattle.hanoi.specs.Answers.{Answer, answer_of, refused, number_of, shared_of, policy_read, Answers}
 use Rattle.hanoi.specs.Reading.{answer_in, answer_at, hanoi_of}
 use Rattle.hanoi.proofs.Documents.{edges-long}
 use Rattle.hanoi.proofs.Answering.{taken, said-back}
@@ -28,7 +28,7 @@ use Rattle.correctness.specs.Calls.{Call}
 use Rattle.hanoi_agreement.specs.TextCalls.{read_text, read_text_shows, wulfrenda_read_hanoi, wulfrenda_read_hanoi_shows}
 use Rattle.hanoi_agreement.specs.Agreement.{Agreement, TextAgrees, TextsAgree}
 use Rattle.hanoi_agreement.proofs.PolicyOf.{states_are, letters_are}
-use Rattle.hanoi_agreement.proofs.Legal.{IsRead, read-parts, read-policy, read-legal}
+use Rattle.hanoi_agreement.proofs.Legal.{is_read, IsRead, read-parts, read-policy, read-legal}
 use Rattle.hanoi_agreement.proofs.Agreement.{agrees}
 
 -- ---- where the reader ends: with a document, or with none, and then a default stands
@@ -77,16 +77,16 @@ says-one text x y s u = let a = taken text x s in let b = taken text y u in same
 pub record ReadAs (text : List ℕ) (p : Policy) : Type 0 where
   pub answer : Answer
   pub means : Answers text answer
-  pub number_is : number_of answer.outcome ≡ 0
-  pub policy_is : p ≡ answer.policy
+  pub number_is : number_of answer ≡ 0
+  pub policy_is : p ≡ policy_read answer
 
 -- a document's number is 0 only where it is read
-zero-read : (d : Document) → number_of (answer_of d).outcome ≡ 0 → (answer_of d).outcome ≡ Read
+zero-read : (d : Document) → number_of (answer_of d) ≡ 0 → is_read (answer_of d) ≡ true
 unfolding answer_of
 zero-read d h = go (leb d.states 16 && leb (d.states * letters d) 64) (leb (length (mark_sets d)) 8) h
   where
-    go : (a b : Bool) → number_of (cond a (cond b (record { outcome = Read; policy = policy_of_text d }) (refused 19 0)) (refused 4 0)).outcome ≡ 0
-        → (cond a (cond b (record { outcome = Read; policy = policy_of_text d }) (refused 19 0)) (refused 4 0)).outcome ≡ Read
+    go : (a b : Bool) → number_of (cond a (cond b (Ok (policy_of_text d)) (refused TooManyMarkSets 0)) (refused OutOfRange 0)) ≡ 0
+        → is_read (cond a (cond b (Ok (policy_of_text d)) (refused TooManyMarkSets 0)) (refused OutOfRange 0)) ≡ true
     go true true h = refl
     go true false h = absurd (omega (arith, h))
     go false b h = absurd (omega (arith, h))
@@ -115,14 +115,14 @@ module _ (text : List ℕ) (p : Policy) (r : ReadAs text p) where
       none : ((x : Answer) → answer_at x (run offers first text) ≡ x) → (d : Document) → Says text d → ⊥
       none h d s =
           let e : (x : Answer) → x ≡ answer_of d = λ x. sym (h x) ∙ ap (answer_at x) (taken text d s).1 in
-          let z : ◌≡◌ {A = ℕ} 0 1 = ap (λ (x : Answer). shared_of x.outcome) (e (refused 18 0) ∙ sym (e (refused 18 1))) in
+          let z : ◌≡◌ {A = ℕ} 0 1 = ap shared_of (e (refused NotHanoi 0) ∙ sym (e (refused NotHanoi 1))) in
           omega (arith, z)
 
       go : ((b : Bool) × (d : Document) × (run offers first text ≡ between b (finished d))) ⊎ ((x : Answer) → answer_at x (run offers first text) ≡ x) → (d : Document) × Says text d
       go (inl e) = (e.1, said-back text e.0 e.1 e.2)
       go (inr h) =
           let q = r.means.unsaid (none h) in
-          let z : ◌≡◌ {A = ℕ} 0 18 = sym r.number_is ∙ ap (λ (x : Answer). number_of x.outcome) q.2 in
+          let z : ◌≡◌ {A = ℕ} 0 18 = sym r.number_is ∙ ap number_of q.2 in
           absurd (omega (arith, z))
 
   text-agrees : TextAgrees text p
@@ -130,8 +130,8 @@ module _ (text : List ℕ) (p : Policy) (r : ReadAs text p) where
       let d = said.0 in
       let s = said.1 in
       let is : r.answer ≡ answer_of d = r.means.said d s in
-      let read = zero-read d (ap (λ (x : Answer). number_of x.outcome) (sym is) ∙ r.number_is) in
-      let policy : p ≡ policy_of_text d = r.policy_is ∙ (ap (λ (x : Answer). x.policy) is ∙ read-policy d read) in
+      let read = zero-read d (ap number_of (sym is) ∙ r.number_is) in
+      let policy : p ≡ policy_of_text d = r.policy_is ∙ (ap policy_read is ∙ read-policy d read) in
       record {
         document = d;
         says = s;
@@ -148,8 +148,8 @@ module _ (text : List ℕ) (p : Policy) (r : ReadAs text p) where
       let d = said.0 in
       let s = said.1 in
       let is : r.answer ≡ answer_of d = r.means.said d s in
-      let read = zero-read d (ap (λ (x : Answer). number_of x.outcome) (sym is) ∙ r.number_is) in
-      subst Sized (sym (r.policy_is ∙ (ap (λ (x : Answer). x.policy) is ∙ read-policy d read))) (policy-sized d s.lawful_is (read-parts d read))
+      let read = zero-read d (ap number_of (sym is) ∙ r.number_is) in
+      subst Sized (sym (r.policy_is ∙ (ap policy_read is ∙ read-policy d read))) (policy-sized d s.lawful_is (read-parts d read))
 
 -- ---- of the calls
 asked : (b : Bool) (n : ℕ) → ask b 7 n ≡ 0 → (b ≡ true) ⊎ (b ≡ false) → (b ≡ true) × (n ≡ 0)
@@ -164,14 +164,14 @@ library-read r e =
     let text = r.at.given.0.now in
     let place = r.at.given.1.0.now in
     let a = hanoi_of text in
-    let go : (is_record place ≡ true) ⊎ (is_record place ≡ false) → (is_record place ≡ true) × (number_of a.outcome ≡ 0) = asked (is_record place) (number_of a.outcome) (sym r.learnt.0 ∙ e) in
+    let go : (is_record place ≡ true) ⊎ (is_record place ≡ false) → (is_record place ≡ true) × (number_of a ≡ 0) = asked (is_record place) (number_of a) (sym r.learnt.0 ∙ e) in
     let there = go (test (is_record place)) in
-    let b : ReadAs text a.policy = record { answer = a; means = r.learnt.1.1.1; number_is = there.1; policy_is = refl } in
+    let b : ReadAs text (policy_read a) = record { answer = a; means = r.learnt.1.1.1; number_is = there.1; policy_is = refl } in
     record {
       answer = a;
       means = r.learnt.1.1.1;
       number_is = there.1;
-      policy_is = ap policy_of (r.learnt.1.0 ∙ (rw there.0 refl)) ∙ policy-record a.policy (sized text a.policy b);
+      policy_is = ap policy_of (r.learnt.1.0 ∙ (rw there.0 refl)) ∙ policy-record (policy_read a) (sized text (policy_read a) b);
     }
 
 pub texts-agree : TextsAgree

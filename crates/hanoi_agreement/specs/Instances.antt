@@ -1,7 +1,6 @@
 -- Premises that are met: a text, the document that it says, that it is read and has the policy B of document 01, and calls of which demand 3 for a text speaks.
-use Rattle.std.specs.Prelude.{ℕ, ◌≡◌, true, List, [], ◌∷◌, ltb}
+use Rattle.std.specs.Prelude.{ℕ, ◌≡◌, true, List, [], ◌∷◌, ltb, Ok}
 use Rattle.lists.specs.Lists.{any}
-use Rattle.hanoi.specs.declared.Outcome.TheVariants.{Read}
 use Rattle.hanoi.specs.Texts.{ascii}
 use Rattle.hanoi.specs.Documents.{fin, either, marked, Document, letters, Says}
 use Rattle.hanoi.specs.Reading.{hanoi_of}
@@ -38,6 +37,6 @@ pub record PremisesMet (e : Function) (shown : Places e → ReadingText) (f : Fu
 
 pub record Instances : Type 0 where
   pub says : Says text document
-  pub read_is : hanoi_of text ≡ record { outcome = Read; policy = B }
+  pub read_is : hanoi_of text ≡ Ok B
   pub of_the_core : PremisesMet read_text read_text_shows translate translate_shows read read_shows
   pub of_the_library : PremisesMet wulfrenda_read_hanoi wulfrenda_read_hanoi_shows wulfrenda_translate wulfrenda_translate_shows wulfrenda_run wulfrenda_run_shows

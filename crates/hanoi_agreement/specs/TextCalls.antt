@@ -3,7 +3,7 @@ use Rattle.std.specs.Prelude.{ℕ, ◌≡◌, cond, List, [], ◌∷◌}
 use Rattle.lists.specs.Questions.{ask}
 use Rattle.policy.specs.declared.Policy.{Policy}
 use Rattle.records.specs.Records.{is_record, policy_of, record_of}
-use Rattle.hanoi.specs.Answers.{number_of, shared_of, Answers}
+use Rattle.hanoi.specs.Answers.{number_of, shared_of, policy_read, Answers}
 use Rattle.hanoi.specs.Reading.{hanoi_of}
 use Rattle.hanoi_reader.proofs.read.Kinds as read-text-kinds
 use Rattle.hanoi_reader.proofs.read.Reads as read-text-reads
@@ -30,7 +30,7 @@ pub record ReadingText : Type 0 where
   pub policy : Policy
 
 abbrev pub read_text_shows : Places read_text → ReadingText
-read_text_shows x = record { text = x.given.0.now; number = number_of x.answer.outcome; policy = x.answer.policy }
+read_text_shows x = record { text = x.given.0.now; number = number_of x.answer; policy = policy_read x.answer }
 
 abbrev pub wulfrenda_read_hanoi_shows : Places wulfrenda_read_hanoi → ReadingText
 wulfrenda_read_hanoi_shows x = record { text = x.given.0.now; number = x.answer; policy = policy_of x.left.1.0.now }
@@ -44,7 +44,7 @@ wulfrenda_read_hanoi_says x =
     let text = x.given.0.now in
     let place = x.given.1.0.now in
     let a = hanoi_of text in
-    (x.answer ≡ ask (is_record place) 7 (number_of a.outcome)) ∷ (x.left.1.0.now ≡ cond (is_record place) (record_of a.policy) place) ∷ (x.left.1.1.0.now ≡ cond (is_record place) (shared_of a.outcome) 0) ∷ Answers text a ∷ []
+    (x.answer ≡ ask (is_record place) 7 (number_of a)) ∷ (x.left.1.0.now ≡ cond (is_record place) (record_of (policy_read a)) place) ∷ (x.left.1.1.0.now ≡ cond (is_record place) (shared_of a) 0) ∷ Answers text a ∷ []
 
 -- that they say this, and no less and no more
 pub record TextContracts : Type 1 where

@@ -17,10 +17,10 @@ use Rattle.lists.proofs.Lists.{get_or-map-below}
 use Rattle.masks.specs.Masks.{has}
 use Rattle.masks.proofs.Bits.{has-full}
 use Rattle.mark_sets.specs.MarkSets.{union_at}
-use Rattle.hanoi.specs.declared.Answer.{Answer}
+use Rattle.refusals.specs.declared.Refusal.TheVariants.{NotHanoi}
 use Rattle.hanoi.specs.Documents.{Formula, Document, formed}
 use Rattle.hanoi.specs.Meaning.{holds}
-use Rattle.hanoi.specs.Answers.{refused, shared_of, answer_of}
+use Rattle.hanoi.specs.Answers.{Answer, refused, shared_of, answer_of}
 use Rattle.hanoi.specs.Offers.{Spot, between, run}
 use Rattle.hanoi.specs.Reader.{Head, fresh, At, operand, finished, offers}
 use Rattle.hanoi.specs.Reading.{answer_at}
@@ -36,8 +36,8 @@ use Rattle.hanoi_family.specs.Family.{named_below, IsWord, IsFamily}
 -- ---- a text that comes to a document does not stop
 pub never-stops : (text : List ℕ) (m n : ℕ) (p : Spot At) (bar : Bool) (d : Document) → run offers p (drop m text) ≡ between bar (finished d) → Stops text m p n → ⊥
 never-stops text m n p bar d e s =
-    let x : (k : ℕ) → answer_of d ≡ refused 18 k = λ k. sym (ap (answer_at (refused 18 k)) e) ∙ s.unanswered (refused 18 k) in
-    let y : ◌≡◌ {A = ℕ} 0 1 = ap (λ (a : Answer). shared_of a.outcome) (sym (x 0) ∙ x 1) in
+    let x : (k : ℕ) → answer_of d ≡ refused NotHanoi k = λ k. sym (ap (answer_at (refused NotHanoi k)) e) ∙ s.unanswered (refused NotHanoi k) in
+    let y : ◌≡◌ {A = ℕ} 0 1 = ap (λ (a : Answer). shared_of a) (sym (x 0) ∙ x 1) in
     absurd (omega (arith, y))
 
 -- ---- the formula's value

@@ -5,7 +5,6 @@
 ghost use Rattle.std.specs.Prelude.{◌≡◌, ◌≤◌, ◌<◌, length};
 ghost use Rattle.hanoi_formula.specs.Formula.{mark_lanes, ReadsMark, ReadsMarked, ReadsOperand, ReadsSign, ReadsFormula};
 
-use hanoi_lanes::Lanes;
 use hanoi_tokens::{Stop, Wanted};
 
 // A mark in its parentheses, read up to a place.
@@ -136,7 +135,8 @@ pub fn read_formula(
     requires { (at ≤ length text.now) × (sets ≤ 32) }
     ensures { ReadsFormula text.now at sets all lanes.now result }
 {
-    let mut told = Lanes::start(all);
+    let mut t = hanoi_lanes::start(all);
+    let mut planes = [0; 64];
     let mut depth: usize = 0;
     let mut operand_next = true;
     let mut bar = false;
@@ -145,12 +145,12 @@ pub fn read_formula(
         if operand_next {
             match read_operand(text, i, sets, all, lanes)? {
                 Operand::Opens(n) => {
-                    told.tell_opens();
+                    hanoi_lanes::tell_opens(t, all, &mut planes);
                     depth += 1;
                     i = n;
                 }
                 Operand::Value(n, value, bars) => {
-                    told.tell_operand(value);
+                    t = hanoi_lanes::tell_operand(t, value);
                     operand_next = false;
                     bar = bars;
                     i = n;
@@ -159,17 +159,17 @@ pub fn read_formula(
         } else {
             match read_sign(text, i, bar, 0 < depth)? {
                 Sign::And(n) => {
-                    told.tell_and();
+                    t = hanoi_lanes::tell_and(t);
                     operand_next = true;
                     i = n;
                 }
                 Sign::Or(n) => {
-                    told.tell_or();
+                    t = hanoi_lanes::tell_or(t, &planes);
                     operand_next = true;
                     i = n;
                 }
                 Sign::Closes(n) => {
-                    told.tell_closes();
+                    t = hanoi_lanes::tell_closes(t, all, &mut planes);
                     depth -= 1;
                     bar = false;
                     i = n;
@@ -177,7 +177,7 @@ pub fn read_formula(
                 Sign::Body(n) => {
                     return Ok(Valued {
                         at: n,
-                        value: told.value,
+                        value: t.value,
                     });
                 }
             }

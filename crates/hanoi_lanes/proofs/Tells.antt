@@ -6,21 +6,19 @@ use mathlib.Core.Bool.{Bool, true, false, not, ◌&&◌, ◌||◌, cond}
 use mathlib.Core.List.{List}
 use lib.Bits.{bit_and, bit_or}
 use lib.Dec.{ltb}
-use lib.ListN.{replicate}
 use Rattle.lists.proofs.Bools.{lt-true, and_r}
 use Rattle.hanoi.proofs.Digits.{lt_yes}
 use Rattle.masks.specs.Masks.{has, minus}
 use Rattle.masks.proofs.Bits.{has-and, has-or, has-minus, has-none}
 use Rattle.hanoi.specs.Formulas.{Mode, Reading, PastAnd, PastOr, tell, tell_in, operand, opens, closes, and, or}
-use Rattle.hanoi_lanes.proofs.Counts.{count_none}
 use Rattle.hanoi_lanes.specs.declared.Lanes.{Lanes}
 use Rattle.hanoi_lanes.specs.Lanes.{digit, count_at, CountsUp, CountsDown, depth_of, ModeIs, Shows, Starts, TellsOperand, TellsAnd, TellsOr, TellsOpens, TellsCloses}
 
 has-without : (r a b s : ℕ) → r ≡ minus a b → has r s ≡ has a s && not (has b s)
 has-without r a b s e = ap (λ (n : ℕ). has n s) e ∙ has-minus a b s
 
-pub starts : (all : ℕ) → Starts all (record { all = all; value = all; reading = all; ands = 0; planes = replicate 64 0 })
-starts all = record { all_is = refl; long = refl; shows = λ s e. record { value_is = e; mode_is = (e, has-none s, count_none 64 s) } }
+pub starts : (all : ℕ) → Starts all (record { value = all; reading = all; ands = 0 })
+starts all s planes e z = record { value_is = e; mode_is = (e, has-none s, z) }
 
 -- ---- an operand
 chosen : (r b v : Bool) → (r && b) || (v && not r) ≡ cond r b v
@@ -30,22 +28,19 @@ chosen true false false = refl
 chosen false b true = refl
 chosen false b false = refl
 
-operand_in : (r : Lanes) (s : ℕ) (v b R : Bool) (m : Mode) → has r.value s ≡ cond R b v → R ≡ has r.reading s → ModeIs m R (has r.ands s) (count_at r.planes s) → Shows r s (tell_in v m (operand b))
+operand_in : (r : Lanes) (planes : List ℕ) (s : ℕ) (v b R : Bool) (m : Mode) → has r.value s ≡ cond R b v → R ≡ has r.reading s → ModeIs m R (has r.ands s) (count_at planes s) → Shows r planes s (tell_in v m (operand b))
 unfolding tell_in
-operand_in r s v b R Reading e q (i, a, n) = record { value_is = e ∙ ap (λ (x : Bool). cond x b v) i; mode_is = (sym q ∙ i, a, n) }
-operand_in r s v b R (PastAnd d) e q (i, a, n) = record { value_is = e ∙ ap (λ (x : Bool). cond x b v) i; mode_is = (sym q ∙ i, a, n) }
-operand_in r s v b R (PastOr d) e q (i, a, n) = record { value_is = e ∙ ap (λ (x : Bool). cond x b v) i; mode_is = (sym q ∙ i, a, n) }
+operand_in r planes s v b R Reading e q (i, a, n) = record { value_is = e ∙ ap (λ (x : Bool). cond x b v) i; mode_is = (sym q ∙ i, a, n) }
+operand_in r planes s v b R (PastAnd d) e q (i, a, n) = record { value_is = e ∙ ap (λ (x : Bool). cond x b v) i; mode_is = (sym q ∙ i, a, n) }
+operand_in r planes s v b R (PastOr d) e q (i, a, n) = record { value_is = e ∙ ap (λ (x : Bool). cond x b v) i; mode_is = (sym q ∙ i, a, n) }
 
-pub tells-operand : (t : Lanes) (b w : ℕ) → w ≡ minus t.value t.reading → TellsOperand t b (record { all = t.all; value = bit_or (bit_and t.reading b) w; reading = t.reading; ands = t.ands; planes = t.planes })
+pub tells-operand : (t : Lanes) (b w : ℕ) → w ≡ minus t.value t.reading → TellsOperand t b (record { value = bit_or (bit_and t.reading b) w; reading = t.reading; ands = t.ands })
 unfolding tell
-tells-operand t b w e = (
-  record { all_is = refl; long = refl },
-  λ s x h.
-      operand_in (record { all = t.all; value = bit_or (bit_and t.reading b) w; reading = t.reading; ands = t.ands; planes = t.planes }) s x.value (has b s) (has t.reading s) x.mode
-      (has-or s (bit_and t.reading b) w ∙ ap₂ ◌||◌ (has-and s t.reading b) (has-without w t.value t.reading s e) ∙ chosen (has t.reading s) (has b s) (has t.value s)
-      ∙ ap (cond (has t.reading s) (has b s)) h.value_is)
-      refl h.mode_is,
-)
+tells-operand t b w e planes s x h =
+    operand_in (record { value = bit_or (bit_and t.reading b) w; reading = t.reading; ands = t.ands }) planes s x.value (has b s) (has t.reading s) x.mode
+    (has-or s (bit_and t.reading b) w ∙ ap₂ ◌||◌ (has-and s t.reading b) (has-without w t.value t.reading s e) ∙ chosen (has t.reading s) (has b s) (has t.value s)
+    ∙ ap (cond (has t.reading s) (has b s)) h.value_is)
+    refl h.mode_is
 
 -- ---- &
 and-mode : (v R A R' A' : Bool) (n : ℕ) (m : Mode) → R' ≡ R && v → A' ≡ A || (R && not v) → ModeIs m R A n → ModeIs (tell_in v m and).mode R' A' n
@@ -61,19 +56,16 @@ and-value v Reading = refl
 and-value v (PastAnd d) = refl
 and-value v (PastOr d) = refl
 
-pub tells-and : (t : Lanes) (w : ℕ) → w ≡ minus t.reading t.value → TellsAnd t (record { all = t.all; value = t.value; reading = bit_and t.reading t.value; ands = bit_or t.ands w; planes = t.planes })
+pub tells-and : (t : Lanes) (w : ℕ) → w ≡ minus t.reading t.value → TellsAnd t (record { value = t.value; reading = bit_and t.reading t.value; ands = bit_or t.ands w })
 unfolding tell
-tells-and t w e = (
-  record { all_is = refl; long = refl },
-  λ s x h. record {
-    value_is = h.value_is ∙ sym (and-value x.value x.mode);
-    mode_is =
-        and-mode x.value (has t.reading s) (has t.ands s) (has (bit_and t.reading t.value) s) (has (bit_or t.ands w) s) (count_at t.planes s) x.mode
-        (has-and s t.reading t.value ∙ ap (λ (b : Bool). has t.reading s && b) h.value_is)
-        (has-or s t.ands w ∙ ap (λ (b : Bool). has t.ands s || b) (has-without w t.reading t.value s e ∙ ap (λ (b : Bool). has t.reading s && not b) h.value_is))
-        h.mode_is;
-  },
-)
+tells-and t w e planes s x h = record {
+  value_is = h.value_is ∙ sym (and-value x.value x.mode);
+  mode_is =
+      and-mode x.value (has t.reading s) (has t.ands s) (has (bit_and t.reading t.value) s) (has (bit_or t.ands w) s) (count_at planes s) x.mode
+      (has-and s t.reading t.value ∙ ap (λ (b : Bool). has t.reading s && b) h.value_is)
+      (has-or s t.ands w ∙ ap (λ (b : Bool). has t.ands s || b) (has-without w t.reading t.value s e ∙ ap (λ (b : Bool). has t.reading s && not b) h.value_is))
+      h.mode_is;
+}
 
 -- ---- |
 or-mode : (v R A D E R' : Bool) (n : ℕ) (m : Mode) → D ≡ A && ltb 0 n → E ≡ A && not D → R' ≡ (R && not v) || E → ModeIs m R A n → ModeIs (tell_in v m or).mode R' D n
@@ -95,20 +87,17 @@ or-value v (PastAnd zero) = refl
 or-value v (PastAnd (suc d)) = refl
 or-value v (PastOr d) = refl
 
-pub tells-or : (t : Lanes) (deeper ended w : ℕ) → ((s : ℕ) → has deeper s ≡ has t.ands s && ltb 0 (count_at t.planes s)) → ended ≡ minus t.ands deeper → w ≡ minus t.reading t.value
-    → TellsOr t (record { all = t.all; value = t.value; reading = bit_or w ended; ands = deeper; planes = t.planes })
+pub tells-or : (t : Lanes) (planes : List ℕ) (deeper ended w : ℕ) → ((s : ℕ) → has deeper s ≡ has t.ands s && ltb 0 (count_at planes s)) → ended ≡ minus t.ands deeper → w ≡ minus t.reading t.value
+    → TellsOr t planes (record { value = t.value; reading = bit_or w ended; ands = deeper })
 unfolding tell
-tells-or t deeper ended w d e f = (
-  record { all_is = refl; long = refl },
-  λ s x h. record {
-    value_is = h.value_is ∙ sym (or-value x.value x.mode);
-    mode_is =
-        or-mode x.value (has t.reading s) (has t.ands s) (has deeper s) (has ended s) (has (bit_or w ended) s) (count_at t.planes s) x.mode
-        (d s) (has-without ended t.ands deeper s e)
-        (has-or s w ended ∙ ap (λ (b : Bool). b || has ended s) (has-without w t.reading t.value s f ∙ ap (λ (b : Bool). has t.reading s && not b) h.value_is))
-        h.mode_is;
-  },
-)
+tells-or t planes deeper ended w d e f s x h = record {
+  value_is = h.value_is ∙ sym (or-value x.value x.mode);
+  mode_is =
+      or-mode x.value (has t.reading s) (has t.ands s) (has deeper s) (has ended s) (has (bit_or w ended) s) (count_at planes s) x.mode
+      (d s) (has-without ended t.ands deeper s e)
+      (has-or s w ended ∙ ap (λ (b : Bool). b || has ended s) (has-without w t.reading t.value s f ∙ ap (λ (b : Bool). has t.reading s && not b) h.value_is))
+      h.mode_is;
+}
 
 -- ---- parentheses
 count-depth : (m : Mode) (R A : Bool) (n : ℕ) → ModeIs m R A n → n ≡ depth_of m
@@ -129,22 +118,23 @@ opens-value v (PastAnd d) = refl
 opens-value v (PastOr d) = refl
 
 -- the lanes that pass by
-past_is : (t : Lanes) (w s : ℕ) → w ≡ minus t.all t.reading → has t.all s ≡ true → has w s ≡ not (has t.reading s)
-past_is t w s e h = has-without w t.all t.reading s e ∙ ap (λ (b : Bool). b && not (has t.reading s)) h
+past_is : (t : Lanes) (all w s : ℕ) → w ≡ minus all t.reading → has all s ≡ true → has w s ≡ not (has t.reading s)
+past_is t all w s e h = has-without w all t.reading s e ∙ ap (λ (b : Bool). b && not (has t.reading s)) h
 
-pub tells-opens : (t : Lanes) (w : ℕ) (next : List ℕ) → w ≡ minus t.all t.reading → CountsUp t.planes w next → TellsOpens t (record { all = t.all; value = t.value; reading = t.reading; ands = t.ands; planes = next })
+pub tells-opens : (t : Lanes) (all w : ℕ) (planes next : List ℕ) → w ≡ minus all t.reading → CountsUp planes w next → TellsOpens t all planes next
 unfolding tell
-tells-opens t w next e c = (
-  record { all_is = refl; long = c.long },
-  λ s x h l k. record {
-    value_is = k.value_is ∙ sym (opens-value x.value x.mode);
-    mode_is =
-        opens-mode x.value (has t.reading s) (has t.ands s) (count_at t.planes s) (count_at next s) x.mode
-        (c.counts s (let d = count-depth x.mode (has t.reading s) (has t.ands s) (count_at t.planes s) k.mode_is in omega (arith, d, l)) ∙
-        ap (λ (b : Bool). count_at t.planes s + digit b) (past_is t w s e h))
-        k.mode_is;
-  },
-)
+tells-opens t all w planes next e c = record {
+  long = c.long;
+  shows =
+      λ s x h l k. record {
+        value_is = k.value_is ∙ sym (opens-value x.value x.mode);
+        mode_is =
+            opens-mode x.value (has t.reading s) (has t.ands s) (count_at planes s) (count_at next s) x.mode
+            (c.counts s (let d = count-depth x.mode (has t.reading s) (has t.ands s) (count_at planes s) k.mode_is in omega (arith, d, l)) ∙
+            ap (λ (b : Bool). count_at planes s + digit b) (past_is t all w s e h))
+            k.mode_is;
+      };
+}
 
 closes-mode : (v R A P D E R' A' : Bool) (n k : ℕ) (m : Mode) → P ≡ not R → D ≡ P && ltb 0 n → E ≡ P && not D → R' ≡ R || E → A' ≡ A && not E → k + digit D ≡ n → ModeIs m R A n → ModeIs (tell_in v m closes).mode R' A' k
 unfolding tell_in
@@ -186,17 +176,19 @@ closes-value v (PastAnd (suc d)) = refl
 closes-value v (PastOr zero) = refl
 closes-value v (PastOr (suc d)) = refl
 
-pub tells-closes : (t : Lanes) (past deeper ended ands : ℕ) (next : List ℕ) → past ≡ minus t.all t.reading → ((s : ℕ) → has deeper s ≡ has past s && ltb 0 (count_at t.planes s)) → CountsDown t.planes deeper next
-    → ended ≡ minus past deeper → ands ≡ minus t.ands ended → TellsCloses t (record { all = t.all; value = t.value; reading = bit_or t.reading ended; ands = ands; planes = next })
-unfolding tell
-tells-closes t past deeper ended ands next p d c e g = (
-  record { all_is = refl; long = c.long },
-  λ s x h k. record {
-    value_is = k.value_is ∙ sym (closes-value x.value x.mode);
-    mode_is =
-        closes-mode x.value (has t.reading s) (has t.ands s) (has past s) (has deeper s) (has ended s) (has (bit_or t.reading ended) s) (has ands s) (count_at t.planes s) (count_at next s) x.mode
-        (past_is t past s p h) (d s) (has-without ended past deeper s e) (has-or s t.reading ended) (has-without ands t.ands ended s g)
-        (c.counts s (λ y. lt-true 0 (count_at t.planes s) (and_r (has past s) (ltb 0 (count_at t.planes s)) (sym (d s) ∙ y))))
-        k.mode_is;
-  },
-)
+module _ (t : Lanes) (all past deeper ended ands : ℕ) (planes next : List ℕ) where
+  pub tells-closes : past ≡ minus all t.reading → ((s : ℕ) → has deeper s ≡ has past s && ltb 0 (count_at planes s)) → CountsDown planes deeper next → ended ≡ minus past deeper → ands ≡ minus t.ands ended
+      → TellsCloses t all planes (record { value = t.value; reading = bit_or t.reading ended; ands = ands }) next
+  unfolding tell
+  tells-closes p d c e g = record {
+    long = c.long;
+    shows =
+        λ s x h k. record {
+          value_is = k.value_is ∙ sym (closes-value x.value x.mode);
+          mode_is =
+              closes-mode x.value (has t.reading s) (has t.ands s) (has past s) (has deeper s) (has ended s) (has (bit_or t.reading ended) s) (has ands s) (count_at planes s) (count_at next s) x.mode
+              (past_is t all past s p h) (d s) (has-without ended past deeper s e) (has-or s t.reading ended) (has-without ands t.ands ended s g)
+              (c.counts s (λ y. lt-true 0 (count_at planes s) (and_r (has past s) (ltb 0 (count_at planes s)) (sym (d s) ∙ y))))
+              k.mode_is;
+        };
+  }

@@ -35,31 +35,26 @@ ModeIs (PastAnd d) reading ands n = (reading ≡ false) × (ands ≡ true) × (n
 ModeIs (PastOr d) reading ands n = (reading ≡ false) × (ands ≡ false) × (n ≡ d)
 
 -- lane s shows x
-pub record Shows (t : Lanes) (s : ℕ) (x : Told) : Type 0 where
+pub record Shows (t : Lanes) (planes : List ℕ) (s : ℕ) (x : Told) : Type 0 where
   pub value_is : has t.value s ≡ x.value
-  pub mode_is : ModeIs x.mode (has t.reading s) (has t.ands s) (count_at t.planes s)
+  pub mode_is : ModeIs x.mode (has t.reading s) (has t.ands s) (count_at planes s)
 
-pub record Starts (all : ℕ) (r : Lanes) : Type 0 where
-  pub all_is : r.all ≡ all
-  pub long : length r.planes ≡ 64
-  pub shows : (s : ℕ) → has all s ≡ true → Shows r s (told true Reading)
-
--- what no event changes
-pub record Stays (t r : Lanes) : Type 0 where
-  pub all_is : r.all ≡ t.all
-  pub long : length r.planes ≡ length t.planes
+abbrev pub Starts : ℕ → Lanes → Type 0
+Starts all r = (s : ℕ) (planes : List ℕ) → has all s ≡ true → count_at planes s ≡ 0 → Shows r planes s (told true Reading)
 
 abbrev pub TellsOperand : Lanes → ℕ → Lanes → Type 0
-TellsOperand t b r = Stays t r × ((s : ℕ) (x : Told) → Shows t s x → Shows r s (tell x (operand (has b s))))
+TellsOperand t b r = (planes : List ℕ) (s : ℕ) (x : Told) → Shows t planes s x → Shows r planes s (tell x (operand (has b s)))
 
 abbrev pub TellsAnd : Lanes → Lanes → Type 0
-TellsAnd t r = Stays t r × ((s : ℕ) (x : Told) → Shows t s x → Shows r s (tell x and))
+TellsAnd t r = (planes : List ℕ) (s : ℕ) (x : Told) → Shows t planes s x → Shows r planes s (tell x and)
 
-abbrev pub TellsOr : Lanes → Lanes → Type 0
-TellsOr t r = Stays t r × ((s : ℕ) (x : Told) → Shows t s x → Shows r s (tell x or))
+abbrev pub TellsOr : Lanes → List ℕ → Lanes → Type 0
+TellsOr t planes r = (s : ℕ) (x : Told) → Shows t planes s x → Shows r planes s (tell x or)
 
-abbrev pub TellsOpens : Lanes → Lanes → Type 0
-TellsOpens t r = Stays t r × ((s : ℕ) (x : Told) → has t.all s ≡ true → depth_of x.mode + 1 < 2 ^ length t.planes → Shows t s x → Shows r s (tell x opens))
+pub record TellsOpens (t : Lanes) (all : ℕ) (planes next : List ℕ) : Type 0 where
+  pub long : length next ≡ length planes
+  pub shows : (s : ℕ) (x : Told) → has all s ≡ true → depth_of x.mode + 1 < 2 ^ length planes → Shows t planes s x → Shows t next s (tell x opens)
 
-abbrev pub TellsCloses : Lanes → Lanes → Type 0
-TellsCloses t r = Stays t r × ((s : ℕ) (x : Told) → has t.all s ≡ true → Shows t s x → Shows r s (tell x closes))
+pub record TellsCloses (t : Lanes) (all : ℕ) (planes : List ℕ) (r : Lanes) (next : List ℕ) : Type 0 where
+  pub long : length next ≡ length planes
+  pub shows : (s : ℕ) (x : Told) → has all s ≡ true → Shows t planes s x → Shows r next s (tell x closes)

@@ -6,19 +6,12 @@ ghost use Rattle.std.specs.Prelude.{◌≡◌, ◌&&◌, ℕ, ◌<◌, ltb, fold
 ghost use Rattle.masks.specs.Masks.{has};
 ghost use Rattle.hanoi_lanes.specs.Lanes.{count_at, CountsUp, CountsDown, Starts, TellsOperand, TellsAnd, TellsOr, TellsOpens, TellsCloses};
 
-// What 64 lanes show.
+// The value so far; the lanes in which what is read counts; and of the others those that pass by the rest of a conjunction, where the others pass by that of a disjunction.
 #[derive(Clone, Copy)]
 pub struct Lanes {
-    // The lanes that are told of.
-    pub all: u64,
-    // The value so far.
     pub value: u64,
-    // The lanes in which what is read counts.
     pub reading: u64,
-    // Of the others those that pass by the rest of a conjunction, where the others pass by that of a disjunction.
     pub ands: u64,
-    // The counts of parentheses.
-    pub planes: [u64; 64],
 }
 
 // ---- the counts
@@ -69,58 +62,67 @@ fn joined(planes: &[u64]) -> u64
     planes.iter().fold(0, |some, p| some | *p)
 }
 
-// ---- what is told
-impl Lanes {
-    // Nothing is told yet in these lanes.
-    pub fn start(all: u64) -> Lanes
-        ensures { Starts all result }
-    {
-        Lanes {
-            all,
-            value: all,
-            reading: all,
-            ands: 0,
-            planes: [0; 64],
-        }
+// ---- the value so far
+// Nothing is read yet in these lanes.
+pub fn start(all: u64) -> Lanes
+    ensures { Starts all result }
+{
+    Lanes {
+        value: all,
+        reading: all,
+        ands: 0,
     }
+}
 
-    // An operand that holds in the lanes of b.
-    pub fn tell_operand(&mut self, b: u64)
-        ensures { TellsOperand self.old b self.new }
-    {
-        self.value = (self.reading & b) | masks::without(self.value, self.reading);
+// An operand that holds in the lanes of b.
+pub fn tell_operand(t: Lanes, b: u64) -> Lanes
+    ensures { TellsOperand t b result }
+{
+    Lanes {
+        value: (t.reading & b) | masks::without(t.value, t.reading),
+        reading: t.reading,
+        ands: t.ands,
     }
+}
 
-    pub fn tell_and(&mut self)
-        ensures { TellsAnd self.old self.new }
-    {
-        self.ands |= masks::without(self.reading, self.value);
-        self.reading &= self.value;
+pub fn tell_and(t: Lanes) -> Lanes
+    ensures { TellsAnd t result }
+{
+    Lanes {
+        value: t.value,
+        reading: t.reading & t.value,
+        ands: t.ands | masks::without(t.reading, t.value),
     }
+}
 
-    pub fn tell_or(&mut self)
-        ensures { TellsOr self.old self.new }
-    {
-        let deeper = counting(&self.planes, self.ands);
-        let ended = masks::without(self.ands, deeper);
-        self.reading = masks::without(self.reading, self.value) | ended;
-        self.ands = deeper;
+pub fn tell_or(t: Lanes, planes: &[u64]) -> Lanes
+    ensures { TellsOr t planes.now result }
+{
+    let deeper = counting(planes, t.ands);
+    let ended = masks::without(t.ands, deeper);
+    Lanes {
+        value: t.value,
+        reading: masks::without(t.reading, t.value) | ended,
+        ands: deeper,
     }
+}
 
-    pub fn tell_opens(&mut self)
-        ensures { TellsOpens self.old self.new }
-    {
-        count_up(&mut self.planes, masks::without(self.all, self.reading));
-    }
+pub fn tell_opens(t: Lanes, all: u64, planes: &mut [u64])
+    ensures { TellsOpens t all planes.old planes.new }
+{
+    count_up(planes, masks::without(all, t.reading));
+}
 
-    pub fn tell_closes(&mut self)
-        ensures { TellsCloses self.old self.new }
-    {
-        let past = masks::without(self.all, self.reading);
-        let deeper = counting(&self.planes, past);
-        count_down(&mut self.planes, deeper);
-        let ended = masks::without(past, deeper);
-        self.reading |= ended;
-        self.ands = masks::without(self.ands, ended);
+pub fn tell_closes(t: Lanes, all: u64, planes: &mut [u64]) -> Lanes
+    ensures { TellsCloses t all planes.old result planes.new }
+{
+    let past = masks::without(all, t.reading);
+    let deeper = counting(planes, past);
+    count_down(planes, deeper);
+    let ended = masks::without(past, deeper);
+    Lanes {
+        value: t.value,
+        reading: t.reading | ended,
+        ands: masks::without(t.ands, ended),
     }
 }

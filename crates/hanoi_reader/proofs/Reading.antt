@@ -10,16 +10,15 @@ use lib.ListN.{length, take, replicate, length-map}
 use lib.Pow.{pow_mono}
 use Rattle.lists.specs.Lists.{below, flat}
 use Rattle.lists.proofs.Bools.{and_l, and_r, le-true}
+use Rattle.refusals.specs.declared.Refusal.TheVariants.{OutOfRange, NotHanoi, TooManyMarkSets}
 use Rattle.policy.specs.declared.Policy.{Policy}
 use Rattle.policy.specs.Making.{from_parts}
 use Rattle.mark_sets.specs.declared.Colouring.{Colouring}
 use Rattle.mark_sets.specs.MarkSets.{firsts, colour_in, union_at, Coloured}
 use Rattle.mark_sets.proofs.Unions.{union-filled}
-use Rattle.hanoi.specs.declared.Answer.{Answer}
-use Rattle.hanoi.specs.declared.Outcome.TheVariants.{Read}
 use Rattle.hanoi.specs.Documents.{Formula, Edge, Document, target_of, letters, lawful, formed}
 use Rattle.hanoi.specs.Meaning.{holds, filled, mark_set, edges_of, mark_sets, colour_of, named, policy_of}
-use Rattle.hanoi.specs.Answers.{refused, answer_of, Answers}
+use Rattle.hanoi.specs.Answers.{Answer, refused, answer_of, Answers}
 use Rattle.hanoi.specs.Offers.{between, run}
 use Rattle.hanoi.specs.Reader.{Head, fresh, operand, body, finished, document_of, offers, first, alive_for}
 use Rattle.hanoi.specs.Reading.{answer_at, hanoi_of}
@@ -39,15 +38,15 @@ use Rattle.hanoi_body.specs.Body.{Counts, ReadsBody}
 use Rattle.hanoi_family.specs.Family.{named_below, IsFamily}
 
 -- ---- the answer
-pub stopped : (text : List ℕ) (n : ℕ) → Stops text 0 first n → refused 18 n ≡ hanoi_of text
+pub stopped : (text : List ℕ) (n : ℕ) → Stops text 0 first n → refused NotHanoi n ≡ hanoi_of text
 unfolding hanoi_of
 stopped text n s =
     let e : alive_for text first ≡ n = omega (arith, s.alive) in
-    sym (s.unanswered (refused 18 (alive_for text first)) ∙ ap (refused 18) e)
+    sym (s.unanswered (refused NotHanoi (alive_for text first)) ∙ ap (refused NotHanoi) e)
 
 ended : (text : List ℕ) (bar : Bool) (d : Document) → run offers first text ≡ between bar (finished d) → hanoi_of text ≡ answer_of d
 unfolding hanoi_of
-ended text bar d e = ap (answer_at (refused 18 (alive_for text first))) e
+ended text bar d e = ap (answer_at (refused NotHanoi (alive_for text first))) e
 
 -- ---- the policy
 take-front : {A : Type 0} (l r : List A) → take (length l) (l ++ r) ≡ l
@@ -62,7 +61,7 @@ map_same : {A B : Type 0} (f g : A → B) → ((x : A) → f x ≡ g x) → (l :
 map_same f g h [] = refl
 map_same f g h (x ∷ l) = ap₂ (λ (a : _) (t : List _). a ∷ t) (h x) (map_same f g h l)
 
-pub no_header : (text : List ℕ) (e : Stop) → ReadsHeader text (Err e) → refused 18 e.at ≡ hanoi_of text
+pub no_header : (text : List ℕ) (e : Stop) → ReadsHeader text (Err e) → refused NotHanoi e.at ≡ hanoi_of text
 no_header text e k = stopped text e.at k.stops
 
 module _ (text : List ℕ) (r : Header) (k : ReadsHeader text (Ok r)) where
@@ -83,7 +82,7 @@ module _ (text : List ℕ) (r : Header) (k : ReadsHeader text (Ok r)) where
   pub head-within : r.at ≤ length text
   head-within = read_head.within
 
-  pub no-formula : (lanes : List ℕ) (e : Stop) → ReadsFormula text r.at r.sets 0 lanes (Err e) → refused 18 e.at ≡ hanoi_of text
+  pub no-formula : (lanes : List ℕ) (e : Stop) → ReadsFormula text r.at r.sets 0 lanes (Err e) → refused NotHanoi e.at ≡ hanoi_of text
   no-formula lanes e q = stopped text e.at (moves-stops text read_head (q.stops head head-sets))
 
   module _ (lanes : List ℕ) (v : Valued) (q : ReadsFormula text r.at r.sets 0 lanes (Ok v)) where
@@ -102,7 +101,7 @@ module _ (text : List ℕ) (r : Header) (k : ReadsHeader text (Ok r)) where
       unfolding head names
       counts = record { states_are = refl; letters_are = ap (λ (n : ℕ). 2 ^ n) k.moves.1 ∙ sym c; sets_are = refl }
 
-      pub no_body : (e : Stop) → ReadsBody text v.at r.states count r.sets fits (Err e) → refused 18 e.at ≡ hanoi_of text
+      pub no_body : (e : Stop) → ReadsBody text v.at r.states count r.sets fits (Err e) → refused NotHanoi e.at ≡ hanoi_of text
       no_body e z = stopped text e.at (moves-stops text read-formula (z.stops head formula counts))
 
       module _ (b : Body) (z : ReadsBody text v.at r.states count r.sets fits (Ok b)) where
@@ -137,7 +136,7 @@ module _ (text : List ℕ) (r : Header) (k : ReadsHeader text (Ok r)) where
         small_is : leb d.states 16 && leb (d.states * letters d) 64 ≡ leb r.states 16 && leb (r.states * count) 64
         small_is = ap₂ (λ (x y : ℕ). leb x 16 && leb (x * y) 64) d-states d-letters
 
-        pub over : fits ≡ leb r.states 16 && leb (r.states * count) 64 → fits ≡ false → refused 4 0 ≡ hanoi_of text
+        pub over : fits ≡ leb r.states 16 && leb (r.states * count) 64 → fits ≡ false → refused OutOfRange 0 ≡ hanoi_of text
         unfolding answer_of
         over e f = sym (answer_is ∙ (rw (small_is ∙ (sym e ∙ f)) refl))
 
@@ -172,7 +171,7 @@ module _ (text : List ℕ) (r : Header) (k : ReadsHeader text (Ok r)) where
           unfolding mark_sets sets es
           mark-sets = refl
 
-          pub many : 8 < length (firsts (take (r.states * count) b.marks)) → refused 19 0 ≡ hanoi_of text
+          pub many : 8 < length (firsts (take (r.states * count) b.marks)) → refused TooManyMarkSets 0 ≡ hanoi_of text
           unfolding answer_of
           many l =
               let m : 8 < length (firsts sets) = subst (λ (x : List ℕ). 8 < length (firsts x)) marks_are l in
@@ -222,10 +221,10 @@ module _ (text : List ℕ) (r : Header) (k : ReadsHeader text (Ok r)) where
                 let a = sym d-states in let o = sym d-letters in
                 (λ j. from_parts (record { states = a j; letters = o j; colours = count_is j; initial = d-start j }) 0 (target_is j) (colour-is j) (family_is j))
 
-            pub read_is : record { outcome = Read; policy = from_parts (record { states = r.states; letters = count; colours = g.count; initial = r.start }) 0 b.target g.colour family } ≡ hanoi_of text
+            pub read_is : Ok (from_parts (record { states = r.states; letters = count; colours = g.count; initial = r.start }) 0 b.target g.colour family) ≡ hanoi_of text
             unfolding answer_of
             read_is =
-                ap (λ (p : Policy). record { outcome = Read; policy = p }) policy_is ∙
+                ap (λ (p : Policy). Ok p) policy_is ∙
                 sym (answer_is ∙ (rw (within, ap (λ (x : List ℕ). leb (length x) 8) mark-sets ∙ le_yes (length (firsts sets)) 8 coloured.few) refl))
 
 -- what is computed means what the documents say

@@ -2,33 +2,14 @@
 #![tactic(auto)]
 
 ghost use Rattle.std.specs.Prelude.{◌≡◌, ◌&&◌, ◌*◌, ◌≤◌, ◌^◌, leb};
-ghost use Rattle.hanoi.specs.Answers.{refused, Answers};
+ghost use Rattle.hanoi.specs.Answers.{Answers};
 ghost use Rattle.hanoi.specs.Reading.{hanoi_of};
-ghost use Rattle.hanoi_reader.specs.declared.Refusal.TheVariants.{Stops};
 ghost use Rattle.hanoi_reader.specs.Answering.{answer_for};
 
-use hanoi::{Answer, Outcome};
+use hanoi::TextRefused;
 use hanoi_tokens::Stop;
 use policy::Policy;
-
-// Why a text gives no policy.
-#[derive(Clone, Copy)]
-enum Refusal {
-    // It stops being one of the subset there.
-    Stops(usize),
-    // It has too many states or edges.
-    TooLarge,
-    // It has more than 8 colours.
-    TooManyColours,
-}
-
-impl From<Stop> for Refusal {
-    ghost from_gives = { λ stop r. r ≡ Stops stop.at };
-
-    fn from(stop: Stop) -> Refusal {
-        Refusal::Stops(stop.at)
-    }
-}
+use refusals::Refusal;
 
 // How many letters there are: one for each valuation of the names.
 fn letters_of(names: u32) -> usize
@@ -46,8 +27,8 @@ fn is_within_limits(states: u32, letters: usize) -> bool
     states <= 16 && states as usize * letters <= 64
 }
 
-// The policy of a text, or the first question that it answers no.
-fn read_policy(text: &[u8]) -> Result<Policy, Refusal>
+// The policy of a text of the subset, or why it has none; or where the text stops being one of the subset.
+fn read_policy(text: &[u8]) -> Result<Result<Policy, Refusal>, Stop>
     ensures { answer_for result ≡ hanoi_of text.now }
 {
     let header = hanoi_header::read_header(text)?;
@@ -58,11 +39,11 @@ fn read_policy(text: &[u8]) -> Result<Policy, Refusal>
     let fits = is_within_limits(header.states, letters);
     let body = hanoi_body::read_body(text, formula.at, header.states, letters, header.sets, fits)?;
     if !fits {
-        return Err(Refusal::TooLarge);
+        return Ok(Err(Refusal::OutOfRange));
     }
     let Some(colouring) = mark_sets::colours_of(&body.marks, header.states as usize * letters)
     else {
-        return Err(Refusal::TooManyColours);
+        return Ok(Err(Refusal::TooManyMarkSets));
     };
     let family = hanoi_family::family_of(
         text,
@@ -73,7 +54,7 @@ fn read_policy(text: &[u8]) -> Result<Policy, Refusal>
     );
     let target = body.target;
     let colour = colouring.colour;
-    Ok(Policy {
+    Ok(Ok(Policy {
         states: header.states as u8,
         letters: letters as u8,
         colours: colouring.count,
@@ -82,30 +63,20 @@ fn read_policy(text: &[u8]) -> Result<Policy, Refusal>
         colour,
         family,
         quiet: 0,
-    })
+    }))
 }
 
-fn refused(number: u8, at: usize) -> Answer
-    ensures { result ≡ refused number at }
-{
-    Answer {
-        outcome: Outcome::Refused(number, at),
-        policy: policy::counted(0, 0, 0, 0),
-    }
-}
-
-// The policy of a text; or 18, with the length of the longest beginning that some text of the subset shares, 4 or 19.
-pub fn read(text: &[u8]) -> Answer
+// The policy of a text; or NotHanoi, with the length of the longest beginning that some text of the subset shares, OutOfRange or TooManyMarkSets.
+pub fn read(text: &[u8]) -> Result<Policy, TextRefused>
     ensures answer { result ≡ hanoi_of text.now }
     ensures meaning { Answers text.now result }
 {
     match read_policy(text) {
-        Ok(policy) => Answer {
-            outcome: Outcome::Read,
-            policy,
-        },
-        Err(Refusal::Stops(at)) => refused(18, at),
-        Err(Refusal::TooLarge) => refused(4, 0),
-        Err(Refusal::TooManyColours) => refused(19, 0),
+        Ok(Ok(policy)) => Ok(policy),
+        Ok(Err(refusal)) => Err(TextRefused { refusal, shared: 0 }),
+        Err(stop) => Err(TextRefused {
+            refusal: Refusal::NotHanoi,
+            shared: stop.at,
+        }),
     }
 }

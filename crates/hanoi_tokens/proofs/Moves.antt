@@ -7,7 +7,7 @@ use mathlib.Core.Bool.{Bool, true, false, cond}
 use mathlib.Core.List.{List, [], ◌∷◌}
 use lib.ListN.{length, get_or, drop, drop_of_length-le}
 use lib.Seq.{drop-cons}
-use Rattle.hanoi.specs.declared.Answer.{Answer}
+use Rattle.hanoi.specs.Answers.{Answer}
 use Rattle.hanoi.specs.Offers.{Spot, dead, step_byte, run}
 use Rattle.hanoi.specs.Reader.{At, offers, is_dead, alive_for}
 use Rattle.hanoi.specs.Reading.{answer_at}

@@ -10,7 +10,7 @@ use lib.Dec.{eqb}
 use lib.ListN.{length, get_or, drop, drop_of_length-le}
 use lib.Seq.{drop-cons}
 use Rattle.lists.proofs.Bools.{test, and-absent, neqb, ≡eqb, eqb≡}
-use Rattle.hanoi.specs.declared.Answer.{Answer}
+use Rattle.hanoi.specs.Answers.{Answer}
 use Rattle.lists.specs.Lists.{first_or}
 use Rattle.hanoi.specs.Words.{Word}
 use Rattle.hanoi.specs.Texts.{white, digit, goes_on, spelling, open_ended}

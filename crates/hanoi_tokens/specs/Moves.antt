@@ -1,7 +1,7 @@
 -- How far a text is read. The reader of documents (hanoi) stands at p before byte m of the text: what becomes of the rest says what the answer is, and two such places are as one if the rest
 -- comes to the same from both.
 use Rattle.std.specs.Prelude.{ℕ, ◌+◌, ◌≤◌, ◌≡◌, List, length, drop, Result, Ok, Err}
-use Rattle.hanoi.specs.declared.Answer.{Answer}
+use Rattle.hanoi.specs.Answers.{Answer}
 use Rattle.hanoi.specs.Offers.{Spot, run}
 use Rattle.hanoi.specs.Reader.{At, offers, alive_for}
 use Rattle.hanoi.specs.Reading.{answer_in, answer_at}

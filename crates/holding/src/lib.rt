@@ -21,6 +21,7 @@ fn leads_out(k: Hold, g: &Game<'_>, s: usize, marks: &[u8]) -> bool
     ensures { result ≡ false → Shut k g.now.targets.now g.now.priorities.now marks.now (s * g.now.letters) g.now.letters }
 {
     let row = s * g.letters;
+    // By index: two tables are read at one row.
     for a in 0..g.letters {
         let target = usize::from(g.targets[row + a]);
         let live = marks[target] == 255;
@@ -62,6 +63,7 @@ fn sift(
     ensures { Sifted g.now.owners.now g.now.sources.now g.now.targets.now g.now.priorities.now g.now.letters k freed n order.old marks.old choices.now result order.new marks.new }
 {
     let mut w = freed;
+    // By index: the order is rearranged as it is walked.
     for i in freed..n {
         let s = usize::from(order[i]);
         let out = escapes(k, g, s, marks, choices);

@@ -111,7 +111,7 @@ fn edges_on_cycles(g: &Graph<'_>, m: u64) -> u64
 {
     let mut rows = [0u16; 16];
     let mut cycles = [0u64; 16];
-    let n = components::fill_cycles(g, m, &mut rows, &mut cycles);
+    let n = components::fill_cycles(g.policy, &g.out, &g.into, m, &mut rows, &mut cycles);
     union_of(&cycles[..n])
 }
 
@@ -134,7 +134,7 @@ fn list_cycles(
 {
     let mut rows = [0u16; 16];
     let mut cycles = [0u64; 16];
-    let n = components::fill_cycles(g, m, &mut rows, &mut cycles);
+    let n = components::fill_cycles(g.policy, &g.out, &g.into, m, &mut rows, &mut cycles);
     let edges = union_of(&cycles[..n]);
     let next = append_cycles(&g.by, c, &cycles[..n], other, hues, same, own, count);
     Cycles { count: next, edges }
@@ -198,7 +198,7 @@ fn past_settled(
     }
     let mut rows = [0u16; 16];
     let mut cycles = [0u64; 16];
-    let n = components::fill_cycles(g, e, &mut rows, &mut cycles);
+    let n = components::fill_cycles(g.policy, &g.out, &g.into, e, &mut rows, &mut cycles);
     looks::past_all(&g.by, &cycles[..n], other, hues, same, up, c)
 }
 
@@ -363,7 +363,15 @@ fn list_next(
     let up = looks::upper(used, c);
     let open = looks::is_open_for(v, c, &accepted[..a], &rejected[..b]);
     if !open {
-        if looks::is_passed(g, v, up, c, &accepted[..a], &rejected[..b]) {
+        if looks::is_passed(
+            &g.by,
+            &g.policy.family,
+            v,
+            up,
+            c,
+            &accepted[..a],
+            &rejected[..b],
+        ) {
             return Step {
                 counts: listed,
                 left: up,
@@ -376,7 +384,7 @@ fn list_next(
             };
         }
     }
-    let m = looks::edges_of(g, live, used, c);
+    let m = looks::edges_of(&g.by, live, used, c);
     let hue = policy::colours_in(&g.by, m);
     if !masks::inside(up, hue) {
         return Step {

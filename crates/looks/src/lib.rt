@@ -8,11 +8,9 @@ ghost use Rattle.lists.specs.Lists.{any};
 ghost use Rattle.masks.specs.Masks.{inside};
 ghost use Rattle.policy.specs.declared.Policy.{Policy};
 ghost use Rattle.policy.specs.Policies.{legal};
-ghost use Rattle.policy.specs.ByColour.{edges_in, table_colours};
+ghost use Rattle.policy.specs.ByColour.{by_colour, edges_in, table_colours};
 ghost use Rattle.candidates.specs.Candidates.{covers, may_hold, are_long, wanted, is_open, Live};
 ghost use Rattle.looks.specs.Spans.{lowest, upper};
-
-use graph::Graph;
 
 // ---- what is wanted
 // Whether e lies inside a mask of the list that itself lies inside y.
@@ -53,6 +51,7 @@ pub fn is_wanted(c: u8, m: u64, other: &[u64], hues: &[u8], same: &[u64]) -> boo
     if are_long(other.len(), same.len()) {
         return true;
     }
+    // By index: two lists are read side by side.
     for i in 0..other.len() {
         if may_hold(c, m, same, hues[i], other[i]) {
             return true;
@@ -109,11 +108,11 @@ fn live_in(live: &[u64], used: u8, c: u8) -> u64
 }
 
 // Those of them with colours in c; as undecided, and live for c.
-pub fn edges_of(g: &Graph<'_>, live: &[u64], used: u8, c: u8) -> u64
+pub fn edges_of(by: &[u64; 9], live: &[u64], used: u8, c: u8) -> u64
     requires { (inside c used ≡ true) × (used < length live.now) }
-    ensures { (root : ℕ) → ((d : ℕ) → d < length live.now → Live g.now.policy.now root d (get_or live.now d 0)) → Live g.now.policy.now root c result × (inside result (edges_in g.now.policy.now c) ≡ true) }
+    ensures { (p : Policy) (root : ℕ) → legal p ≡ true → by.now ≡ by_colour p → ((d : ℕ) → d < length live.now → Live p root d (get_or live.now d 0)) → Live p root c result × (inside result (edges_in p c) ≡ true) }
 {
-    masks::both(policy::edges_in(&g.by, c), live_in(live, used, c))
+    masks::both(policy::edges_in(by, c), live_in(live, used, c))
 }
 
 // ---- the span of a set
@@ -157,9 +156,17 @@ pub fn first_from(by: &[u64; 9], up: u8) -> u8
 
 // If yes, nothing is listed at any set from `up` up to c, where c has the verdict v: they have this verdict and nothing is open for them, or no cycle has their colours. No is
 // undecided; few sets are not looked at.
-pub fn is_passed(g: &Graph<'_>, v: bool, up: u8, c: u8, accepted: &[u8], rejected: &[u8]) -> bool
+pub fn is_passed(
+    by: &[u64; 9],
+    family: &[bool; 256],
+    v: bool,
+    up: u8,
+    c: u8,
+    accepted: &[u8],
+    rejected: &[u8],
+) -> bool
     requires { up ≤ c }
-    ensures { result ≡ true → (s : ℕ) → up ≤ s → s < c → inside up s ≡ true → inside s c ≡ true → ((s ≡ 0) × (get_or g.now.by 8 0 ≡ 0)) ⊎ ((get_or g.now.policy.now.family s false ≡ v) × (is_open s (cond v rejected.now accepted.now) (length (cond v accepted.now rejected.now)) ≡ false)) }
+    ensures { result ≡ true → (s : ℕ) → up ≤ s → s < c → inside up s ≡ true → inside s c ≡ true → ((s ≡ 0) × (get_or by.now 8 0 ≡ 0)) ⊎ ((get_or family.now s false ≡ v) × (is_open s (cond v rejected.now accepted.now) (length (cond v accepted.now rejected.now)) ≡ false)) }
 {
     if c - up < 3 {
         return false;
@@ -167,7 +174,7 @@ pub fn is_passed(g: &Graph<'_>, v: bool, up: u8, c: u8, accepted: &[u8], rejecte
     if is_open_for(v, up, accepted, rejected) {
         return false;
     }
-    is_uniform(&g.policy.family, first_from(&g.by, up), c, v)
+    is_uniform(family, first_from(by, up), c, v)
 }
 
 // ---- what a search settles of it

@@ -25,6 +25,7 @@ pub fn gather(a: u8, b: u8, n: usize, order: &mut [u16], marks: &[u8]) -> usize
     ensures { Gathered a b n marks.now order.old result order.new }
 {
     let mut w = 0;
+    // By index: the order is rearranged as it is walked.
     for i in 0..n {
         let mark = marks[usize::from(order[i])];
         w = keep((mark == a) | (mark == b), w, i, order);

@@ -39,7 +39,7 @@ pub fn list_edges(
     while left != 0 {
         let v = masks::lowest(left);
         let on = steps::cycle_states(states, w, v);
-        let x = graph::edges_among(g, m, on);
+        let x = graph::edges_among(states, &g.out, &g.into, m, on);
         pool[n] = x;
         hues[n] = policy::colours_in(&g.by, x);
         left = masks::without(left, on);

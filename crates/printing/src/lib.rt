@@ -5,7 +5,6 @@ ghost use Rattle.std.specs.Prelude.{◌≤◌, length};
 
 use builder::Counts;
 use policy::Policy;
-use reading::Outcome;
 use refusals::Refusal;
 
 fn show(text: &[u8], n: u64) {
@@ -83,8 +82,8 @@ fn show_rows(count: u16, letters: u8, targets: &[u16; 8192], priorities: &[u8; 8
 }
 
 // The answer of reading or translating that refused.
-fn show_refusal(number: u8) {
-    show(b"refused ", number as u64);
+fn show_refusal(refusal: Refusal) {
+    show(b"refused ", u64::from(refusal.number()));
 }
 
 // The rows of 1,024 states; a legal policy has at most 8 letters.
@@ -152,21 +151,18 @@ fn show_translation(p: &Policy) {
             show_rows(counts.states, letters, &targets, &priorities);
             show(b"start ", counts.start as u64);
         }
-        Err(refusal) => show_refusal(refusal.number()),
+        Err(refusal) => show_refusal(refusal),
     }
     end_line();
 }
 
 // The listing of the policy in some command bytes.
 pub fn show_policy(bytes: &[u8]) {
-    let a = reading::read(bytes);
-    let outcome = a.outcome;
-    let p = a.policy;
-    match outcome {
-        Outcome::Read(_) => show_translation(&p),
-        Outcome::Refused(number, at) => {
-            show_refusal(number);
-            show(b" ", at as u64);
+    match reading::read(bytes) {
+        Ok(found) => show_translation(&found.policy),
+        Err(refused) => {
+            show_refusal(refused.refusal);
+            show(b" ", refused.at as u64);
             end_line();
         }
     }
@@ -174,15 +170,12 @@ pub fn show_policy(bytes: &[u8]) {
 
 // The listing of the policy in a text of the Hanoi format; beside 18 the length of the longest beginning that some text of the subset shares.
 pub fn show_text(text: &[u8]) {
-    let a = hanoi_reader::read(text);
-    let outcome = a.outcome;
-    let p = a.policy;
-    match outcome {
-        hanoi::Outcome::Read => show_translation(&p),
-        hanoi::Outcome::Refused(number, at) => {
-            show_refusal(number);
-            if number == 18 {
-                show(b" ", at as u64);
+    match hanoi_reader::read(text) {
+        Ok(p) => show_translation(&p),
+        Err(refused) => {
+            show_refusal(refused.refusal);
+            if refused.refusal == Refusal::NotHanoi {
+                show(b" ", refused.shared as u64);
             }
             end_line();
         }

@@ -10,6 +10,9 @@ use lib.Dec.{eqb, lit≤}
 use lib.ListN.{length, get_or, set, take, drop, length-drop}
 use lib.Seq.{take_all, drop-length}
 use borrow.Author.Tests.{eqb-true, eqb-false, eq-eqb, ne_eqb}
+use Rattle.std.specs.Prelude.{Result, Ok, Err}
+use Rattle.refusals.specs.declared.Refusal.{Refusal}
+use Rattle.refusals.specs.Refusals.{refusal}
 use Rattle.lists.proofs.Bools.{test}
 use Rattle.masks.specs.Masks.{insert}
 use Rattle.policy.specs.declared.Policy.{Policy}
@@ -18,13 +21,12 @@ use Rattle.policy.proofs.Laws.{counts}
 use Rattle.policy.specs.declared.Shape as policy-shape
 use Rattle.policy.specs.Making.{counted, shape_of, from_parts, zero_policy, with_edge, with_quiet, with_set, with_tables}
 use Rattle.reading.specs.declared.Draft.{Draft}
-use Rattle.reading.specs.declared.Answer.{Answer}
+use Rattle.reading.specs.declared.Found.{Found}
+use Rattle.reading.specs.declared.Refused.{Refused}
 use Rattle.reading.specs.declared.Command.{Command}
 use Rattle.reading.specs.declared.Command.TheVariants.{End, Shape, Edge, Accept, Quiet}
-use Rattle.reading.specs.declared.Outcome.{Outcome}
-use Rattle.reading.specs.declared.Outcome.TheVariants.{Read, Refused}
-use Rattle.reading.specs.Reading.{Bounded, HandsBack, ReadsPolicy, draft_after, answer_at, command_at, empty_draft, in_place, is_end, is_shape, next_offset, number_at, number_of, offset_of, operand_count, part_after, reading_of, refusal_of, rest_of, stop_from, stop_most, stop_of, within_limits}
-use Rattle.reading.proofs.Questions.{Passed, passed, room}
+use Rattle.reading.specs.Reading.{Bounded, HandsBack, ReadsPolicy, draft_after, answer_at, command_at, empty_draft, in_place, is_end, is_shape, next_offset, number_at, number_of, offset_of, operand_count, part_after, policy_read, reading_of, refusal_of, rest_of, stop_from, stop_most, stop_of, taken_at, within_limits}
+use Rattle.reading.proofs.Questions.{Passed, passed, room, number-refusal, taken-none}
 
 module _ (b : List ℕ) where
   -- a command that is not refused ends within the bytes
@@ -110,14 +112,15 @@ module _ {b : List ℕ} {at : ℕ} {d : Draft} (o : Onway b at d) where
   pub onway-shape : {v a k i : ℕ} → refusal_of b at d ≡ 0 → command_at b at ≡ Shape v a k i → d.policy ≡ zero_policy
   onway-shape z e = o.first (first-shape (passed z) e)
 
-  pub onway-refused : {n : ℕ} {p : Policy} → n ≡ refusal_of b at d → (n ≡ 0 → ⊥) → p ≡ counted 0 0 0 0 → ◌≡◌ {A = Answer} (record { outcome = Refused n at; policy = p }) (reading_of b)
-  unfolding reading_of answer_at number_at zero_policy
-  onway-refused e h q =
-      let s = sym o.is ∙ stop-refused b at d o.within (rw e at h) in
-      rw (e, q, s, ne_eqb (refusal_of b at d) 0 (rw e at h))
+  pub onway-refused : {e : Refusal} → Err e ≡ taken_at b at d → ◌≡◌ {A = Result Found Refused} (Err (record { refusal = e; at = at })) (reading_of b)
+  unfolding reading_of answer_at number_at
+  onway-refused r =
+      let w = taken-none b at d r in
+      let s = sym o.is ∙ stop-refused b at d o.within w.0 in
+      rw (w.1, s, ne_eqb (refusal_of b at d) 0 w.0)
 
   module _ (z : refusal_of b at d ≡ 0) {c : Command} (is_c : c ≡ command_at b at) where
-    pub onway-end : is_end c ≡ true → ◌≡◌ {A = Answer} (record { outcome = Read (at + 1); policy = d.policy }) (reading_of b)
+    pub onway-end : is_end c ≡ true → ◌≡◌ {A = Result Found Refused} (Ok (record { policy = d.policy; end = at + 1 })) (reading_of b)
     unfolding reading_of answer_at number_at
     onway-end t = let s = sym o.is ∙ stop-end b at d o.within z (rw is_c at t) in rw (s, eq-eqb (refusal_of b at d) 0 z)
 
@@ -169,45 +172,46 @@ module _ (b : List ℕ) where
   number = number_at b (stop_of b)
 
   -- ---- what holds of the answer, by its number
-  pub by-number : (P : Answer → Type 0) → (number ≡ 0 → P (record { outcome = Read ((stop_of b).at + 1); policy = (stop_of b).draft.policy }))
-      → ((number ≡ 0 → ⊥) → P (record { outcome = Refused number (stop_of b).at; policy = zero_policy })) → P (reading_of b)
+  pub by-number : (P : Result Found Refused → Type 0) → (number ≡ 0 → P (Ok (record { policy = (stop_of b).draft.policy; end = (stop_of b).at + 1 })))
+      → ((number ≡ 0 → ⊥) → P (Err (record { refusal = refusal number; at = (stop_of b).at }))) → P (reading_of b)
   unfolding reading_of answer_at
   by-number P read refused = go (test (eqb number 0))
     where
       go : (eqb number 0 ≡ true) ⊎ (eqb number 0 ≡ false) → P (answer_at b (stop_of b))
-      go (inl t) = subst (λ (z : Bool). P (cond z (record { outcome = Read ((stop_of b).at + 1); policy = (stop_of b).draft.policy }) (record { outcome = Refused number (stop_of b).at; policy = zero_policy }))) (sym t) (read (eqb-true number 0 t))
-      go (inr f) = subst (λ (z : Bool). P (cond z (record { outcome = Read ((stop_of b).at + 1); policy = (stop_of b).draft.policy }) (record { outcome = Refused number (stop_of b).at; policy = zero_policy }))) (sym f) (refused (eqb-false number 0 f))
+      go (inl t) = subst (λ (z : Bool). P (cond z (Ok (record { policy = (stop_of b).draft.policy; end = (stop_of b).at + 1 })) (Err (record { refusal = refusal number; at = (stop_of b).at })))) (sym t) (read (eqb-true number 0 t))
+      go (inr f) = subst (λ (z : Bool). P (cond z (Ok (record { policy = (stop_of b).draft.policy; end = (stop_of b).at + 1 })) (Err (record { refusal = refusal number; at = (stop_of b).at })))) (sym f) (refused (eqb-false number 0 f))
 
-  pub reads : (a : Answer) → a ≡ reading_of b → ReadsPolicy b a
+  pub reads : (a : Result Found Refused) → a ≡ reading_of b → ReadsPolicy b a
+  unfolding number_at
   reads a e = record {
     answer_is = e;
-    number_is = ap (λ (x : Answer). number_of x.outcome) e ∙ by-number (λ (x : Answer). number_of x.outcome ≡ number) sym (λ n. refl);
-    offset_is = ap (λ (x : Answer). offset_of x.outcome) e
-        ∙ by-number (λ (x : Answer). offset_of x.outcome ≡ cond (eqb number 0) ((stop_of b).at + 1) (stop_of b).at) (λ z. rw (eq-eqb number 0 z)) (λ n. rw (ne_eqb number 0 n));
-    policy_is = ap (λ (x : Answer). x.policy) e
-        ∙ by-number (λ (x : Answer). x.policy ≡ cond (eqb number 0) (stop_of b).draft.policy zero_policy) (λ z. rw (eq-eqb number 0 z)) (λ n. rw (ne_eqb number 0 n));
+    number_is = ap number_of e ∙ by-number (λ (x : Result Found Refused). number_of x ≡ number) sym (number-refusal b (stop_of b).at (stop_of b).draft);
+    offset_is = ap offset_of e
+        ∙ by-number (λ (x : Result Found Refused). offset_of x ≡ cond (eqb number 0) ((stop_of b).at + 1) (stop_of b).at) (λ z. rw (eq-eqb number 0 z)) (λ n. rw (ne_eqb number 0 n));
+    policy_is = ap policy_read e
+        ∙ by-number (λ (x : Result Found Refused). policy_read x ≡ cond (eqb number 0) (stop_of b).draft.policy zero_policy) (λ z. rw (eq-eqb number 0 z)) (λ n. rw (ne_eqb number 0 n));
   }
 
   -- ---- what follows the end command
-  pub end-within : {end : ℕ} → (reading_of b).outcome ≡ Read end → end ≤ length b
+  pub end-within : {r : Found} → reading_of b ≡ Ok r → r.end ≤ length b
   unfolding number_at
-  end-within e = subst Within e (by-number (λ (x : Answer). Within x.outcome) (λ z. omega (arith, (passed z).byte)) (λ n. tt))
+  end-within e = subst Within e (by-number Within (λ z. omega (arith, (passed z).byte)) (λ n. tt))
     where
-      Within : Outcome → Type 0
-      Within (Read end) = end ≤ length b
-      Within (Refused number at) = Unit {0}
+      Within : Result Found Refused → Type 0
+      Within (Ok r) = r.end ≤ length b
+      Within (Err e) = Unit {0}
 
   hands-back : (part : List ℕ) → part ≡ rest_of b → HandsBack b part
   unfolding rest_of
   hands-back part e = record {
     part_is = e;
-    by-number = e ∙ by-number (λ (x : Answer). part_after b x.outcome ≡ cond (eqb number 0) (drop ((stop_of b).at + 1) b) []) (λ z. rw (eq-eqb number 0 z)) (λ n. rw (ne_eqb number 0 n));
+    by-number = e ∙ by-number (λ (x : Result Found Refused). part_after b x ≡ cond (eqb number 0) (drop ((stop_of b).at + 1) b) []) (λ z. rw (eq-eqb number 0 z)) (λ n. rw (ne_eqb number 0 n));
   }
 
-  pub rest_read : {end : ℕ} → (reading_of b).outcome ≡ Read end → HandsBack b (take (length b - end) (drop end b))
+  pub rest_read : {r : Found} → reading_of b ≡ Ok r → HandsBack b (take (length b - r.end) (drop r.end b))
   unfolding rest_of
-  rest_read {end} e = hands-back _ (take_all (length b - end) (drop end b) (simp length-drop (omega arith)) ∙ sym (ap (part_after b) e))
+  rest_read {r} e = hands-back _ (take_all (length b - r.end) (drop r.end b) (simp length-drop (omega arith)) ∙ sym (ap (part_after b) e))
 
-  pub rest-refused : {number at : ℕ} → (reading_of b).outcome ≡ Refused number at → HandsBack b (take (length b - length b) (drop (length b) b))
+  pub rest-refused : {x : Refused} → reading_of b ≡ Err x → HandsBack b (take (length b - length b) (drop (length b) b))
   unfolding rest_of
   rest-refused e = hands-back _ (take_all (length b - length b) (drop (length b) b) (simp length-drop (omega arith)) ∙ drop-length b ∙ sym (ap (part_after b) e))

@@ -2,26 +2,26 @@
 -- Assumes nothing.
 use Prim.Native.Nat.{ℕ, zero, suc, ◌+◌, ◌-◌, ◌^◌, ◌<◌}
 use native.Mathlib.Omega.{arith}
-use mathlib.Core.Path.{◌≡◌, refl, ap, ◌∙◌}
+use mathlib.Core.Path.{◌≡◌, refl, sym, ap, ◌∙◌, subst}
 use mathlib.Core.Logic.{◌⊎◌, inl, inr, ◌≢◌}
 use mathlib.Core.Bool.{true, false, ◌&&◌, false≢true}
 use mathlib.Core.List.{List}
 use lib.Dec.{eqb, ltb}
 use lib.ListN.{length}
 use borrow.Author.Tests.{ltb-true, eqb-true, eqb-false, not-true}
+use Rattle.std.specs.Prelude.{Result, Ok, Err}
+use Rattle.refusals.specs.Refusals.{number}
 use Rattle.lists.proofs.Bools.{test, and_l, and_r}
 use Rattle.policy.specs.declared.Policy.{Policy}
 use Rattle.policy.specs.Policies.{legal}
-use Rattle.policy.specs.Making.{zero_policy}
 use Rattle.policy.proofs.Making.{Sound, sound-counted, sound-edge, sound-quiet, sound-set, sound-legal, zero-illegal}
 use Rattle.reading.specs.declared.Draft.{Draft}
-use Rattle.reading.specs.declared.Answer.{Answer}
-use Rattle.reading.specs.declared.Outcome.{Outcome}
-use Rattle.reading.specs.declared.Outcome.TheVariants.{Read, Refused}
+use Rattle.reading.specs.declared.Found.{Found}
+use Rattle.reading.specs.declared.Refused.{Refused}
 use Rattle.reading.specs.declared.Command.{Command}
 use Rattle.reading.specs.declared.Command.TheVariants.{End, Shape, Edge, Accept, Quiet}
-use Rattle.reading.specs.Reading.{Stop, draft_after, all_given, command_at, complete_at_end, empty_draft, first_time, in_place, is_end, is_shape, next_offset, number_at, number_of, reading_of, refusal_of, stop_from, stop_most, stop_of, within_limits}
-use Rattle.reading.proofs.Questions.{passed}
+use Rattle.reading.specs.Reading.{Stop, draft_after, all_given, command_at, complete_at_end, empty_draft, first_time, in_place, is_end, is_shape, next_offset, number_at, number_of, policy_read, reading_of, refusal_of, stop_from, stop_most, stop_of, within_limits}
+use Rattle.reading.proofs.Questions.{number-refusal, passed}
 use Rattle.reading.proofs.Commands.{next-within, by-number}
 
 -- ---- each command keeps it
@@ -82,9 +82,9 @@ legal-at-end at d (Edge v a u k) s t e g = absurd (false≢true e)
 legal-at-end at d (Accept x) s t e g = absurd (false≢true e)
 legal-at-end at d (Quiet v a u) s t e g = absurd (false≢true e)
 
-abbrev Kept : Outcome → Policy → Type 0
-Kept (Read end) p = legal p ≡ true
-Kept (Refused number at) p = (p ≡ zero_policy) × (number ≢ 0)
+abbrev Kept : Result Found Refused → Type 0
+Kept (Ok r) = legal r.policy ≡ true
+Kept (Err e) = number e.refusal ≢ 0
 
 module _ (b : List ℕ) where
   -- the stop's draft is sound, unless it stops at the first command
@@ -117,9 +117,9 @@ module _ (b : List ℕ) where
       go (inl t) (inl e) ih = rw (t, e) (λ z. e)
       go (inl t) (inr e) ih = let w = next-within b at d (eqb-true (refusal_of b at d) 0 t) in rw (t, e) (ih (omega arith))
 
-  reading-kept : Kept (reading_of b).outcome (reading_of b).policy
+  reading-kept : Kept (reading_of b)
   unfolding stop_of stop_from number_at
-  reading-kept = by-number b (λ (a : Answer). Kept a.outcome a.policy) read (λ n. (refl, n))
+  reading-kept = by-number b Kept read (λ n z. n (sym (number-refusal b (stop_of b).at (stop_of b).draft n) ∙ z))
     where
       fuel : ℕ
       fuel = length b + 1 - 0
@@ -129,16 +129,27 @@ module _ (b : List ℕ) where
           let w = passed z in
           legal-at-end (stop_of b).at (stop_of b).draft (command_at b (stop_of b).at) (stop-stage fuel 0 empty_draft (inl refl)) w.place (stop-ends fuel 0 empty_draft (omega arith) z) w.complete
 
-  pub number-legal : number_of (reading_of b).outcome ≡ 0 → legal (reading_of b).policy ≡ true
-  number-legal = go (reading_of b).outcome reading-kept
-    where
-      go : (o : Outcome) → Kept o (reading_of b).policy → number_of o ≡ 0 → legal (reading_of b).policy ≡ true
-      go (Read end) k e = k
-      go (Refused number at) k e = absurd (k.1 e)
+  -- of an answer at hand
+  pub read-legal : {r : Found} → reading_of b ≡ Ok r → legal r.policy ≡ true
+  read-legal e = subst Kept e reading-kept
 
-  pub number-illegal : number_of (reading_of b).outcome ≢ 0 → legal (reading_of b).policy ≡ false
-  number-illegal = go (reading_of b).outcome reading-kept
+  pub refused-number : {x : Refused} → reading_of b ≡ Err x → number x.refusal ≢ 0
+  refused-number e = subst Kept e reading-kept
+
+  pub refused-illegal : {x : Refused} → reading_of b ≡ Err x → legal (policy_read (reading_of b)) ≡ false
+  refused-illegal e = ap (λ (a : Result Found Refused). legal (policy_read a)) e ∙ zero-illegal
+
+  -- by the number
+  pub number-legal : number_of (reading_of b) ≡ 0 → legal (policy_read (reading_of b)) ≡ true
+  number-legal = go (reading_of b) reading-kept
     where
-      go : (o : Outcome) → Kept o (reading_of b).policy → number_of o ≢ 0 → legal (reading_of b).policy ≡ false
-      go (Read end) k e = absurd (e refl)
-      go (Refused number at) k e = ap legal k.0 ∙ zero-illegal
+      go : (a : Result Found Refused) → Kept a → number_of a ≡ 0 → legal (policy_read a) ≡ true
+      go (Ok r) k e = k
+      go (Err x) k e = absurd (k e)
+
+  pub number-illegal : number_of (reading_of b) ≢ 0 → legal (policy_read (reading_of b)) ≡ false
+  number-illegal = go (reading_of b)
+    where
+      go : (a : Result Found Refused) → number_of a ≢ 0 → legal (policy_read a) ≡ false
+      go (Ok r) e = absurd (e refl)
+      go (Err x) e = zero-illegal

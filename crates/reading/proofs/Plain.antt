@@ -11,6 +11,7 @@ use lib.Dec.{eqb, ltb, leb}
 use lib.ListN.{length, get_or}
 use lib.Seq.{get_or-set_other}
 use borrow.Author.Tests.{lt-ltb, le-leb, leb-true, eqb-true, eq-eqb, ne_eqb, not-true}
+use Rattle.std.specs.Prelude.{Result}
 use Rattle.lists.proofs.Bools.{and_l, or_left, or_right, bool-ext}
 use Rattle.lists.proofs.Lists.{replicate-at}
 use Rattle.masks.specs.Masks.{has}
@@ -19,12 +20,13 @@ use Rattle.policy.specs.declared.Policy.{Policy}
 use Rattle.policy.specs.Policies.{edge_of, in_family, is_quiet}
 use Rattle.policy.specs.Making.{counted, zero_policy, with_edge, with_quiet, with_set, with_tables}
 use Rattle.reading.specs.declared.Draft.{Draft}
-use Rattle.reading.specs.declared.Answer.{Answer}
+use Rattle.reading.specs.declared.Found.{Found}
+use Rattle.reading.specs.declared.Refused.{Refused}
 use Rattle.reading.specs.declared.Command.{Command}
 use Rattle.reading.specs.declared.Command.TheVariants.{End, Shape, Edge, Accept, Quiet}
-use Rattle.reading.specs.Reading.{Stop, answer_at, command_at, command_known, draft_after, empty_draft, in_place, is_end, is_shape, next_offset, number_at, number_of, reading_of, refusal_of, stop_from, stop_most, stop_of, within_limits}
+use Rattle.reading.specs.Reading.{Stop, answer_at, command_at, command_known, draft_after, empty_draft, in_place, is_end, is_shape, next_offset, number_at, number_of, policy_read, reading_of, refusal_of, stop_from, stop_most, stop_of, within_limits}
 use Rattle.reading.specs.Plain.{Plain, PlainAt, offsets_from, offsets_most, offsets_of, plain_answer_at, plain_limits, plain_reading_of, plain_refusal, plain_stop_most}
-use Rattle.reading.proofs.Questions.{passed}
+use Rattle.reading.proofs.Questions.{number-refusal, passed}
 use Rattle.reading.proofs.Commands.{by-number}
 
 -- ---- the commands by their codes
@@ -78,15 +80,15 @@ module _ (b : List ℕ) where
 
   -- ---- the policy read
   -- no command taken is 0x04: no edge is quiet
-  pub loud-read : ((at : ℕ) → Memᴰ at (offsets_of b) → get_or b at 0 ≢ 4) → (reading_of b).policy.quiet ≡ 0
+  pub loud-read : ((at : ℕ) → Memᴰ at (offsets_of b) → get_or b at 0 ≢ 4) → (policy_read (reading_of b)).quiet ≡ 0
   unfolding offsets_of offsets_from stop_of stop_from empty_draft zero_policy counted
-  loud-read h = by-number b (λ (a : Answer). a.policy.quiet ≡ 0) (λ z. stop-keeps (λ (d : Draft). d.policy.quiet ≡ 0) (length b + 1 - 0) 0 empty_draft (λ o d m. quiet-after b o d (h o m)) refl) (λ n. refl)
+  loud-read h = by-number b (λ (a : Result Found Refused). (policy_read a).quiet ≡ 0) (λ z. stop-keeps (λ (d : Draft). d.policy.quiet ≡ 0) (length b + 1 - 0) 0 empty_draft (λ o d m. quiet-after b o d (h o m)) refl) (λ n. refl)
 
   -- no command taken accepts the empty set: it is not in the family
-  pub nonempty-read : ((at : ℕ) → Memᴰ at (offsets_of b) → get_or b at 0 ≡ 3 → get_or b (at + 1) 0 ≢ 0) → in_family (reading_of b).policy 0 ≡ false
+  pub nonempty-read : ((at : ℕ) → Memᴰ at (offsets_of b) → get_or b at 0 ≡ 3 → get_or b (at + 1) 0 ≢ 0) → in_family (policy_read (reading_of b)) 0 ≡ false
   unfolding offsets_of offsets_from stop_of stop_from empty_draft zero_policy counted in_family
   nonempty-read h =
-      by-number b (λ (a : Answer). in_family a.policy 0 ≡ false)
+      by-number b (λ (a : Result Found Refused). in_family (policy_read a) 0 ≡ false)
       (λ z. stop-keeps (λ (d : Draft). in_family d.policy 0 ≡ false) (length b + 1 - 0) 0 empty_draft (λ o d m. family-after b o d (h o m)) (replicate-at 256 0 false)) (λ n. replicate-at 256 0 false)
 
 -- ---- a quiet edge that is taken
@@ -165,12 +167,12 @@ module _ (b : List ℕ) where
         go true ih (Memᴰ.tail m) q = ih m q
 
   -- a command 0x04 that is taken: the edge of its state and letter is quiet in the policy read
-  pub quiet_read : (at : ℕ) → Memᴰ at (offsets_of b) → get_or b at 0 ≡ 4 → number_of (reading_of b).outcome ≡ 0
-      → is_quiet (reading_of b).policy (edge_of (reading_of b).policy (get_or b (at + 1) 0) (get_or b (at + 2) 0)) ≡ true
-  unfolding offsets_of offsets_from stop_of stop_from command_at
+  pub quiet_read : (at : ℕ) → Memᴰ at (offsets_of b) → get_or b at 0 ≡ 4 → number_of (reading_of b) ≡ 0
+      → is_quiet (policy_read (reading_of b)) (edge_of (policy_read (reading_of b)) (get_or b (at + 1) 0) (get_or b (at + 2) 0)) ≡ true
+  unfolding offsets_of offsets_from stop_of stop_from command_at number_at
   quiet_read at m e =
-      by-number b (λ (x : Answer). number_of x.outcome ≡ 0 → is_quiet x.policy (edge_of x.policy (get_or b (at + 1) 0) (get_or b (at + 2) 0)) ≡ true)
-      (λ z k. quiet-stop (get_or b (at + 1) 0) (get_or b (at + 2) 0) (get_or b (at + 3) 0) (length b + 1 - 0) 0 empty_draft at m (rw e)) (λ n k. absurd (n k))
+      by-number b (λ (x : Result Found Refused). number_of x ≡ 0 → is_quiet (policy_read x) (edge_of (policy_read x) (get_or b (at + 1) 0) (get_or b (at + 2) 0)) ≡ true)
+      (λ z k. quiet-stop (get_or b (at + 1) 0) (get_or b (at + 2) 0) (get_or b (at + 3) 0) (length b + 1 - 0) 0 empty_draft at m (rw e)) (λ n k. absurd (n (sym (number-refusal b (stop_of b).at (stop_of b).draft n) ∙ k)))
 
 -- ---- the questions
 pub plain_known : (code : ℕ) → code ≢ 4 → command_known code ≡ leb code 3
@@ -231,5 +233,5 @@ module _ (b : List ℕ) where
       rw number (ap (plain_answer_at b) stops)
 
   -- and their policy has no quiet edge, and no empty set in its family
-  pub plain-read : Plain b → ((reading_of b).policy.quiet ≡ 0) × (in_family (reading_of b).policy 0 ≡ false)
+  pub plain-read : Plain b → ((policy_read (reading_of b)).quiet ≡ 0) × (in_family (policy_read (reading_of b)) 0 ≡ false)
   plain-read h = (loud-read b (λ at m. (h.taken at m).0), nonempty-read b (λ at m. (h.taken at m).1))

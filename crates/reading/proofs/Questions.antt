@@ -2,14 +2,20 @@
 -- Assumes nothing.
 use Prim.Native.Nat.{ℕ, suc, ◌+◌, ◌-◌, ◌^◌, ◌≤◌, ◌<◌}
 use native.Mathlib.Omega.{arith}
-use mathlib.Core.Path.{◌≡◌, refl}
-use mathlib.Core.Bool.{Bool, true, false, ◌&&◌, cond}
+use mathlib.Core.Path.{◌≡◌, refl, sym, ap}
+use mathlib.Core.Logic.{◌⊎◌, inl, inr}
+use mathlib.Core.Bool.{Bool, true, false, ◌&&◌, false≢true}
 use mathlib.Core.List.{List}
-use lib.Dec.{ltb}
+use lib.Dec.{eqb, ltb}
 use lib.ListN.{length, get_or}
-use borrow.Author.Tests.{ltb-true, leb-true, lt-ltb, le-ltb, le-leb, lt-leb, eq-eqb}
+use borrow.Author.Tests.{ltb-true, leb-true, lt-ltb, le-ltb, le-leb, lt-leb, eqb-true, eqb-false, eq-eqb}
+use Rattle.std.specs.Prelude.{Result, Ok, Err}
+use Rattle.std.specs.Result.{is_ok}
+use Rattle.refusals.specs.declared.Refusal.{Refusal}
+use Rattle.refusals.specs.declared.Refusal.TheVariants.{Truncated, UnknownCommand, Misplaced, OutOfRange, Repeated, Incomplete}
+use Rattle.refusals.specs.Refusals.{number, refusal}
 use Rattle.lists.specs.Lists.{all, below}
-use Rattle.lists.proofs.Bools.{and_l, and_r, bool-ext}
+use Rattle.lists.proofs.Bools.{test, and_l, and_r, bool-ext}
 use Rattle.lists.proofs.Lists.{all-each, each_all, mem_below, below-lt}
 use Rattle.lists.specs.Questions.{ask}
 use Rattle.masks.specs.Masks.{has, inside}
@@ -20,8 +26,8 @@ use Rattle.policy.specs.Policies.{edges, edge_of}
 use Rattle.policy.proofs.Laws.{edge-lt}
 use Rattle.reading.specs.declared.Draft.{Draft}
 use Rattle.reading.specs.declared.Command.{Command}
-use Rattle.reading.specs.declared.Command.TheVariants.{Edge, Quiet}
-use Rattle.reading.specs.Reading.{Bounded, all_given, command_at, command_known, complete_at_end, first_time, in_place, operand_count, operands_there, refusal_of, within_limits}
+use Rattle.reading.specs.declared.Command.TheVariants.{End, Edge, Quiet}
+use Rattle.reading.specs.Reading.{Bounded, all_given, command_at, command_known, complete_at_end, first_time, in_place, operand_count, operands_there, refusal_of, taken_at, within_limits}
 
 -- ---- operands
 pub shape-count : {c : ℕ} → c ≡ 1 → operand_count c ≡ 4
@@ -82,34 +88,83 @@ pub record Whole (b : List ℕ) (at : ℕ) (c : Command) : Type 0 where
   pub is : c ≡ command_at b at
 
 module _ (b : List ℕ) (at : ℕ) (d : Draft) where
-  pub no_byte : length b ≤ at → 1 ≡ refusal_of b at d
-  unfolding refusal_of
+  pub no_byte : length b ≤ at → Err Truncated ≡ taken_at b at d
+  unfolding taken_at refusal_of
   no_byte h = rw (le-ltb at (length b) h)
 
-  pub no-command : at < length b → command_known (get_or b at 0) ≡ false → 2 ≡ refusal_of b at d
-  unfolding refusal_of
+  pub no-command : at < length b → command_known (get_or b at 0) ≡ false → Err UnknownCommand ≡ taken_at b at d
+  unfolding taken_at refusal_of
   no-command h k = rw (lt-ltb at (length b) h, k)
 
-  pub no-operands : (n : ℕ) → n ≡ operand_count (get_or b at 0) → at < length b → command_known (get_or b at 0) ≡ true → length b - (at + 1) < n → 1 ≡ refusal_of b at d
-  unfolding refusal_of operands_there
+  pub no-operands : (n : ℕ) → n ≡ operand_count (get_or b at 0) → at < length b → command_known (get_or b at 0) ≡ true → length b - (at + 1) < n → Err Truncated ≡ taken_at b at d
+  unfolding taken_at refusal_of operands_there
   no-operands n e h k o = rw (lt-ltb at (length b) h, k, ← e, lt-leb n (length b - (at + 1)) o)
 
 module _ {b : List ℕ} {at : ℕ} {c : Command} (d : Draft) (w : Whole b at c) where
-  pub no_place : in_place at c ≡ false → 3 ≡ refusal_of b at d
-  unfolding refusal_of
+  pub no_place : in_place at c ≡ false → Err Misplaced ≡ taken_at b at d
+  unfolding taken_at refusal_of
   no_place h = rw (lt-ltb at (length b) w.byte, w.known, w.there, ← w.is, h)
 
-  pub no-limits : in_place at c ≡ true → within_limits d.policy c ≡ false → 4 ≡ refusal_of b at d
-  unfolding refusal_of
+  pub no-limits : in_place at c ≡ true → within_limits d.policy c ≡ false → Err OutOfRange ≡ taken_at b at d
+  unfolding taken_at refusal_of
   no-limits g h = rw (lt-ltb at (length b) w.byte, w.known, w.there, ← w.is, g, h)
 
-  pub no-first : in_place at c ≡ true → within_limits d.policy c ≡ true → first_time d c ≡ false → 5 ≡ refusal_of b at d
-  unfolding refusal_of
+  pub no-first : in_place at c ≡ true → within_limits d.policy c ≡ true → first_time d c ≡ false → Err Repeated ≡ taken_at b at d
+  unfolding taken_at refusal_of
   no-first g h i = rw (lt-ltb at (length b) w.byte, w.known, w.there, ← w.is, g, h, i)
 
-  pub last-answer : in_place at c ≡ true → within_limits d.policy c ≡ true → first_time d c ≡ true → (x : Bool) → x ≡ complete_at_end d c → cond x 0 6 ≡ refusal_of b at d
+  pub no-end : in_place at c ≡ true → within_limits d.policy c ≡ true → first_time d c ≡ true → complete_at_end d c ≡ false → Err Incomplete ≡ taken_at b at d
+  unfolding taken_at refusal_of
+  no-end g h i j = rw (lt-ltb at (length b) w.byte, w.known, w.there, ← w.is, g, h, i, j)
+
+  -- no "no"
+  pub yes : in_place at c ≡ true → within_limits d.policy c ≡ true → first_time d c ≡ true → complete_at_end d c ≡ true → Ok c ≡ taken_at b at d
+  unfolding taken_at refusal_of
+  yes g h i j = rw (lt-ltb at (length b) w.byte, w.known, w.there, ← w.is, g, h, i, j)
+
+-- each number but 0 is that of its refusal
+asked-number : (x y z u v w q : Bool) → let n = ask x 1 (ask y 2 (ask z 1 (ask u 3 (ask v 4 (ask w 5 (ask q 6 0)))))) in (n ≡ 0 → ⊥) → number (refusal n) ≡ n
+asked-number true true true true true true true h = absurd (h refl)
+asked-number true true true true true true false h = refl
+asked-number true true true true true false q h = refl
+asked-number true true true true false w q h = refl
+asked-number true true true false v w q h = refl
+asked-number true true false u v w q h = refl
+asked-number true false z u v w q h = refl
+asked-number false y z u v w q h = refl
+
+module _ (b : List ℕ) (at : ℕ) (d : Draft) where
+  pub number-refusal : (refusal_of b at d ≡ 0 → ⊥) → number (refusal (refusal_of b at d)) ≡ refusal_of b at d
   unfolding refusal_of
-  last-answer g h i x e = rw (lt-ltb at (length b) w.byte, w.known, w.there, ← w.is, g, h, i, e)
+  number-refusal =
+      let c = command_at b at in
+      asked-number (ltb at (length b)) (command_known (get_or b at 0)) (operands_there b at) (in_place at c) (within_limits d.policy c) (first_time d c) (complete_at_end d c)
+
+-- what an answer says of the questions
+abbrev command-of : Result Command Refusal → Command
+command-of (Ok c) = c
+command-of (Err e) = End
+
+abbrev error-of : Result Command Refusal → Refusal
+error-of (Ok c) = Truncated
+error-of (Err e) = e
+
+module _ (b : List ℕ) (at : ℕ) (d : Draft) where
+  pub taken-all : {c : Command} → Ok c ≡ taken_at b at d → (refusal_of b at d ≡ 0) × (c ≡ command_at b at)
+  unfolding taken_at
+  taken-all {c} e = go (test (eqb (refusal_of b at d) 0))
+    where
+      go : (eqb (refusal_of b at d) 0 ≡ true) ⊎ (eqb (refusal_of b at d) 0 ≡ false) → (refusal_of b at d ≡ 0) × (c ≡ command_at b at)
+      go (inl t) = let m : Ok c ≡ Ok (command_at b at) = rw t at e in (eqb-true (refusal_of b at d) 0 t, ap command-of m)
+      go (inr f) = let m : Ok c ≡ Err (refusal (refusal_of b at d)) = rw f at e in absurd (false≢true (sym (ap (λ (x : Result Command Refusal). is_ok x) m)))
+
+  pub taken-none : {r : Refusal} → Err r ≡ taken_at b at d → (refusal_of b at d ≡ 0 → ⊥) × (r ≡ refusal (refusal_of b at d))
+  unfolding taken_at
+  taken-none {r} e = go (test (eqb (refusal_of b at d) 0))
+    where
+      go : (eqb (refusal_of b at d) 0 ≡ true) ⊎ (eqb (refusal_of b at d) 0 ≡ false) → (refusal_of b at d ≡ 0 → ⊥) × (r ≡ refusal (refusal_of b at d))
+      go (inl t) = let m : Err r ≡ Ok (command_at b at) = rw t at e in absurd (false≢true (ap (λ (x : Result Command Refusal). is_ok x) m))
+      go (inr f) = let m : Err r ≡ Err (refusal (refusal_of b at d)) = rw f at e in (eqb-false (refusal_of b at d) 0 f, ap error-of m)
 
 -- ---- every answer is "yes"
 ask-zero : (q : Bool) (n r : ℕ) → ask q (suc n) r ≡ 0 → (q ≡ true) × (r ≡ 0)

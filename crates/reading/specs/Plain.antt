@@ -1,14 +1,14 @@
 -- Reading by document 01's commands alone, where no edge is quiet and no empty set is accepted: the offsets of the commands that are taken, the questions as document 01 has them, and
 -- the reading by these. What it shares with Reading.antt has a case for 0x04, which is not met here.
-use Rattle.std.specs.Prelude.{ℕ, zero, suc, ◌+◌, ◌-◌, ◌^◌, ◌≡◌, ◌≢◌, Bool, true, false, not, ◌&&◌, cond, eqb, ltb, leb, length, get_or}
+use Rattle.std.specs.Prelude.{ℕ, zero, suc, ◌+◌, ◌-◌, ◌^◌, ◌≡◌, ◌≢◌, Bool, true, false, not, ◌&&◌, cond, eqb, ltb, leb, length, get_or, Result, Ok, Err}
 use mathlib.Core.List.{List, [], ◌∷◌, Memᴰ}
 use Rattle.lists.specs.Questions.{ask}
+use Rattle.refusals.specs.Refusals.{refusal}
 use Rattle.policy.specs.declared.Policy.{Policy}
 use Rattle.policy.specs.Policies.{counts_fit}
-use Rattle.policy.specs.Making.{zero_policy}
 use Rattle.reading.specs.declared.Draft.{Draft}
-use Rattle.reading.specs.declared.Answer.{Answer}
-use Rattle.reading.specs.declared.Outcome.TheVariants.{Read, Refused}
+use Rattle.reading.specs.declared.Found.{Found}
+use Rattle.reading.specs.declared.Refused.{Refused}
 use Rattle.reading.specs.declared.Command.{Command}
 use Rattle.reading.specs.declared.Command.TheVariants.{End, Shape, Edge, Accept, Quiet}
 use Rattle.reading.specs.Reading.{Stop, another_byte, command_at, complete_at_end, draft_after, empty_draft, first_time, in_place, is_end, next_offset, operands_there, refusal_of, stop_of}
@@ -58,12 +58,12 @@ plain_stop_most (suc n) bytes at d =
     let later = plain_stop_most n bytes (next_offset bytes at) (draft_after d c) in
     cond (eqb (plain_refusal bytes at d) 0 && not (is_end c)) later (record { at = at; draft = d })
 
-unfoldable pub plain_answer_at : List ℕ → Stop → Answer
+unfoldable pub plain_answer_at : List ℕ → Stop → Result Found Refused
 plain_answer_at bytes s =
     let number = plain_refusal bytes s.at s.draft in
-    cond (eqb number 0) (record { outcome = Read (s.at + 1); policy = s.draft.policy }) (record { outcome = Refused number s.at; policy = zero_policy })
+    cond (eqb number 0) (Ok (record { policy = s.draft.policy; end = s.at + 1 })) (Err (record { refusal = refusal number; at = s.at }))
 
-unfoldable pub plain_reading_of : List ℕ → Answer
+unfoldable pub plain_reading_of : List ℕ → Result Found Refused
 plain_reading_of bytes = plain_answer_at bytes (plain_stop_most (length bytes + 1) bytes 0 empty_draft)
 
 -- ---- bytes for which they are enough

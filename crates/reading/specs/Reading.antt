@@ -1,16 +1,17 @@
 -- Reading a policy from command bytes (document 01, "A policy", and "The gatekeeper's questions", paragraph "Reading").
 -- `bytes` are the caller's, `at` is the offset of a command's first byte, a draft is the policy so far with the edges given so far.
-use Rattle.std.specs.Prelude.{ℕ, zero, suc, ◌+◌, ◌-◌, ◌*◌, ◌^◌, ◌≤◌, ◌≡◌, Bool, true, false, not, ◌&&◌, cond, List, [], eqb, ltb, leb, length, get_or, drop}
+use Rattle.std.specs.Prelude.{ℕ, zero, suc, ◌+◌, ◌-◌, ◌*◌, ◌^◌, ◌≤◌, ◌≡◌, Bool, true, false, not, ◌&&◌, cond, List, [], eqb, ltb, leb, length, get_or, drop, Result, Ok, Err}
 use Rattle.lists.specs.Lists.{all, below}
 use Rattle.lists.specs.Questions.{ask}
 use Rattle.masks.specs.Masks.{has, insert}
+use Rattle.refusals.specs.declared.Refusal.{Refusal}
+use Rattle.refusals.specs.Refusals.{number, refusal}
 use Rattle.policy.specs.declared.Policy.{Policy}
 use Rattle.policy.specs.Policies.{edges, edge_of, in_family, counts_fit}
 use Rattle.policy.specs.Making.{counted, zero_policy, with_edge, with_quiet, with_set}
 use Rattle.reading.specs.declared.Draft.{Draft}
-use Rattle.reading.specs.declared.Answer.{Answer}
-use Rattle.reading.specs.declared.Outcome.{Outcome}
-use Rattle.reading.specs.declared.Outcome.TheVariants.{Read, Refused}
+use Rattle.reading.specs.declared.Found.{Found}
+use Rattle.reading.specs.declared.Refused.{Refused}
 use Rattle.reading.specs.declared.Command.{Command}
 use Rattle.reading.specs.declared.Command.TheVariants.{End, Shape, Edge, Accept, Quiet}
 
@@ -99,6 +100,10 @@ refusal_of bytes at d =
     (ask (first_time d c) 5
     (ask (complete_at_end d c) 6 0))))))
 
+-- the command at an offset, where each question is answered "yes"; the refusal of the first that is not
+unfoldable pub taken_at : List ℕ → ℕ → Draft → Result Command Refusal
+taken_at bytes at d = cond (eqb (refusal_of bytes at d) 0) (Ok (command_at bytes at)) (Err (refusal (refusal_of bytes at d)))
+
 -- ---- the reading
 -- before the first command
 unfoldable pub empty_draft : Draft
@@ -144,40 +149,45 @@ stop_of bytes = stop_from bytes 0 empty_draft
 unfoldable pub number_at : List ℕ → Stop → ℕ
 number_at bytes s = refusal_of bytes s.at s.draft
 
--- after a refusal the offset of the refused command, and the policy is all zero; after the end command the offset just past it, and the policy
-unfoldable pub answer_at : List ℕ → Stop → Answer
+-- after a refusal it and the offset of the refused command; after the end command the policy, and the offset just past it
+unfoldable pub answer_at : List ℕ → Stop → Result Found Refused
 answer_at bytes s =
-    cond (eqb (number_at bytes s) 0) (record { outcome = Read (s.at + 1); policy = s.draft.policy }) (record { outcome = Refused (number_at bytes s) s.at; policy = zero_policy })
+    cond (eqb (number_at bytes s) 0) (Ok (record { policy = s.draft.policy; end = s.at + 1 })) (Err (record { refusal = refusal (number_at bytes s); at = s.at }))
 
-unfoldable pub reading_of : List ℕ → Answer
+unfoldable pub reading_of : List ℕ → Result Found Refused
 reading_of bytes = answer_at bytes (stop_of bytes)
 
--- ---- document 01's number and values for each outcome
+-- ---- document 01's number and values for each answer
 -- the number of the refusal; 0 where the policy was read
-abbrev pub number_of : Outcome → ℕ
-number_of (Read end) = 0
-number_of (Refused number at) = number
+abbrev pub number_of : Result Found Refused → ℕ
+number_of (Ok r) = 0
+number_of (Err e) = number e.refusal
 
 -- where the part handed back begins; after a refusal, the offset of the refused command's first byte
-abbrev pub offset_of : Outcome → ℕ
-offset_of (Read end) = end
-offset_of (Refused number at) = at
+abbrev pub offset_of : Result Found Refused → ℕ
+offset_of (Ok r) = r.end
+offset_of (Err e) = e.at
+
+-- the policy read; all zero after a refusal
+abbrev pub policy_read : Result Found Refused → Policy
+policy_read (Ok r) = r.policy
+policy_read (Err e) = zero_policy
 
 -- what follows the end command; empty after a refusal
-abbrev pub part_after : List ℕ → Outcome → List ℕ
-part_after bytes (Read end) = drop end bytes
-part_after bytes (Refused number at) = []
+abbrev pub part_after : List ℕ → Result Found Refused → List ℕ
+part_after bytes (Ok r) = drop r.end bytes
+part_after bytes (Err e) = []
 
 unfoldable pub rest_of : List ℕ → List ℕ
-rest_of bytes = part_after bytes (reading_of bytes).outcome
+rest_of bytes = part_after bytes (reading_of bytes)
 
 -- ---- the promises
 -- what read promises of its answer
-pub record ReadsPolicy (bytes : List ℕ) (a : Answer) : Type 0 where
+pub record ReadsPolicy (bytes : List ℕ) (a : Result Found Refused) : Type 0 where
   pub answer_is : a ≡ reading_of bytes
-  pub number_is : number_of a.outcome ≡ number_at bytes (stop_of bytes)
-  pub offset_is : offset_of a.outcome ≡ cond (eqb (number_at bytes (stop_of bytes)) 0) ((stop_of bytes).at + 1) (stop_of bytes).at
-  pub policy_is : a.policy ≡ cond (eqb (number_at bytes (stop_of bytes)) 0) (stop_of bytes).draft.policy zero_policy
+  pub number_is : number_of a ≡ number_at bytes (stop_of bytes)
+  pub offset_is : offset_of a ≡ cond (eqb (number_at bytes (stop_of bytes)) 0) ((stop_of bytes).at + 1) (stop_of bytes).at
+  pub policy_is : policy_read a ≡ cond (eqb (number_at bytes (stop_of bytes)) 0) (stop_of bytes).draft.policy zero_policy
 
 -- what rest promises of the part that it hands back
 pub record HandsBack (bytes part : List ℕ) : Type 0 where

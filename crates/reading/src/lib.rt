@@ -4,7 +4,9 @@
 ghost use Rattle.std.specs.Prelude.{◌≡◌, true, ◌+◌, ◌-◌, ◌*◌, ◌<◌, ◌≤◌, ◌^◌, length};
 ghost use Rattle.policy.specs.Policies.{edge_of};
 ghost use Rattle.policy.specs.Making.{counted};
-ghost use Rattle.reading.specs.Reading.{Bounded, HandsBack, ReadsPolicy, all_given, command_at, command_known, complete_at_end, first_time, in_place, operand_count, operands_there, refusal_of, within_limits};
+ghost use Rattle.reading.specs.Reading.{Bounded, HandsBack, ReadsPolicy, all_given, command_at, command_known, complete_at_end, first_time, in_place, operand_count, operands_there, taken_at, within_limits};
+
+use refusals::Refusal;
 
 // A command with its operands.
 #[derive(Clone, Copy)]
@@ -27,19 +29,18 @@ pub struct Draft {
     pub given: u64,
 }
 
+// A policy that was read, and the offset just past its end command.
 #[derive(Clone, Copy)]
-pub enum Outcome {
-    // The offset just past the end command.
-    Read(usize),
-    // Document 01's number, and the offset of the refused command.
-    Refused(u8, usize),
+pub struct Found {
+    pub policy: policy::Policy,
+    pub end: usize,
 }
 
-// The policy is all zero after a refusal.
-#[derive(Clone, Copy)]
-pub struct Answer {
-    pub outcome: Outcome,
-    pub policy: policy::Policy,
+// A refusal, and the offset of the refused command.
+#[derive(Clone, Copy, Debug, PartialEq, Eq)]
+pub struct Refused {
+    pub refusal: Refusal,
+    pub at: usize,
 }
 
 // ---- commands
@@ -131,17 +132,16 @@ fn edge_of(p: &policy::Policy, state: u8, letter: u8) -> usize
     state as usize * p.letters as usize + letter as usize
 }
 
-fn is_first_time(d: &Draft, c: Command) -> bool
-    requires { (Bounded d.now.policy) × (within_limits d.now.policy c ≡ true) }
-    ensures { result ≡ first_time d.now c }
+fn is_first_time(p: &policy::Policy, given: u64, c: Command) -> bool
+    requires { (Bounded p.now) × (within_limits p.now c ≡ true) }
+    ensures { result ≡ first_time (record { policy = p.now; given = given }) c }
 {
-    let p = &d.policy;
     match c {
         Command::End => true,
         Command::Shape(_, _, _, _) => true,
-        Command::Edge(state, letter, _, _) => !masks::has(d.given, edge_of(p, state, letter)),
+        Command::Edge(state, letter, _, _) => !masks::has(given, edge_of(p, state, letter)),
         Command::Accept(set) => !p.family[set as usize],
-        Command::Quiet(state, letter, _) => !masks::has(d.given, edge_of(p, state, letter)),
+        Command::Quiet(state, letter, _) => !masks::has(given, edge_of(p, state, letter)),
     }
 }
 
@@ -152,12 +152,12 @@ fn all_given(given: u64, edges: usize) -> bool
     masks::inside(masks::full(edges), given)
 }
 
-fn is_complete_at_end(d: &Draft, c: Command) -> bool
-    requires { Bounded d.now.policy }
-    ensures { result ≡ complete_at_end d.now c }
+fn is_complete_at_end(p: &policy::Policy, given: u64, c: Command) -> bool
+    requires { Bounded p.now }
+    ensures { result ≡ complete_at_end (record { policy = p.now; given = given }) c }
 {
     match c {
-        Command::End => all_given(d.given, policy::edges(&d.policy)),
+        Command::End => all_given(given, policy::edges(p)),
         Command::Shape(_, _, _, _) => true,
         Command::Edge(_, _, _, _) => true,
         Command::Accept(_) => true,
@@ -165,86 +165,79 @@ fn is_complete_at_end(d: &Draft, c: Command) -> bool
     }
 }
 
-// The number of the first question that is answered no; 0 where there is none.
-fn refusal(bytes: &[u8], at: usize, d: &Draft) -> u8
-    requires { Bounded d.now.policy }
-    ensures { result ≡ refusal_of bytes.now at d.now }
+// The command at an offset; the refusal of the first question that is answered no. The draft's two parts are lent one by one: so the set of edges given stays in a register.
+fn taken_at(bytes: &[u8], at: usize, p: &policy::Policy, given: u64) -> Result<Command, Refusal>
+    requires { Bounded p.now }
+    ensures { result ≡ taken_at bytes.now at (record { policy = p.now; given = given }) }
 {
     if bytes.len() <= at {
-        return 1;
+        return Err(Refusal::Truncated);
     }
     let code = bytes[at];
     if !is_known(code) {
-        return 2;
+        return Err(Refusal::UnknownCommand);
     }
     if bytes.len() - (at + 1) < operand_count(code) {
-        return 1;
+        return Err(Refusal::Truncated);
     }
     let c = command_at(bytes, at);
     if !is_in_place(at, c) {
-        return 3;
+        return Err(Refusal::Misplaced);
     }
-    if !is_within_limits(&d.policy, c) {
-        return 4;
+    if !is_within_limits(p, c) {
+        return Err(Refusal::OutOfRange);
     }
-    if !is_first_time(d, c) {
-        return 5;
+    if !is_first_time(p, given, c) {
+        return Err(Refusal::Repeated);
     }
-    if !is_complete_at_end(d, c) {
-        return 6;
+    if !is_complete_at_end(p, given, c) {
+        return Err(Refusal::Incomplete);
     }
-    0
+    Ok(c)
 }
 
 // ---- reading
 // The policy of the commands up to the end command, or the first refusal. The draft's policy is written in place; it is all zero where the shape is given, at the first byte.
-pub fn read(bytes: &[u8]) -> Answer
+pub fn read(bytes: &[u8]) -> Result<Found, Refused>
     ensures { ReadsPolicy bytes.now result }
 {
-    let none = policy::counted(0, 0, 0, 0);
-    let mut d = Draft {
-        policy: none,
-        given: 0,
-    };
+    let mut p = policy::counted(0, 0, 0, 0);
+    let mut given = 0;
     let mut at = 0;
     loop {
-        let number = refusal(bytes, at, &d);
-        if number != 0 {
-            return Answer {
-                outcome: Outcome::Refused(number, at),
-                policy: none,
-            };
-        }
-        match command_at(bytes, at) {
+        let c = match taken_at(bytes, at, &p, given) {
+            Ok(c) => c,
+            Err(refusal) => return Err(Refused { refusal, at }),
+        };
+        match c {
             Command::End => {
-                let end = at + 1;
-                return Answer {
-                    outcome: Outcome::Read(end),
-                    policy: d.policy,
-                };
+                return Ok(Found {
+                    policy: p,
+                    end: at + 1,
+                });
             }
             Command::Shape(states, letters, colours, initial) => {
-                d.policy.states = states;
-                d.policy.letters = letters;
-                d.policy.colours = colours;
-                d.policy.initial = initial;
-                d.given = 0;
+                p.states = states;
+                p.letters = letters;
+                p.colours = colours;
+                p.initial = initial;
+                given = 0;
             }
             Command::Edge(state, letter, target, colour) => {
-                let e = edge_of(&d.policy, state, letter);
-                d.policy.target[e] = target;
-                d.policy.colour[e] = colour;
-                d.given = masks::with(d.given, e);
+                let e = edge_of(&p, state, letter);
+                p.target[e] = target;
+                p.colour[e] = colour;
+                given = masks::with(given, e);
             }
             Command::Accept(set) => {
-                d.policy.family[set as usize] = true;
+                p.family[set as usize] = true;
             }
             Command::Quiet(state, letter, target) => {
-                let e = edge_of(&d.policy, state, letter);
-                d.policy.target[e] = target;
-                d.policy.colour[e] = 0;
-                d.policy.quiet = masks::with(d.policy.quiet, e);
-                d.given = masks::with(d.given, e);
+                let e = edge_of(&p, state, letter);
+                p.target[e] = target;
+                p.colour[e] = 0;
+                p.quiet = masks::with(p.quiet, e);
+                given = masks::with(given, e);
             }
         }
         at = at + 1 + operand_count(bytes[at]);
@@ -255,8 +248,8 @@ pub fn read(bytes: &[u8]) -> Answer
 pub fn rest(bytes: &[u8]) -> &[u8]
     ensures { HandsBack bytes.now result.now }
 {
-    match read(bytes).outcome {
-        Outcome::Read(end) => &bytes[end..],
-        Outcome::Refused(_, _) => &bytes[bytes.len()..],
+    match read(bytes) {
+        Ok(found) => &bytes[found.end..],
+        Err(_) => &bytes[bytes.len()..],
     }
 }

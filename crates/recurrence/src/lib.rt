@@ -16,7 +16,7 @@ pub struct Search {
     // how many rounds ago the kept state was reached, and after how many it gives way
     pub since: usize,
     pub limit: usize,
-    // whether a state was seen again: then the value is what recurs
+    // whether a state was seen again: then the value is what recurs. No Option: the value goes on from round to round before, too
     pub found: bool,
 }
 

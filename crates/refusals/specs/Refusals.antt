@@ -24,7 +24,7 @@ number NoSuchOwner = 17
 number NotHanoi = 18
 number TooManyMarkSets = 19
 
--- the refusal with a number from 1 to 19; of any other number it is undecided
+-- the refusal with a number from 1 to 19; no other number is asked for
 abbrev pub refusal : ℕ → Refusal
 refusal n =
     cond (eqb n 1) Truncated

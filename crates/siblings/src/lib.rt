@@ -47,6 +47,7 @@ pub fn insert(list: &[u64], kids: &mut [u16], count: usize, i: usize)
     ensures { kids.new ≡ carried list.now count i kids.old }
 {
     let mut carry = i as u16;
+    // By index: what stands in a place is carried on to the next.
     for j in 0..count {
         let k = kids[j];
         if is_before(list, carry, k) {

@@ -13,6 +13,7 @@ fn finish(g: &Game<'_>, marks: &mut [u8], choices: &mut [u8])
     requires { (length g.now.sources.now ≤ length marks.old) × (length g.now.sources.now ≤ length choices.old) × ((s : ℕ) → s < length g.now.sources.now → 1 ≤ get_or marks.old s 0) }
     ensures { Finished g.now.owners.now g.now.sources.now (length g.now.sources.now) marks.old choices.old marks.new choices.new }
 {
+    // By index: two tables are written, and the owner is asked by the number of the state.
     for s in 0..g.sources.len() {
         let winner = marks[s] - 1;
         let own = g.is_owned(winner == 1, s);

@@ -1,7 +1,7 @@
 -- What the calls that solve the supervisor's game return and write: the number, the counts, the nine tables and, from command bytes, the offset.
 use Rattle.std.specs.Prelude.{ℕ, ◌≡◌, List}
 use Rattle.policy.specs.declared.Policy.{Policy}
-use Rattle.reading.specs.Reading.{reading_of, offset_of, number_of as read_number_of}
+use Rattle.reading.specs.Reading.{reading_of, offset_of, policy_read, number_of as read_number_of}
 use Rattle.builder.specs.Tables.{Tables, Hold, counts_of, number_of}
 use Rattle.answers.specs.Answers.{first_of, offset_after}
 use Rattle.solving.specs.Solving.{solving_of, seven_after, winners_after, LettersAfter}
@@ -22,6 +22,6 @@ module _ (owners : List ℕ) (t : Tables) (winners letters : List ℕ) where
 
   -- of command bytes: the first of two refusals, the policy read solved, and the offset
   pub record SolvesBytes (bytes : List ℕ) (number : ℕ) (counts : List ℕ) (exit : Tables) (winners_exit letters_exit : List ℕ) (offset : ℕ) : Type 0 where
-    pub number_is : number ≡ first_of (read_number_of (reading_of bytes).outcome) (number_of (solving_of (reading_of bytes).policy owners t winners letters))
-    pub solved : AfterSolving (reading_of bytes).policy counts exit winners_exit letters_exit
-    pub offset_is : offset ≡ offset_after (read_number_of (reading_of bytes).outcome) (number_of (solving_of (reading_of bytes).policy owners t winners letters)) (offset_of (reading_of bytes).outcome)
+    pub number_is : number ≡ first_of (read_number_of (reading_of bytes)) (number_of (solving_of (policy_read (reading_of bytes)) owners t winners letters))
+    pub solved : AfterSolving (policy_read (reading_of bytes)) counts exit winners_exit letters_exit
+    pub offset_is : offset ≡ offset_after (read_number_of (reading_of bytes)) (number_of (solving_of (policy_read (reading_of bytes)) owners t winners letters)) (offset_of (reading_of bytes))

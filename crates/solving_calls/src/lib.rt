@@ -60,16 +60,16 @@ pub fn solve_bytes(
 ) -> u8
     ensures { SolvesBytes owners.now (tables masks.old parents.old node_priorities.old sources.old leaves.old targets.old priorities.old) winners.old letters.old bytes.now result counts.new (tables masks.new parents.new node_priorities.new sources.new leaves.new targets.new priorities.new) winners.new letters.new offset.new }
 {
-    let answer = reading::read(bytes);
-    let outcome = answer.outcome;
-    let read = answers::of_reading(outcome);
-    if read.number != 0 {
-        *counts = [0, 0, 0];
-        *offset = read.offset;
-        return read.number;
-    }
+    let found = match reading::read(bytes) {
+        Ok(found) => found,
+        Err(refused) => {
+            *counts = [0, 0, 0];
+            *offset = refused.at;
+            return refused.refusal.number();
+        }
+    };
     let t = solving::solve_legal(
-        &answer.policy,
+        &found.policy,
         owners,
         masks,
         parents,
@@ -82,6 +82,6 @@ pub fn solve_bytes(
         letters,
     );
     let number = answers::of_translation(t, counts);
-    *offset = answers::unless_refused(number, read.offset);
+    *offset = answers::unless_refused(number, found.end);
     number
 }

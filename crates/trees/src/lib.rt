@@ -145,6 +145,7 @@ fn grow(
     let count = find_children(lists, m, verdict, &mut scratch[free..]);
     let first = first_other(lists.accepting.len(), verdict);
     let mut next = at + 1;
+    // By index: the rest of the scratch is lent in between.
     for j in 0..count {
         let i = first + scratch[free + j] as usize;
         next = plant(

@@ -24,8 +24,9 @@ use Rattle.std.specs.Prelude.{Result}
 use Rattle.refusals.specs.declared.Refusal.{Refusal}
 use Rattle.running.specs.Running.{reading_of, run_after}
 use Rattle.records.specs.Records.{policy_of, record_of}
-use Rattle.reading.specs.Reading.{reading_of as bytes_reading_of, offset_of, number_of as read_number_of}
-use Rattle.reading.specs.declared.Answer.{Answer}
+use Rattle.reading.specs.Reading.{reading_of as bytes_reading_of, offset_of, policy_read, number_of as read_number_of}
+use Rattle.reading.specs.declared.Found.{Found}
+use Rattle.reading.specs.declared.Refused.{Refused}
 use Rattle.answers.specs.Answers.{first_of, offset_after}
 use Rattle.correctness.specs.Calls.{Call, Translating, read, read_shows, wulfrenda_run, wulfrenda_run_shows}
 use Rattle.correctness.specs.Known.{B}
@@ -98,15 +99,15 @@ wulfrenda-solve-bytes-call : List ℕ → List ℕ → Tables → List ℕ → L
 unfolding place_of mut_of slices
 wulfrenda-solve-bytes-call bytes owners t winners letters =
     let a = bytes_reading_of bytes in
-    let p = a.policy in
+    let p = policy_read a in
     let l = letters-exist p owners t winners letters in
     let q = solving_of p owners t winners letters in
     record {
       at = record {
         lifetimes = ([], ([], ([], ([], ([], ([], ([], ([], ([], ([], ([], ([], ([], tt)))))))))))));
         given = (place_of bytes, (place_of owners, slices t (mut_of winners, (mut_of letters, (mut_of (0 ∷ 0 ∷ 0 ∷ []), (mut_of 0, tt))))));
-        answer = first_of (read_number_of a.outcome) (translate_number_of q);
-        left = (place_of bytes, (place_of owners, slices (seven_after p owners t winners letters) (mut_of (winners_after p owners t winners letters), (mut_of l.0, (mut_of (counts_of q), (mut_of (offset_after (read_number_of a.outcome) (translate_number_of q) (offset_of a.outcome)), tt))))));
+        answer = first_of (read_number_of a) (translate_number_of q);
+        left = (place_of bytes, (place_of owners, slices (seven_after p owners t winners letters) (mut_of (winners_after p owners t winners letters), (mut_of l.0, (mut_of (counts_of q), (mut_of (offset_after (read_number_of a) (translate_number_of q) (offset_of a)), tt))))));
       };
       learnt = (refl, (refl, (hold-same (seven_after p owners t winners letters), (refl, (l.1, refl)))));
     }
@@ -266,12 +267,12 @@ unfolding place_of mut_of slices wulfrenda-solve-bytes-call first_of
 library-from-bytes =
     let c = wulfrenda-solve-bytes-call bytes_of_b owners_of_b room wide wide in
     let s = wulfrenda_solve_bytes_shows c.at in
-    let number : Answer → ℕ = λ (a : Answer). first_of (read_number_of a.outcome) (translate_number_of (solving_of a.policy owners_of_b room wide wide)) in
+    let number : Result Found Refused → ℕ = λ (a : Result Found Refused). first_of (read_number_of a) (translate_number_of (solving_of (policy_read a) owners_of_b room wide wide)) in
     let returned : s.translating.number ≡ 0 = ap number bytes-give ∙ ap translate_number_of b-solved in
     let done = wulfrenda-solved-bytes c returned in
     record {
       call = c;
-      policy_is = ap (λ (a : Answer). a.policy) bytes-give;
+      policy_is = ap policy_read bytes-give;
       owners_are = refl;
       succeeded = returned;
       calls = λ n h. runs s done n h;

@@ -33,7 +33,7 @@ pub wulfrenda-solved-bytes : (c : Call wulfrenda_solve_bytes) → (wulfrenda_sol
 wulfrenda-solved-bytes c returned =
     let s = wulfrenda_solve_bytes_shows c.at in
     record {
-      number_is = second_none (read_number_of (bytes_reading_of c.at.given.0.now).outcome)
+      number_is = second_none (read_number_of (bytes_reading_of c.at.given.0.now))
           (translate_number_of (solving_of s.translating.policy s.owners s.translating.entry s.winners_entry s.letters_entry)) (sym c.learnt.0 ∙ returned);
       counts_are = c.learnt.1.0;
       tables_are = c.learnt.1.1.0;

@@ -1,6 +1,6 @@
 -- The calls that solve. As of the calls of demand 3 (correctness/specs/Calls.antt), nothing is known of one but what the contract in the source promises.
 use Rattle.std.specs.Prelude.{ℕ, ◌≡◌, List, [], ◌∷◌}
-use Rattle.reading.specs.Reading.{reading_of as bytes_reading_of, offset_of, number_of as read_number_of}
+use Rattle.reading.specs.Reading.{reading_of as bytes_reading_of, offset_of, policy_read, number_of as read_number_of}
 use Rattle.builder.specs.Tables.{Hold, counts_of, number_of as translate_number_of}
 use Rattle.records.specs.Records.{policy_of}
 use Rattle.answers.specs.Answers.{first_of, offset_after}
@@ -86,7 +86,7 @@ wulfrenda_solve_shows x = record {
 abbrev pub wulfrenda_solve_bytes_shows : Places wulfrenda_solve_bytes → Solving
 wulfrenda_solve_bytes_shows x = record {
   translating = record {
-    policy = (bytes_reading_of x.given.0.now).policy;
+    policy = policy_read (bytes_reading_of x.given.0.now);
     entry = seven x.given.1.1;
     number = x.answer;
     counts = x.left.1.1.1.1.1.1.1.1.1.1.1.0.now;
@@ -130,7 +130,7 @@ abbrev pub wulfrenda_solve_bytes_says : Places wulfrenda_solve_bytes → List (T
 wulfrenda_solve_bytes_says x =
     let s = wulfrenda_solve_bytes_shows x in
     let t = s.translating in
-    let read = (bytes_reading_of x.given.0.now).outcome in
+    let read = bytes_reading_of x.given.0.now in
     let q = solving_of t.policy s.owners t.entry s.winners_entry s.letters_entry in
     (t.number ≡ first_of (read_number_of read) (translate_number_of q)) ∷ (t.counts ≡ counts_of q) ∷ TablesHold s ∷ WinnersHold s ∷ LettersHold s
     ∷ (x.left.1.1.1.1.1.1.1.1.1.1.1.1.0.now ≡ offset_after (read_number_of read) (translate_number_of q) (offset_of read)) ∷ []

@@ -6,8 +6,8 @@
 ghost use Rattle.std.specs.Prelude.{◌≡◌, cond};
 ghost use Rattle.lists.specs.Questions.{ask};
 ghost use Rattle.colour_sets.specs.Order.{set_at};
-ghost use Rattle.reading.specs.Reading.{offset_of, reading_of, number_of as read_number_of};
-ghost use Rattle.hanoi.specs.Answers.{shared_of, Answers, number_of as text_number_of};
+ghost use Rattle.reading.specs.Reading.{offset_of, policy_read, reading_of, number_of as read_number_of};
+ghost use Rattle.hanoi.specs.Answers.{shared_of, policy_read as text_policy, Answers, number_of as text_number_of};
 ghost use Rattle.hanoi.specs.Reading.{hanoi_of};
 ghost use Rattle.builder.specs.Tables.{counts_of, translation_of, tables_after, Hold, tables, number_of as translate_number_of};
 ghost use Rattle.solving.specs.Solving.{solving_of, seven_after, winners_after, LettersAfter};
@@ -37,42 +37,52 @@ pub fn wulfrenda_colour_set(position: u8) -> u8
 // The record of the policy that the command bytes give, and where what follows the end command begins; after a refused reading a record of zeros, and the offset of the refused
 // command. The record's length is asked first: another one is 7, the record as it was, the offset 0.
 pub fn wulfrenda_read(bytes: &[u8], packed: &mut [u8], offset: &mut usize) -> u8
-    ensures number { result ≡ ask (is_record packed.old) 7 (read_number_of (reading_of bytes.now).outcome) }
-    ensures policy { packed.new ≡ cond (is_record packed.old) (record_of (reading_of bytes.now).policy) packed.old }
-    ensures offset { offset.new ≡ cond (is_record packed.old) (offset_of (reading_of bytes.now).outcome) 0 }
+    ensures number { result ≡ ask (is_record packed.old) 7 (read_number_of (reading_of bytes.now)) }
+    ensures policy { packed.new ≡ cond (is_record packed.old) (record_of (policy_read (reading_of bytes.now))) packed.old }
+    ensures offset { offset.new ≡ cond (is_record packed.old) (offset_of (reading_of bytes.now)) 0 }
 {
     if packed.len() != records::LENGTH {
         *offset = 0;
         return 7;
     }
-    let answer = reading::read(bytes);
-    let p = answer.policy;
-    let outcome = answer.outcome;
-    records::put_record(packed, p);
-    let values = answers::of_reading(outcome);
-    *offset = values.offset;
-    values.number
+    match reading::read(bytes) {
+        Ok(found) => {
+            records::put_record(packed, found.policy);
+            *offset = found.end;
+            0
+        }
+        Err(refused) => {
+            records::put_record(packed, policy::counted(0, 0, 0, 0));
+            *offset = refused.at;
+            refused.refusal.number()
+        }
+    }
 }
 
 // The record of the policy of a text of the Hanoi format; after a refused reading a record of zeros, and beside 18 the length of the longest beginning that some text of the subset
 // shares. The record's length is asked first: another one is 7, the record as it was, the length 0. The last clause says what the answer means, by documents alone.
 pub fn wulfrenda_read_hanoi(text: &[u8], packed: &mut [u8], shared: &mut usize) -> u8
-    ensures number { result ≡ ask (is_record packed.old) 7 (text_number_of (hanoi_of text.now).outcome) }
-    ensures policy { packed.new ≡ cond (is_record packed.old) (record_of (hanoi_of text.now).policy) packed.old }
-    ensures shared { shared.new ≡ cond (is_record packed.old) (shared_of (hanoi_of text.now).outcome) 0 }
+    ensures number { result ≡ ask (is_record packed.old) 7 (text_number_of (hanoi_of text.now)) }
+    ensures policy { packed.new ≡ cond (is_record packed.old) (record_of (text_policy (hanoi_of text.now))) packed.old }
+    ensures shared { shared.new ≡ cond (is_record packed.old) (shared_of (hanoi_of text.now)) 0 }
     ensures meaning { Answers text.now (hanoi_of text.now) }
 {
     if packed.len() != records::LENGTH {
         *shared = 0;
         return 7;
     }
-    let answer = hanoi_reader::read(text);
-    let p = answer.policy;
-    let outcome = answer.outcome;
-    records::put_record(packed, p);
-    let values = answers::of_text(outcome);
-    *shared = values.shared;
-    values.number
+    match hanoi_reader::read(text) {
+        Ok(policy) => {
+            records::put_record(packed, policy);
+            *shared = 0;
+            0
+        }
+        Err(refused) => {
+            records::put_record(packed, policy::counted(0, 0, 0, 0));
+            *shared = refused.shared;
+            refused.refusal.number()
+        }
+    }
 }
 
 // The forest and the automaton in the seven tables; the numbers of nodes and states, and the start, in counts.
@@ -119,21 +129,21 @@ pub fn wulfrenda_translate_bytes(
     counts: &mut [u16; 3],
     offset: &mut usize,
 ) -> u8
-    ensures number { result ≡ first_of (read_number_of (reading_of bytes.now).outcome) (translate_number_of (translation_of (reading_of bytes.now).policy (tables masks.old parents.old node_priorities.old sources.old leaves.old targets.old priorities.old))) }
-    ensures counts { counts.new ≡ counts_of (translation_of (reading_of bytes.now).policy (tables masks.old parents.old node_priorities.old sources.old leaves.old targets.old priorities.old)) }
-    ensures tables { Hold (tables_after (reading_of bytes.now).policy (tables masks.old parents.old node_priorities.old sources.old leaves.old targets.old priorities.old)) masks.new parents.new node_priorities.new sources.new leaves.new targets.new priorities.new }
-    ensures offset { offset.new ≡ offset_after (read_number_of (reading_of bytes.now).outcome) (translate_number_of (translation_of (reading_of bytes.now).policy (tables masks.old parents.old node_priorities.old sources.old leaves.old targets.old priorities.old))) (offset_of (reading_of bytes.now).outcome) }
+    ensures number { result ≡ first_of (read_number_of (reading_of bytes.now)) (translate_number_of (translation_of (policy_read (reading_of bytes.now)) (tables masks.old parents.old node_priorities.old sources.old leaves.old targets.old priorities.old))) }
+    ensures counts { counts.new ≡ counts_of (translation_of (policy_read (reading_of bytes.now)) (tables masks.old parents.old node_priorities.old sources.old leaves.old targets.old priorities.old)) }
+    ensures tables { Hold (tables_after (policy_read (reading_of bytes.now)) (tables masks.old parents.old node_priorities.old sources.old leaves.old targets.old priorities.old)) masks.new parents.new node_priorities.new sources.new leaves.new targets.new priorities.new }
+    ensures offset { offset.new ≡ offset_after (read_number_of (reading_of bytes.now)) (translate_number_of (translation_of (policy_read (reading_of bytes.now)) (tables masks.old parents.old node_priorities.old sources.old leaves.old targets.old priorities.old))) (offset_of (reading_of bytes.now)) }
 {
-    let answer = reading::read(bytes);
-    let outcome = answer.outcome;
-    let read = answers::of_reading(outcome);
-    if read.number != 0 {
-        *counts = [0, 0, 0];
-        *offset = read.offset;
-        return read.number;
-    }
+    let found = match reading::read(bytes) {
+        Ok(found) => found,
+        Err(refused) => {
+            *counts = [0, 0, 0];
+            *offset = refused.at;
+            return refused.refusal.number();
+        }
+    };
     let t = builder::translate_legal(
-        &answer.policy,
+        &found.policy,
         masks,
         parents,
         node_priorities,
@@ -143,7 +153,7 @@ pub fn wulfrenda_translate_bytes(
         priorities,
     );
     let number = answers::of_translation(t, counts);
-    *offset = answers::unless_refused(number, read.offset);
+    *offset = answers::unless_refused(number, found.end);
     number
 }
 
@@ -200,12 +210,12 @@ pub fn wulfrenda_solve_bytes(
     counts: &mut [u16; 3],
     offset: &mut usize,
 ) -> u8
-    ensures number { result ≡ first_of (read_number_of (reading_of bytes.now).outcome) (translate_number_of (solving_of (reading_of bytes.now).policy owners.now (tables masks.old parents.old node_priorities.old sources.old leaves.old targets.old priorities.old) winners.old letters.old)) }
-    ensures counts { counts.new ≡ counts_of (solving_of (reading_of bytes.now).policy owners.now (tables masks.old parents.old node_priorities.old sources.old leaves.old targets.old priorities.old) winners.old letters.old) }
-    ensures tables { Hold (seven_after (reading_of bytes.now).policy owners.now (tables masks.old parents.old node_priorities.old sources.old leaves.old targets.old priorities.old) winners.old letters.old) masks.new parents.new node_priorities.new sources.new leaves.new targets.new priorities.new }
-    ensures winners { winners.new ≡ winners_after (reading_of bytes.now).policy owners.now (tables masks.old parents.old node_priorities.old sources.old leaves.old targets.old priorities.old) winners.old letters.old }
-    ensures letters { LettersAfter (reading_of bytes.now).policy owners.now (tables masks.old parents.old node_priorities.old sources.old leaves.old targets.old priorities.old) winners.old letters.old letters.new }
-    ensures offset { offset.new ≡ offset_after (read_number_of (reading_of bytes.now).outcome) (translate_number_of (solving_of (reading_of bytes.now).policy owners.now (tables masks.old parents.old node_priorities.old sources.old leaves.old targets.old priorities.old) winners.old letters.old)) (offset_of (reading_of bytes.now).outcome) }
+    ensures number { result ≡ first_of (read_number_of (reading_of bytes.now)) (translate_number_of (solving_of (policy_read (reading_of bytes.now)) owners.now (tables masks.old parents.old node_priorities.old sources.old leaves.old targets.old priorities.old) winners.old letters.old)) }
+    ensures counts { counts.new ≡ counts_of (solving_of (policy_read (reading_of bytes.now)) owners.now (tables masks.old parents.old node_priorities.old sources.old leaves.old targets.old priorities.old) winners.old letters.old) }
+    ensures tables { Hold (seven_after (policy_read (reading_of bytes.now)) owners.now (tables masks.old parents.old node_priorities.old sources.old leaves.old targets.old priorities.old) winners.old letters.old) masks.new parents.new node_priorities.new sources.new leaves.new targets.new priorities.new }
+    ensures winners { winners.new ≡ winners_after (policy_read (reading_of bytes.now)) owners.now (tables masks.old parents.old node_priorities.old sources.old leaves.old targets.old priorities.old) winners.old letters.old }
+    ensures letters { LettersAfter (policy_read (reading_of bytes.now)) owners.now (tables masks.old parents.old node_priorities.old sources.old leaves.old targets.old priorities.old) winners.old letters.old letters.new }
+    ensures offset { offset.new ≡ offset_after (read_number_of (reading_of bytes.now)) (translate_number_of (solving_of (policy_read (reading_of bytes.now)) owners.now (tables masks.old parents.old node_priorities.old sources.old leaves.old targets.old priorities.old) winners.old letters.old)) (offset_of (reading_of bytes.now)) }
 {
     solving_calls::solve_bytes(
         bytes,

@@ -4,8 +4,8 @@
 ghost use Rattle.std.specs.Prelude.{◌≡◌, cond};
 ghost use Rattle.lists.specs.Questions.{ask};
 ghost use Rattle.colour_sets.specs.Order.{set_at};
-ghost use Rattle.reading.specs.Reading.{offset_of, reading_of, number_of as read_number_of};
-ghost use Rattle.hanoi.specs.Answers.{shared_of, Answers, number_of as text_number_of};
+ghost use Rattle.reading.specs.Reading.{offset_of, policy_read, reading_of, number_of as read_number_of};
+ghost use Rattle.hanoi.specs.Answers.{shared_of, policy_read as text_policy, Answers, number_of as text_number_of};
 ghost use Rattle.hanoi.specs.Reading.{hanoi_of};
 ghost use Rattle.builder.specs.Tables.{counts_of, translation_of, tables_after, Hold, tables, number_of as translate_number_of};
 ghost use Rattle.solving.specs.Solving.{solving_of, seven_after, winners_after, LettersAfter};
@@ -36,9 +36,9 @@ pub extern "C" fn wulfrenda_colour_set(position: u8) -> u8
 // command. The record's length is asked first: another one is 7, the record as it was, the offset 0.
 #[unsafe(no_mangle)]
 pub extern "C" fn wulfrenda_read(bytes: &[u8], packed: &mut [u8], offset: &mut usize) -> u8
-    ensures number { result ≡ ask (is_record packed.old) 7 (read_number_of (reading_of bytes.now).outcome) }
-    ensures policy { packed.new ≡ cond (is_record packed.old) (record_of (reading_of bytes.now).policy) packed.old }
-    ensures offset { offset.new ≡ cond (is_record packed.old) (offset_of (reading_of bytes.now).outcome) 0 }
+    ensures number { result ≡ ask (is_record packed.old) 7 (read_number_of (reading_of bytes.now)) }
+    ensures policy { packed.new ≡ cond (is_record packed.old) (record_of (policy_read (reading_of bytes.now))) packed.old }
+    ensures offset { offset.new ≡ cond (is_record packed.old) (offset_of (reading_of bytes.now)) 0 }
 {
     wulfrenda::wulfrenda_read(bytes, packed, offset)
 }
@@ -47,9 +47,9 @@ pub extern "C" fn wulfrenda_read(bytes: &[u8], packed: &mut [u8], offset: &mut u
 // shares. The record's length is asked first: another one is 7, the record as it was, the length 0. The last clause says what the answer means, by documents alone.
 #[unsafe(no_mangle)]
 pub extern "C" fn wulfrenda_read_hanoi(text: &[u8], packed: &mut [u8], shared: &mut usize) -> u8
-    ensures number { result ≡ ask (is_record packed.old) 7 (text_number_of (hanoi_of text.now).outcome) }
-    ensures policy { packed.new ≡ cond (is_record packed.old) (record_of (hanoi_of text.now).policy) packed.old }
-    ensures shared { shared.new ≡ cond (is_record packed.old) (shared_of (hanoi_of text.now).outcome) 0 }
+    ensures number { result ≡ ask (is_record packed.old) 7 (text_number_of (hanoi_of text.now)) }
+    ensures policy { packed.new ≡ cond (is_record packed.old) (record_of (text_policy (hanoi_of text.now))) packed.old }
+    ensures shared { shared.new ≡ cond (is_record packed.old) (shared_of (hanoi_of text.now)) 0 }
     ensures meaning { Answers text.now (hanoi_of text.now) }
 {
     wulfrenda::wulfrenda_read_hanoi(text, packed, shared)
@@ -100,10 +100,10 @@ pub extern "C" fn wulfrenda_translate_bytes(
     counts: &mut [u16; 3],
     offset: &mut usize,
 ) -> u8
-    ensures number { result ≡ first_of (read_number_of (reading_of bytes.now).outcome) (translate_number_of (translation_of (reading_of bytes.now).policy (tables masks.old parents.old node_priorities.old sources.old leaves.old targets.old priorities.old))) }
-    ensures counts { counts.new ≡ counts_of (translation_of (reading_of bytes.now).policy (tables masks.old parents.old node_priorities.old sources.old leaves.old targets.old priorities.old)) }
-    ensures tables { Hold (tables_after (reading_of bytes.now).policy (tables masks.old parents.old node_priorities.old sources.old leaves.old targets.old priorities.old)) masks.new parents.new node_priorities.new sources.new leaves.new targets.new priorities.new }
-    ensures offset { offset.new ≡ offset_after (read_number_of (reading_of bytes.now).outcome) (translate_number_of (translation_of (reading_of bytes.now).policy (tables masks.old parents.old node_priorities.old sources.old leaves.old targets.old priorities.old))) (offset_of (reading_of bytes.now).outcome) }
+    ensures number { result ≡ first_of (read_number_of (reading_of bytes.now)) (translate_number_of (translation_of (policy_read (reading_of bytes.now)) (tables masks.old parents.old node_priorities.old sources.old leaves.old targets.old priorities.old))) }
+    ensures counts { counts.new ≡ counts_of (translation_of (policy_read (reading_of bytes.now)) (tables masks.old parents.old node_priorities.old sources.old leaves.old targets.old priorities.old)) }
+    ensures tables { Hold (tables_after (policy_read (reading_of bytes.now)) (tables masks.old parents.old node_priorities.old sources.old leaves.old targets.old priorities.old)) masks.new parents.new node_priorities.new sources.new leaves.new targets.new priorities.new }
+    ensures offset { offset.new ≡ offset_after (read_number_of (reading_of bytes.now)) (translate_number_of (translation_of (policy_read (reading_of bytes.now)) (tables masks.old parents.old node_priorities.old sources.old leaves.old targets.old priorities.old))) (offset_of (reading_of bytes.now)) }
 {
     wulfrenda::wulfrenda_translate_bytes(
         bytes,
@@ -174,12 +174,12 @@ pub extern "C" fn wulfrenda_solve_bytes(
     counts: &mut [u16; 3],
     offset: &mut usize,
 ) -> u8
-    ensures number { result ≡ first_of (read_number_of (reading_of bytes.now).outcome) (translate_number_of (solving_of (reading_of bytes.now).policy owners.now (tables masks.old parents.old node_priorities.old sources.old leaves.old targets.old priorities.old) winners.old letters.old)) }
-    ensures counts { counts.new ≡ counts_of (solving_of (reading_of bytes.now).policy owners.now (tables masks.old parents.old node_priorities.old sources.old leaves.old targets.old priorities.old) winners.old letters.old) }
-    ensures tables { Hold (seven_after (reading_of bytes.now).policy owners.now (tables masks.old parents.old node_priorities.old sources.old leaves.old targets.old priorities.old) winners.old letters.old) masks.new parents.new node_priorities.new sources.new leaves.new targets.new priorities.new }
-    ensures winners { winners.new ≡ winners_after (reading_of bytes.now).policy owners.now (tables masks.old parents.old node_priorities.old sources.old leaves.old targets.old priorities.old) winners.old letters.old }
-    ensures letters { LettersAfter (reading_of bytes.now).policy owners.now (tables masks.old parents.old node_priorities.old sources.old leaves.old targets.old priorities.old) winners.old letters.old letters.new }
-    ensures offset { offset.new ≡ offset_after (read_number_of (reading_of bytes.now).outcome) (translate_number_of (solving_of (reading_of bytes.now).policy owners.now (tables masks.old parents.old node_priorities.old sources.old leaves.old targets.old priorities.old) winners.old letters.old)) (offset_of (reading_of bytes.now).outcome) }
+    ensures number { result ≡ first_of (read_number_of (reading_of bytes.now)) (translate_number_of (solving_of (policy_read (reading_of bytes.now)) owners.now (tables masks.old parents.old node_priorities.old sources.old leaves.old targets.old priorities.old) winners.old letters.old)) }
+    ensures counts { counts.new ≡ counts_of (solving_of (policy_read (reading_of bytes.now)) owners.now (tables masks.old parents.old node_priorities.old sources.old leaves.old targets.old priorities.old) winners.old letters.old) }
+    ensures tables { Hold (seven_after (policy_read (reading_of bytes.now)) owners.now (tables masks.old parents.old node_priorities.old sources.old leaves.old targets.old priorities.old) winners.old letters.old) masks.new parents.new node_priorities.new sources.new leaves.new targets.new priorities.new }
+    ensures winners { winners.new ≡ winners_after (policy_read (reading_of bytes.now)) owners.now (tables masks.old parents.old node_priorities.old sources.old leaves.old targets.old priorities.old) winners.old letters.old }
+    ensures letters { LettersAfter (policy_read (reading_of bytes.now)) owners.now (tables masks.old parents.old node_priorities.old sources.old leaves.old targets.old priorities.old) winners.old letters.old letters.new }
+    ensures offset { offset.new ≡ offset_after (read_number_of (reading_of bytes.now)) (translate_number_of (solving_of (policy_read (reading_of bytes.now)) owners.now (tables masks.old parents.old node_priorities.old sources.old leaves.old targets.old priorities.old) winners.old letters.old)) (offset_of (reading_of bytes.now)) }
 {
     wulfrenda::wulfrenda_solve_bytes(
         bytes,

@@ -125,3 +125,9 @@ returns c =
       sym (ap (λ j. all (no_cycle_at a.g.now.policy.now a.h.now.policy.now a.c a.d) (below j)) (le_antisymm c.loop-v-test.false at.invariant.0) ∙ at.invariant.2),
       c.reach_all.ensures.1,
     )
+
+pub states_on_cycles-left-requires : goal.states_on_cycles-left-requires
+states_on_cycles-left-requires c = (legal-counts c.args.g.now.policy.now c.args.g.now.lawful).states_few
+
+pub edges_between-x-requires : goal.edges_between-x-requires
+edges_between-x-requires c = (legal-counts c.args.g.now.policy.now c.args.g.now.lawful).states_few

@@ -19,34 +19,35 @@ state p v lawful l = omega (arith, l, (legal-counts p lawful).states_few)
 pub loop-v-init : goal.loop-v-init
 loop-v-init c =
     let a = c.args in
-    let g = a.g.now in (
+    let p = a.p.now in
+    let lawful = c.requires.policy.0 in (
       omega arith,
       let is = c.reach_all.ensures.0 in
-          finding-none g.policy.now g.lawful a.m a.cycles.now c.states_on_cycles-left.result
-          (λ w l. ap (λ (s : ℕ). has s w) c.states_on_cycles-left.ensures ∙ on_is g.policy.now g.lawful a.m w _ is l ∙ ap (λ (s : ℕ). has s w) (is.row_is w l)),
+          finding-none p lawful a.m a.cycles.now c.states_on_cycles-left.result
+          (λ w l. ap (λ (s : ℕ). has s w) c.states_on_cycles-left.ensures ∙ on_is p lawful a.m w _ is l ∙ ap (λ (s : ℕ). has s w) (is.row_is w l)),
     )
 
 pub has-requires : goal.has-requires
-has-requires c = let g = c.args.g.now in omega (arith, state g.policy.now c.loop-v.v g.lawful c.loop-v-test.true)
+has-requires c = omega (arith, state c.args.p.now c.loop-v.v c.requires.policy.0 c.loop-v-test.true)
 
 pub cycle_states-s-requires : goal.cycle_states-s-requires
-cycle_states-s-requires c = let g = c.args.g.now in state g.policy.now c.loop-v.v g.lawful c.loop-v-test.true
+cycle_states-s-requires c = state c.args.p.now c.loop-v.v c.requires.policy.0 c.loop-v-test.true
 
 pub offset_bounds-cycles-n : goal.offset_bounds-cycles-n
-offset_bounds-cycles-n c = let g = c.args.g.now in omega (arith, state g.policy.now c.loop-v.v g.lawful c.loop-v-test.true, c.loop-v.invariant.1.at_most)
+offset_bounds-cycles-n c = omega (arith, state c.args.p.now c.loop-v.v c.requires.policy.0 c.loop-v-test.true, c.loop-v.invariant.1.at_most)
 
 pub bounds-cycles-n : goal.bounds-cycles-n
-bounds-cycles-n c = let g = c.args.g.now in omega (arith, state g.policy.now c.loop-v.v g.lawful c.loop-v-test.true, c.loop-v.invariant.1.at_most)
+bounds-cycles-n c = omega (arith, state c.args.p.now c.loop-v.v c.requires.policy.0 c.loop-v-test.true, c.loop-v.invariant.1.at_most)
 
 pub overflow_add-n : goal.overflow_add-n
-overflow_add-n c = let g = c.args.g.now in omega (arith, state g.policy.now c.loop-v.v g.lawful c.loop-v-test.true, c.loop-v.invariant.1.at_most)
+overflow_add-n c = omega (arith, state c.args.p.now c.loop-v.v c.requires.policy.0 c.loop-v-test.true, c.loop-v.invariant.1.at_most)
 
 pub loop-v-preserved : goal.loop-v-preserved
 loop-v-preserved c =
     let at = c.loop-v in
     let a = c.args in
-    let p = a.g.now.policy.now in
-    let lawful = a.g.now.lawful in
+    let p = a.p.now in
+    let lawful = c.requires.policy.0 in
     let l = c.loop-v-test.true in
     let f = at.invariant.1 in
     let rows = c.reach_all.new.rows in
@@ -61,7 +62,7 @@ loop-v-preserved c =
             let x = w.edges_between-x in
             finding-is p lawful a.m
             (finding-open p lawful a.m f l new (on-cycle p lawful a.m at.v rows is l on) x.result s.result w.without-left.result
-            (x.ensures ∙ ap (λ (s : ℕ). between a.g.now.out a.g.now.into a.m s p.states) s.ensures ∙ between-through p lawful a.m at.v rows is l on a.g.now.out a.g.now.into a.g.now.ends)
+            (x.ensures ∙ ap (λ (s : ℕ). between a.out.now a.into.now a.m s p.states) s.ensures ∙ between-through p lawful a.m at.v rows is l on a.out.now a.into.now c.requires.policy.1)
             (λ u. ap (λ (s : ℕ). has s u) s.ensures ∙ states_are p lawful a.m at.v rows is l on u) w.without-left.ensures refl)
             w.cycles-is w.left-is w.n-is
         | else-has w ↦
@@ -74,5 +75,10 @@ loop-v-preserved c =
 pub returns : goal.returns
 returns c =
     let at = c.loop-v in
-    let g = c.args.g.now in
-    (finding-all g.policy.now g.lawful c.args.m at.invariant.1 (omega (arith, at.invariant.0, c.loop-v-test.false)) c.requires.1, c.reach_all.ensures.1)
+    (finding-all c.args.p.now c.requires.policy.0 c.args.m at.invariant.1 (omega (arith, at.invariant.0, c.loop-v-test.false)) c.requires.places.1, c.reach_all.ensures.1)
+
+pub states_on_cycles-left-requires : goal.states_on_cycles-left-requires
+states_on_cycles-left-requires c = (legal-counts c.args.p.now c.requires.policy.0).states_few
+
+pub edges_between-x-requires : goal.edges_between-x-requires
+edges_between-x-requires c = (legal-counts c.args.p.now c.requires.policy.0).states_few

@@ -5,7 +5,7 @@ use Rattle.components.specs.Finding.{Finding}
 use Rattle.components.proofs.fill_cycles.Given as goal
 
 abbrev pub invariant-loop-v : goal.invariant-loop-v
-invariant-loop-v l = (l.v ≤ l.states) × Finding l.g.policy.now l.m l.initial.cycles l.cycles l.left l.n l.v
+invariant-loop-v l = (l.v ≤ l.states) × Finding l.p l.m l.initial.cycles l.cycles l.left l.n l.v
 
 abbrev pub decreases-loop-v : goal.decreases-loop-v
 decreases-loop-v l = l.states - l.v

@@ -1,7 +1,7 @@
 use mathlib.Core.Path.{◌≡◌, sym, ap, ap₂, ◌∙◌}
-use mathlib.Core.Bool.{not, ◌&&◌}
+use mathlib.Core.Bool.{true, not, ◌&&◌}
 use mathlib.Core.List.{List}
-use Prim.Native.Nat.{ℕ}
+use Prim.Native.Nat.{ℕ, ◌<◌}
 use lib.Bits.{bit_and, bit_or, or_zero_r}
 use lib.Dec.{eqb}
 use lib.ListN.{get_or}
@@ -10,17 +10,7 @@ use Rattle.masks.specs.Masks.{has}
 use Rattle.masks.proofs.LowestMember.{without-lowest}
 use Rattle.graph.specs.Through.{union, between}
 use Rattle.graph.proofs.OnCycle.{union-empty, union-turn}
-use native.Mathlib.Omega.{arith}
-use Rattle.policy.proofs.Laws.{legal-counts}
 use Rattle.graph.proofs.edges_among.Goals as goal
-
-pub bounds-g-v : goal.bounds-g-v
-bounds-g-v c =
-    omega (arith, c.loop-left.invariant.0 c.lowest-v.result c.lowest-v.ensures.0, (legal-counts c.args.g.now.policy.now c.args.g.now.lawful).states_few)
-
-pub bounds-g-v-in-loop-left : goal.bounds-g-v-in-loop-left
-bounds-g-v-in-loop-left c =
-    omega (arith, c.loop-left.invariant.0 c.lowest-v.result c.lowest-v.ensures.0, (legal-counts c.args.g.now.policy.now c.args.g.now.lawful).states_few)
 
 pub loop-left-preserved : goal.loop-left-preserved
 loop-left-preserved c =
@@ -29,10 +19,10 @@ loop-left-preserved c =
     let v = c.lowest-v.result in
     let low = c.lowest-v.ensures in
     let gone : (w : ℕ) → has c.both-left.result w ≡ has at.left w && not (eqb v w) = λ w. ap (λ (x : ℕ). has x w) c.both-left.ensures ∙ without-lowest at.left v w (low.0, low.2) in
-    let turn : (t : List ℕ) (x : ℕ) → bit_or (bit_or x (get_or t v 0)) (union t c.both-left.result a.g.now.policy.now.states) ≡ bit_or x (union t at.left a.g.now.policy.now.states) = λ t x. union-turn t x at.left c.both-left.result a.g.now.policy.now.states v (at.invariant.0 v low.0) low.0 gone in (
+    let turn : (t : List ℕ) (x : ℕ) → bit_or (bit_or x (get_or t v 0)) (union t c.both-left.result a.states) ≡ bit_or x (union t at.left a.states) = λ t x. union-turn t x at.left c.both-left.result a.states v (at.invariant.0 v low.0) low.0 gone in (
       λ w h. at.invariant.0 w (and_l (has at.left w) (not (eqb v w)) (sym (gone w) ∙ h)),
-      ap (λ (x : ℕ). bit_or x (union a.g.now.out c.both-left.result a.g.now.policy.now.states)) c.either-a.ensures ∙ turn a.g.now.out at.a ∙ at.invariant.1,
-      ap (λ (x : ℕ). bit_or x (union a.g.now.into c.both-left.result a.g.now.policy.now.states)) c.either-b.ensures ∙ turn a.g.now.into at.b ∙ at.invariant.2,
+      ap (λ (x : ℕ). bit_or x (union a.out.now c.both-left.result a.states)) c.either-a.ensures ∙ turn a.out.now at.a ∙ at.invariant.1,
+      ap (λ (x : ℕ). bit_or x (union a.into.now c.both-left.result a.states)) c.either-b.ensures ∙ turn a.into.now at.b ∙ at.invariant.2,
     )
 
 -- with none left, all is gathered
@@ -46,4 +36,4 @@ returns c =
     let a = c.args in
     let z = c.loop-left-test.false in
     c.both-2.ensures
-    ∙ ap (λ (x : ℕ). bit_and x a.m) (c.both.ensures ∙ ap₂ bit_and (gathered a.g.now.out at.a at.left a.s a.g.now.policy.now.states z at.invariant.1) (gathered a.g.now.into at.b at.left a.s a.g.now.policy.now.states z at.invariant.2))
+    ∙ ap (λ (x : ℕ). bit_and x a.m) (c.both.ensures ∙ ap₂ bit_and (gathered a.out.now at.a at.left a.s a.states z at.invariant.1) (gathered a.into.now at.b at.left a.s a.states z at.invariant.2))

@@ -10,7 +10,7 @@ use Rattle.graph.proofs.edges_among.Given as goal
 
 abbrev pub invariant-loop-left : goal.invariant-loop-left
 invariant-loop-left l =
-    ((v : ℕ) → has l.left v ≡ true → v < l.g.policy.now.states) × (bit_or l.a (union l.g.out l.left l.g.policy.now.states) ≡ union l.g.out l.s l.g.policy.now.states) × (bit_or l.b (union l.g.into l.left l.g.policy.now.states) ≡ union l.g.into l.s l.g.policy.now.states)
+    ((v : ℕ) → has l.left v ≡ true → v < l.states) × (bit_or l.a (union l.out l.left l.states) ≡ union l.out l.s l.states) × (bit_or l.b (union l.into l.left l.states) ≡ union l.into l.s l.states)
 
 abbrev pub decreases-loop-left : goal.decreases-loop-left
 decreases-loop-left l = l.left

@@ -42,23 +42,23 @@ edges_of-m-requires c =
     let a = c.args in (sym c.inside.ensures ∙ c.if-not-inside.false, c.requires.live.1)
 
 pub returns-then-not-inside-2 : goal.returns-then-not-inside-2
-returns-then-not-inside-2 c = let a = c.args in record { listed = λ root u l. at-lacking (parts_of a.g.now) root a.used u a.c c.requires.live.0 a.g.now.policy.now.family refl c.upper-up.result c.upper-up.ensures l c.edges_of-m.result c.colours_in-hue.result (c.edges_of-m.ensures root l.live_are).0 c.colours_in-hue.ensures (sym c.inside-2.ensures ∙ c.if-not-inside-2.true); left = subst (λ (x : ℕ). x ≤ a.c) (sym c.upper-up.ensures) (upper-le a.used a.c c.requires.live.0 c.ranges.used.fits) }
+returns-then-not-inside-2 c = let a = c.args in record { listed = λ root u l. at-lacking (parts_of a.g.now) root a.used u a.c c.requires.live.0 a.g.now.policy.now.family refl c.upper-up.result c.upper-up.ensures l c.edges_of-m.result c.colours_in-hue.result (c.edges_of-m.ensures a.g.now.policy.now root a.g.now.lawful a.g.now.by_is l.live_are).0 c.colours_in-hue.ensures (sym c.inside-2.ensures ∙ c.if-not-inside-2.true); left = subst (λ (x : ℕ). x ≤ a.c) (sym c.upper-up.ensures) (upper-le a.used a.c c.requires.live.0 c.ranges.used.fits) }
 
 pub bounds-live-hue-then-hue-c : goal.bounds-live-hue-then-hue-c
 bounds-live-hue-then-hue-c c = omega (arith, c.if-hue-c.true, c.requires.live.0, c.requires.live.1)
 
 pub returns-then-hue-c : goal.returns-then-hue-c
-returns-then-hue-c c = let a = c.args in record { listed = λ root u l. at-jump (parts_of a.g.now) root a.used u a.c c.requires.live.0 a.g.now.policy.now.family refl c.upper-up.result c.upper-up.ensures l c.edges_of-m.result c.colours_in-hue.result (c.edges_of-m.ensures root l.live_are).0 c.colours_in-hue.ensures c.both.result (c.edges_of-m.ensures root l.live_are).1 (sym c.inside-2.ensures ∙ c.if-not-inside-2.false) c.if-hue-c.true c.requires.live.1 c.both.ensures; left = omega (arith, c.if-hue-c.true) }
+returns-then-hue-c c = let a = c.args in record { listed = λ root u l. at-jump (parts_of a.g.now) root a.used u a.c c.requires.live.0 a.g.now.policy.now.family refl c.upper-up.result c.upper-up.ensures l c.edges_of-m.result c.colours_in-hue.result (c.edges_of-m.ensures a.g.now.policy.now root a.g.now.lawful a.g.now.by_is l.live_are).0 c.colours_in-hue.ensures c.both.result (c.edges_of-m.ensures a.g.now.policy.now root a.g.now.lawful a.g.now.by_is l.live_are).1 (sym c.inside-2.ensures ∙ c.if-not-inside-2.false) c.if-hue-c.true c.requires.live.1 c.both.ensures; left = omega (arith, c.if-hue-c.true) }
 
 pub list_set-requires : goal.list_set-requires
 list_set-requires c = let a = c.args in record { accepting = c.requires.accepting; rejecting = c.requires.rejecting; live = (omega (arith, c.requires.live.0, c.requires.live.1), subst (λ (x : ℕ). x ≤ a.c) (sym c.upper-up.ensures) (upper-le a.used a.c c.requires.live.0 c.ranges.used.fits)) }
 
 pub returns-then-open : goal.returns-then-open
 unfolding in_family
-returns-then-open c = let a = c.args in record { listed = λ root u l. c.list_set.ensures.listed root a.used u c.requires.live.0 (sym c.inside.ensures ∙ c.if-not-inside.false) refl c.upper-up.ensures (c.edges_of-m.ensures root l.live_are).0 (c.edges_of-m.ensures root l.live_are).1 l; left = c.list_set.ensures.left }
+returns-then-open c = let a = c.args in record { listed = λ root u l. c.list_set.ensures.listed root a.used u c.requires.live.0 (sym c.inside.ensures ∙ c.if-not-inside.false) refl c.upper-up.ensures (c.edges_of-m.ensures a.g.now.policy.now root a.g.now.lawful a.g.now.by_is l.live_are).0 (c.edges_of-m.ensures a.g.now.policy.now root a.g.now.lawful a.g.now.by_is l.live_are).1 l; left = c.list_set.ensures.left }
 
 pub bounds-live-c : goal.bounds-live-c
 bounds-live-c c = omega (arith, c.requires.live.0, c.requires.live.1)
 
 pub returns : goal.returns
-returns c = let a = c.args in record { listed = λ root u l. at-looked (parts_of a.g.now) root a.used u a.c c.requires.live.0 a.g.now.policy.now.family refl c.upper-up.result c.upper-up.ensures l c.edges_of-m.result c.colours_in-hue.result (c.edges_of-m.ensures root l.live_are).0 c.colours_in-hue.ensures c.edges_on_cycles-edges.result c.left_after.result c.edges_on_cycles-edges.ensures c.left_after.ensures (sym c.is_open_for-open.ensures ∙ c.if-open.false); left = subst (λ (x : ℕ). x ≤ a.c) (sym c.left_after.ensures) (left_le c.edges_on_cycles-edges.result c.upper-up.result a.c (subst (λ (x : ℕ). x ≤ a.c) (sym c.upper-up.ensures) (upper-le a.used a.c c.requires.live.0 c.ranges.used.fits))) }
+returns c = let a = c.args in record { listed = λ root u l. at-looked (parts_of a.g.now) root a.used u a.c c.requires.live.0 a.g.now.policy.now.family refl c.upper-up.result c.upper-up.ensures l c.edges_of-m.result c.colours_in-hue.result (c.edges_of-m.ensures a.g.now.policy.now root a.g.now.lawful a.g.now.by_is l.live_are).0 c.colours_in-hue.ensures c.edges_on_cycles-edges.result c.left_after.result c.edges_on_cycles-edges.ensures c.left_after.ensures (sym c.is_open_for-open.ensures ∙ c.if-open.false); left = subst (λ (x : ℕ). x ≤ a.c) (sym c.left_after.ensures) (left_le c.edges_on_cycles-edges.result c.upper-up.result a.c (subst (λ (x : ℕ). x ≤ a.c) (sym c.upper-up.ensures) (upper-le a.used a.c c.requires.live.0 c.ranges.used.fits))) }

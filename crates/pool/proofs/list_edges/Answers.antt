@@ -45,7 +45,7 @@ edges_among-x-requires c =
     let m = edges_in p c.args.s in
     let on = c.loop-left.invariant.left_on v c.lowest-v.ensures.0 in
     let row : row_at c.reached-w.result.a c.reached-w.result.b c.reached-w.result.c c.reached-w.result.d v ≡ onward p m v = c.reached-w.ensures p g.lawful refl c.args.r.now.steps_are v on.0 in
-    λ u h. (onward-some p m v u (ap (λ (x : ℕ). has x u) (sym row) ∙ c.cycle_states-on.ensures.0 u h)).0
+    ((legal-counts _ g.lawful).states_few, λ u h. (onward-some p m v u (ap (λ (x : ℕ). has x u) (sym row) ∙ c.cycle_states-on.ensures.0 u h)).0)
 
 pub offset_bounds-pool-n : goal.offset_bounds-pool-n
 offset_bounds-pool-n c =

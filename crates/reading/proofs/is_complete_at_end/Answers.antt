@@ -11,20 +11,20 @@ all_given-requires c = rw c.edges.ensures c.requires.few_edges
 
 pub returns-in-End : goal.returns-in-End
 unfolding complete_at_end edges
-returns-in-End c = rw (c.all_given.ensures, c.edges.ensures) (sym (ap (complete_at_end c.args.d.now) c.in-End.is))
+returns-in-End c = rw (c.all_given.ensures, c.edges.ensures) (sym (ap (complete_at_end (record { policy = c.args.p.now; given = c.args.given })) c.in-End.is))
 
 pub returns-in-Shape : goal.returns-in-Shape
 unfolding complete_at_end
-returns-in-Shape c = sym (ap (complete_at_end c.args.d.now) c.in-Shape.is)
+returns-in-Shape c = sym (ap (complete_at_end (record { policy = c.args.p.now; given = c.args.given })) c.in-Shape.is)
 
 pub returns-in-Edge : goal.returns-in-Edge
 unfolding complete_at_end
-returns-in-Edge c = sym (ap (complete_at_end c.args.d.now) c.in-Edge.is)
+returns-in-Edge c = sym (ap (complete_at_end (record { policy = c.args.p.now; given = c.args.given })) c.in-Edge.is)
 
 pub returns-in-Accept : goal.returns-in-Accept
 unfolding complete_at_end
-returns-in-Accept c = sym (ap (complete_at_end c.args.d.now) c.in-Accept.is)
+returns-in-Accept c = sym (ap (complete_at_end (record { policy = c.args.p.now; given = c.args.given })) c.in-Accept.is)
 
 pub returns-in-Quiet : goal.returns-in-Quiet
 unfolding complete_at_end
-returns-in-Quiet c = sym (ap (complete_at_end c.args.d.now) c.in-Quiet.is)
+returns-in-Quiet c = sym (ap (complete_at_end (record { policy = c.args.p.now; given = c.args.given })) c.in-Quiet.is)

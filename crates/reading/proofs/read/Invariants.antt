@@ -5,8 +5,8 @@ use lib.ListN.{length}
 use Rattle.reading.proofs.Commands.{Onway}
 use Rattle.reading.proofs.read.Given as goal
 
-abbrev pub invariant-loop-d : goal.invariant-loop-d
-invariant-loop-d l = Onway l.bytes l.at l.d
+abbrev pub invariant-loop-c : goal.invariant-loop-c
+invariant-loop-c l = Onway l.bytes l.at (record { policy = l.p; given = l.given })
 
-abbrev pub decreases-loop-d : goal.decreases-loop-d
-decreases-loop-d l = length l.bytes - l.at
+abbrev pub decreases-loop-c : goal.decreases-loop-c
+decreases-loop-c l = length l.bytes - l.at

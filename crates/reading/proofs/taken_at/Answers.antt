@@ -1,14 +1,14 @@
--- `reading::refusal` meets its contract: each question in its order, by the laws of a "no".
+-- `reading::taken_at` meets its contract: each question in its order, by the laws of a "no".
 -- Assumes nothing.
 use Prim.Native.Nat.{ℕ, ◌+◌, ◌-◌, ◌<◌, ◌≤◌}
 use mathlib.Core.Path.{◌≡◌, sym, ◌∙◌}
-use mathlib.Core.Bool.{Bool, true, false}
+use mathlib.Core.Bool.{Bool, true}
 use mathlib.Core.List.{List}
 use lib.ListN.{length, get_or}
 use Rattle.reading.specs.declared.Command.{Command}
 use Rattle.reading.specs.Reading.{command_at, command_known, operand_count}
-use Rattle.reading.proofs.Questions.{Whole, operands-there, no_byte, no-command, no-operands, no_place, no-limits, no-first, last-answer}
-use Rattle.reading.proofs.refusal.Goals as goal
+use Rattle.reading.proofs.Questions.{Whole, operands-there, no_byte, no-command, no-operands, no_place, no-limits, no-first, no-end, yes}
+use Rattle.reading.proofs.taken_at.Goals as goal
 
 -- what is known after the first three "yes"
 whole :
@@ -49,9 +49,9 @@ returns-then-not-is_first_time c =
 pub returns-then-not-is_complete_at_end : goal.returns-then-not-is_complete_at_end
 returns-then-not-is_complete_at_end c =
     let w = (whole c.if-bytes-at.false c.is_known.ensures c.if-not-is_known.false c.operand_count.ensures c.if-bytes-at-2.false c.command_at-c.ensures) in
-    last-answer _ w (sym c.is_in_place.ensures ∙ c.if-not-is_in_place.false) (sym c.is_within_limits.ensures ∙ c.if-not-is_within_limits.false) (sym c.is_first_time.ensures ∙ c.if-not-is_first_time.false) false (sym c.if-not-is_complete_at_end.true ∙ c.is_complete_at_end.ensures)
+    no-end _ w (sym c.is_in_place.ensures ∙ c.if-not-is_in_place.false) (sym c.is_within_limits.ensures ∙ c.if-not-is_within_limits.false) (sym c.is_first_time.ensures ∙ c.if-not-is_first_time.false) (sym c.is_complete_at_end.ensures ∙ c.if-not-is_complete_at_end.true)
 
 pub returns : goal.returns
 returns c =
     let w = (whole c.if-bytes-at.false c.is_known.ensures c.if-not-is_known.false c.operand_count.ensures c.if-bytes-at-2.false c.command_at-c.ensures) in
-    last-answer _ w (sym c.is_in_place.ensures ∙ c.if-not-is_in_place.false) (sym c.is_within_limits.ensures ∙ c.if-not-is_within_limits.false) (sym c.is_first_time.ensures ∙ c.if-not-is_first_time.false) true (sym c.if-not-is_complete_at_end.false ∙ c.is_complete_at_end.ensures)
+    yes _ w (sym c.is_in_place.ensures ∙ c.if-not-is_in_place.false) (sym c.is_within_limits.ensures ∙ c.if-not-is_within_limits.false) (sym c.is_first_time.ensures ∙ c.if-not-is_first_time.false) (sym c.is_complete_at_end.ensures ∙ c.if-not-is_complete_at_end.false)
