@@ -1,9 +1,10 @@
 // Comparing two policies over one graph, by pairs of colour sets: c of p's colours and d of q's. All cycles with exactly these colours have one verdict in p and one in q;
-// where the two differ, the largest cycles of the edges with these colours tell whether there is such a cycle. The tables of each policy are made once.
+// where the two differ, the largest cycles of the edges with these colours tell whether there is such a cycle. The tables of each policy are made once: of q the edges by colour alone.
 #![tactic(auto)]
 
 ghost use Rattle.std.specs.Prelude.{◌≡◌, true, ◌≤◌, ◌^◌, length};
 ghost use Rattle.policy.specs.Policies.{legal};
+ghost use Rattle.policy.specs.ByColour.{by_colour};
 ghost use Rattle.graph.specs.SameGraph.{same_graph, same_targets};
 ghost use Rattle.comparing.specs.Comparing.{Compares};
 ghost use Rattle.comparing.specs.Pairs.{Comparable, exactly_by, needs_search_by, no_cycle, set_agrees, pairs_agree};
@@ -11,6 +12,14 @@ ghost use Rattle.comparing.specs.Pairs.{Comparable, exactly_by, needs_search_by,
 use graph::Graph;
 use policy::Policy;
 use refusals::Refusal;
+
+// A policy with its edges by colour.
+#[derive(Drop)]
+struct Coloured<'a> {
+    policy: &'a Policy,
+    by: [u64; 9],
+    ghost by_is: { by ≡ by_colour policy.now },
+}
 
 // ---- question 15
 
@@ -46,7 +55,7 @@ fn has_same_graph(p: &Policy, q: &Policy) -> bool
 // ---- one pair of colour sets: g is p and h is q, each with its tables
 
 // Whether m has exactly the colours c in p and exactly d in q.
-fn has_exactly(g: &Graph<'_>, h: &Graph<'_>, c: u8, d: u8, m: u64) -> bool
+fn has_exactly(g: &Graph<'_>, h: &Coloured<'_>, c: u8, d: u8, m: u64) -> bool
     ensures { result ≡ exactly_by g.now.by h.now.by c d m }
 {
     policy::colours_in(&g.by, m) == c && policy::colours_in(&h.by, m) == d
@@ -54,7 +63,7 @@ fn has_exactly(g: &Graph<'_>, h: &Graph<'_>, c: u8, d: u8, m: u64) -> bool
 
 // Whether no cycle has exactly these colours. The rows are space that is lent, and `left` has the states on cycles that
 // are on none of those looked at.
-fn has_no_cycle(g: &Graph<'_>, h: &Graph<'_>, rows: &mut [u16; 16], c: u8, d: u8) -> bool
+fn has_no_cycle(g: &Graph<'_>, h: &Coloured<'_>, rows: &mut [u16; 16], c: u8, d: u8) -> bool
     requires { Comparable g.now.policy.now h.now.policy.now × (length rows.old ≡ 16) }
     ensures { (result ≡ no_cycle g.now.policy.now h.now.policy.now c d) × (length rows.new ≡ 16) }
 {
@@ -76,8 +85,9 @@ fn has_no_cycle(g: &Graph<'_>, h: &Graph<'_>, rows: &mut [u16; 16], c: u8, d: u8
 }
 
 // Whether the verdicts differ, and the edges with these colours have all of them; where they have not, there is no cycle with exactly these. m is the edges of p in the
-// colours c, and verdict that of c.
-fn needs_search(g: &Graph<'_>, h: &Graph<'_>, verdict: bool, m: u64, c: u8, d: u8) -> bool
+// colours c, and verdict that of c. Put into its caller, which reads q's family at each turn.
+#[inline(always)]
+fn needs_search(g: &Graph<'_>, h: &Coloured<'_>, verdict: bool, m: u64, c: u8, d: u8) -> bool
     ensures { result ≡ needs_search_by g.now.by h.now.by h.now.policy.now.family verdict m c d }
 {
     if h.policy.family[d as usize] == verdict {
@@ -91,7 +101,7 @@ fn needs_search(g: &Graph<'_>, h: &Graph<'_>, verdict: bool, m: u64, c: u8, d: u
 
 // Whether c agrees with every set of q's colours: the cycles with exactly these colours, if there are any, have the same verdict in both. Only sets of the colours in
 // use have to be looked at, those that the edges in the colours c have in q: each is the largest below the one before.
-fn set_agrees(g: &Graph<'_>, h: &Graph<'_>, rows: &mut [u16; 16], c: u8) -> bool
+fn set_agrees(g: &Graph<'_>, h: &Coloured<'_>, rows: &mut [u16; 16], c: u8) -> bool
     requires { Comparable g.now.policy.now h.now.policy.now × (length rows.old ≡ 16) }
     ensures { (result ≡ set_agrees g.now.policy.now h.now.policy.now c) × (length rows.new ≡ 16) }
 {
@@ -116,7 +126,7 @@ fn set_agrees(g: &Graph<'_>, h: &Graph<'_>, rows: &mut [u16; 16], c: u8) -> bool
 }
 
 // Whether every pair agrees.
-fn pairs_agree(g: &Graph<'_>, h: &Graph<'_>) -> bool
+fn pairs_agree(g: &Graph<'_>, h: &Coloured<'_>) -> bool
     requires { Comparable g.now.policy.now h.now.policy.now }
     ensures { result ≡ pairs_agree g.now.policy.now h.now.policy.now }
 {
@@ -141,5 +151,9 @@ pub fn compare(p: &Policy, q: &Policy) -> Result<bool, Refusal>
     if !has_same_graph(p, q) {
         return Err(Refusal::DifferentGraphs);
     }
-    Ok(pairs_agree(&Graph::new(p), &Graph::new(q)))
+    let second = Coloured {
+        policy: q,
+        by: policy::by_colour(q),
+    };
+    Ok(pairs_agree(&Graph::new(p), &second))
 }

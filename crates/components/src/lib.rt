@@ -1,9 +1,9 @@
 // The largest cycles inside an edge set, one for each strongly connected component that has an edge, by their lowest states.
 #![tactic(auto)]
 
-ghost use Rattle.std.specs.Prelude.{◌≡◌, true, length};
-ghost use Rattle.policy.specs.Policies.{legal};
-ghost use Rattle.graph.specs.Through.{EndsOf};
+ghost use Rattle.std.specs.Prelude.{◌≡◌, length};
+ghost use Rattle.policy.specs.declared.Policy.{Policy};
+ghost use Rattle.graph.specs.Through.{GraphOf, EndsOf};
 ghost use Rattle.components.specs.Finding.{Found};
 
 use policy::Policy;
@@ -18,9 +18,9 @@ pub fn fill_cycles(
     rows: &mut [u16; 16],
     cycles: &mut [u64; 16],
 ) -> usize
-    requires policy { (legal p.now ≡ true) × EndsOf p.now out.now into.now }
+    requires policy { (q : Policy) × GraphOf q p.now.states p.now.letters p.now.target × EndsOf q out.now into.now }
     requires places { (length rows.old ≡ 16) × (length cycles.old ≡ 16) }
-    ensures { Found p.now m cycles.old cycles.new result × (length rows.new ≡ 16) }
+    ensures { ((q : Policy) → GraphOf q p.now.states p.now.letters p.now.target → EndsOf q out.now into.now → Found q m cycles.old cycles.new result) × (length rows.new ≡ 16) }
 {
     graph::reach_all(p, m, rows);
     let states = p.states as usize;

@@ -4,9 +4,10 @@
 
 ghost use Rattle.std.specs.Prelude.{ℕ, ◌≡◌, true, ◌+◌, ◌*◌, ◌<◌, ◌≤◌, length, get_or};
 ghost use Rattle.masks.specs.Masks.{has};
+ghost use Rattle.policy.specs.declared.Policy.{Policy};
 ghost use Rattle.policy.specs.Policies.{legal};
 ghost use Rattle.policy.specs.ByColour.{by_colour};
-ghost use Rattle.graph.specs.Through.{EndsOf, Rows, own_edges, leaving, entering, with_target, edge_row, edge_rows, AreStates, join_row, join_rows, states_on_cycles, cycle_states, between};
+ghost use Rattle.graph.specs.Through.{GraphOf, EndsOf, Rows, own_edges, leaving, entering, with_target, edge_row, edge_rows, AreStates, join_row, join_rows, states_on_cycles, cycle_states, between};
 
 use policy::Policy;
 
@@ -32,7 +33,8 @@ impl<'a> Graph<'a> {
         let letters = policy.letters as usize;
         let out = edges_out(states, letters);
         let into = edges_into(&policy.target, states * letters);
-        let by = policy::by_colour(policy);
+        let mut by = [0u64; 9];
+        policy::collect_by_colour(policy, &mut by);
         Graph {
             policy,
             out,
@@ -97,10 +99,10 @@ fn join_rows(rows: &mut [u16; 16], k: usize)
     }
 }
 
-// The rows of m, whatever they held before. Nothing is said of rows past the states.
+// The rows of m, whatever they held before: those of every legal policy with this graph. Nothing is said of rows past the states.
 pub fn reach_all(p: &Policy, m: u64, rows: &mut [u16; 16])
-    requires { (legal p.now ≡ true) × (length rows.old ≡ 16) }
-    ensures { Rows p.now m rows.new × (length rows.new ≡ 16) }
+    requires { ((q : Policy) × GraphOf q p.now.states p.now.letters p.now.target) × (length rows.old ≡ 16) }
+    ensures { ((q : Policy) → GraphOf q p.now.states p.now.letters p.now.target → Rows q m rows.new) × (length rows.new ≡ 16) }
 {
     let states = p.states as usize;
     edge_rows(states, p.letters as usize, &p.target, m, rows);

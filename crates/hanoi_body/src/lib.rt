@@ -144,6 +144,8 @@ fn read_end(text: &[u8], at: usize) -> Result<usize, Stop>
 }
 
 // The states of a document and its end, behind --BODY--. The tables are filled if they have room for every edge.
+// By itself, so that its copies of the tables stand in no frame but its own.
+#[inline(never)]
 pub fn read_body(
     text: &[u8],
     at: usize,

@@ -44,8 +44,9 @@ fn sets_with(sets: &[u32; 8], w: usize, mark: usize) -> u64
     ensures { (s : ℕ) → s < 64 → has result s ≡ has (union_at sets.now (64 * w + s) 8) mark }
 {
     let mut r = 0;
-    for (c, &marks) in sets.iter().enumerate() {
-        if masks::has(u64::from(marks), mark) {
+    // By index: of eight turns the compiler makes no loop.
+    for c in 0..8 {
+        if masks::has(u64::from(sets[c]), mark) {
             r = r | coloured(w, c);
         }
     }

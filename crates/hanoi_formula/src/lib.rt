@@ -54,7 +54,8 @@ fn read_mark(text: &[u8], at: usize, sets: u32) -> Result<Mark, Stop>
     })
 }
 
-// The rest of `Inf` or `Fin` behind its first letter, and the mark.
+// The rest of `Inf` or `Fin` behind its first letter, and the mark. Put into its two callers, so that the answer is not handed on through memory.
+#[inline(always)]
 fn read_marked(text: &[u8], at: usize, rest: &[u8], sets: u32) -> Result<Mark, Stop>
     requires { (at ≤ length text.now) × (sets ≤ 32) }
     ensures { ReadsMarked text.now at rest.now sets result }

@@ -44,18 +44,23 @@ pub struct Name {
 }
 
 // ---- bytes
+// Without a branch: of a `match` the compiler makes one for each byte.
 #[tactic(auto, unfolding(hanoi::specs::Texts::white))]
 fn is_white(b: u8) -> bool
     ensures { result ≡ white b }
 {
-    matches!(b, b' ' | b'\t' | b'\n' | b'\r')
+    (b == b' ') | (b == b'\t') | (b == b'\n') | (b == b'\r')
 }
 
 #[tactic(auto, unfolding(hanoi::specs::Texts::goes_on))]
 fn goes_on(b: u8) -> bool
     ensures { result ≡ goes_on b }
 {
-    matches!(b, b'a'..=b'z' | b'A'..=b'Z' | b'0'..=b'9' | b'_' | b'-')
+    ((b'a' <= b) & (b <= b'z'))
+        | ((b'A' <= b) & (b <= b'Z'))
+        | ((b'0' <= b) & (b <= b'9'))
+        | (b == b'_')
+        | (b == b'-')
 }
 
 // ---- white space
@@ -160,6 +165,8 @@ fn value_of(b: u8) -> u64
 }
 
 // A number from its first byte on. Its digits go on up to a byte that is none: there is one behind every number of a text of the subset.
+// Put into each caller: there the kind of number is known, and the answer is not handed on through memory.
+#[inline(always)]
 pub fn read_digits(text: &[u8], at: usize, wanted: Wanted) -> Result<Number, Stop>
     requires { (at < length text.now) × Within wanted }
     ensures { ReadsDigits text.now at wanted result }
@@ -202,6 +209,8 @@ pub fn read_number(text: &[u8], at: usize, wanted: Wanted) -> Result<Number, Sto
 
 // ---- names
 // A name up to its closing quote. A backslash takes the next byte with it, which is no line feed.
+// By itself, so that its loop keeps all that it needs in registers.
+#[inline(never)]
 pub fn read_name(text: &[u8], at: usize) -> Result<Name, Stop>
     requires { at ≤ length text.now }
     ensures { ReadsName text.now at result }
@@ -211,19 +220,23 @@ pub fn read_name(text: &[u8], at: usize) -> Result<Name, Stop>
         return Err(Stop { at: first.at });
     }
     let from = first.at + 1;
-    let mut back = false;
-    for i in from..text.len() {
+    let mut i = from;
+    // A while: a backslash takes two bytes at once, so that a byte is asked no more than whether it is one of two.
+    while i < text.len() {
         let b = text[i];
-        if back {
-            if b == b'\n' {
+        if b == b'"' {
+            return Ok(Name { at: from, end: i });
+        }
+        if b == b'\\' {
+            i += 1;
+            if text.len() <= i {
+                return Err(Stop { at: text.len() });
+            }
+            if text[i] == b'\n' {
                 return Err(Stop { at: i });
             }
-            back = false;
-        } else if b == b'"' {
-            return Ok(Name { at: from, end: i });
-        } else {
-            back = b == b'\\';
         }
+        i += 1;
     }
     Err(Stop { at: text.len() })
 }

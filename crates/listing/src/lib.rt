@@ -4,14 +4,15 @@
 
 ghost use Rattle.std.specs.Prelude.{◌≡◌, ◌⊎◌, true, false, cond, ℕ, ◌+◌, ◌-◌, ◌<◌, ◌≤◌, eqb, length, get_or, set, take};
 ghost use mathlib.Core.List.{List, map, Memᴰ};
-ghost use Rattle.policy.specs.Policies.{colours_of, in_family};
-ghost use Rattle.policy.specs.ByColour.{edges_in, table_colours};
+ghost use Rattle.policy.specs.declared.Policy.{Policy};
+ghost use Rattle.policy.specs.Policies.{colours_of, in_family, legal};
+ghost use Rattle.policy.specs.ByColour.{by_colour, edges_in, table_colours};
 ghost use Rattle.components.specs.Components.{largest_in};
 ghost use Rattle.forest.specs.Forest.{roots};
 ghost use Rattle.candidates.specs.Candidates.{with_cycle, with_cycles, Live};
 ghost use Rattle.masks.specs.Masks.{inside};
 ghost use Rattle.looks.specs.Spans.{upper};
-ghost use Rattle.listing.specs.Listing.{Hued, union_to, OnCycles, Settled, Listed, lacks_room, Outcome};
+ghost use Rattle.listing.specs.Listing.{Hued, PartsOf, union_to, OnCycles, Settled, Listed, lacks_room, Outcome};
 
 use graph::Graph;
 
@@ -107,7 +108,7 @@ fn union_of(cycles: &[u64]) -> u64
 
 // The edges of m that are on cycles inside it.
 fn edges_on_cycles(g: &Graph<'_>, m: u64) -> u64
-    ensures { OnCycles g.now.policy.now m result }
+    ensures { (p : Policy) (by : List ℕ) → PartsOf p g.now.policy.now.states g.now.policy.now.letters g.now.policy.now.target g.now.out g.now.into by → OnCycles p m result }
 {
     let mut rows = [0u16; 16];
     let mut cycles = [0u64; 16];
@@ -128,9 +129,9 @@ fn list_cycles(
 ) -> Cycles
     requires other { hues.now ≡ map (table_colours g.now.by) other.now }
     requires room { Hued (table_colours g.now.by) same.old own.old count × (count + 16 ≤ length same.old) × (count + 16 ≤ length own.old) }
-    ensures masks { take result.count same.new ≡ with_cycles (table_colours g.now.by) c other.now (take count same.old) (largest_in g.now.policy.now m) }
+    ensures masks { (p : Policy) → PartsOf p g.now.policy.now.states g.now.policy.now.letters g.now.policy.now.target g.now.out g.now.into g.now.by → take result.count same.new ≡ with_cycles (table_colours g.now.by) c other.now (take count same.old) (largest_in p m) }
     ensures hues { Hued (table_colours g.now.by) same.new own.new result.count }
-    ensures edges { OnCycles g.now.policy.now m result.edges }
+    ensures edges { (p : Policy) → PartsOf p g.now.policy.now.states g.now.policy.now.letters g.now.policy.now.target g.now.out g.now.into g.now.by → OnCycles p m result.edges }
 {
     let mut rows = [0u16; 16];
     let mut cycles = [0u64; 16];
@@ -153,9 +154,9 @@ fn list_wanted(
 ) -> Cycles
     requires other { hues.now ≡ map (table_colours g.now.by) other.now }
     requires room { Hued (table_colours g.now.by) same.old own.old count × (count + 16 ≤ length same.old) × (count + 16 ≤ length own.old) }
-    ensures masks { take result.count same.new ≡ with_cycles (table_colours g.now.by) c other.now (take count same.old) (largest_in g.now.policy.now m) }
+    ensures masks { (p : Policy) → PartsOf p g.now.policy.now.states g.now.policy.now.letters g.now.policy.now.target g.now.out g.now.into g.now.by → take result.count same.new ≡ with_cycles (table_colours g.now.by) c other.now (take count same.old) (largest_in p m) }
     ensures hues { Hued (table_colours g.now.by) same.new own.new result.count }
-    ensures edges { OnCycles g.now.policy.now m result.edges }
+    ensures edges { (p : Policy) → PartsOf p g.now.policy.now.states g.now.policy.now.letters g.now.policy.now.target g.now.out g.now.into g.now.by → OnCycles p m result.edges }
 {
     if looks::is_wanted(c, m, other, hues, &same[..count]) {
         return list_cycles(g, c, m, other, hues, same, own, count);
@@ -187,7 +188,7 @@ fn past_settled(
     same: &[u64],
 ) -> u8
     requires other { (hues.now ≡ map (table_colours g.now.by) other.now) × (up ≤ c) }
-    ensures settled { inside (colours_of g.now.policy.now e) c ≡ true → Settled g.now.policy.now v up c e other.now same.now result }
+    ensures settled { (p : Policy) → PartsOf p g.now.policy.now.states g.now.policy.now.letters g.now.policy.now.target g.now.out g.now.into g.now.by → g.now.policy.now.family ≡ p.family → inside (colours_of p e) c ≡ true → Settled p v up c e other.now same.now result }
     ensures left { (up ≤ result) × (result ≤ c) }
 {
     if !looks::are_above(up, c, hues) {
@@ -214,7 +215,7 @@ fn left_settled(
     same: &[u64],
 ) -> u8
     requires other { (hues.now ≡ map (table_colours g.now.by) other.now) × (up ≤ c) }
-    ensures settled { inside (colours_of g.now.policy.now e) c ≡ true → Settled g.now.policy.now v up c e other.now same.now result }
+    ensures settled { (p : Policy) → PartsOf p g.now.policy.now.states g.now.policy.now.letters g.now.policy.now.target g.now.out g.now.into g.now.by → g.now.policy.now.family ≡ p.family → inside (colours_of p e) c ≡ true → Settled p v up c e other.now same.now result }
     ensures left { (up ≤ result) × (result ≤ c) }
 {
     if e == 0 {
@@ -253,10 +254,10 @@ fn list_side(
     requires other { hues.now ≡ map (table_colours g.now.by) other.now }
     requires room { Hued (table_colours g.now.by) same.old own.old count × (count + 16 ≤ length same.old) × (count + 16 ≤ length own.old) }
     requires live { (c < length live.old) × (up ≤ c) }
-    ensures masks { take result.cycles.count same.new ≡ with_cycles (table_colours g.now.by) c other.now (take count same.old) (largest_in g.now.policy.now m) }
+    ensures masks { (p : Policy) → PartsOf p g.now.policy.now.states g.now.policy.now.letters g.now.policy.now.target g.now.out g.now.into g.now.by → take result.cycles.count same.new ≡ with_cycles (table_colours g.now.by) c other.now (take count same.old) (largest_in p m) }
     ensures hues { Hued (table_colours g.now.by) same.new own.new result.cycles.count }
-    ensures edges { OnCycles g.now.policy.now m result.cycles.edges × (live.new ≡ set live.old c result.cycles.edges) }
-    ensures settled { inside (colours_of g.now.policy.now result.cycles.edges) c ≡ true → Settled g.now.policy.now v up c result.cycles.edges other.now (take result.cycles.count same.new) result.left }
+    ensures edges { ((p : Policy) → PartsOf p g.now.policy.now.states g.now.policy.now.letters g.now.policy.now.target g.now.out g.now.into g.now.by → OnCycles p m result.cycles.edges) × (live.new ≡ set live.old c result.cycles.edges) }
+    ensures settled { (p : Policy) → PartsOf p g.now.policy.now.states g.now.policy.now.letters g.now.policy.now.target g.now.out g.now.into g.now.by → g.now.policy.now.family ≡ p.family → inside (colours_of p result.cycles.edges) c ≡ true → Settled p v up c result.cycles.edges other.now (take result.cycles.count same.new) result.left }
     ensures left { (up ≤ result.left) × (result.left ≤ c) }
 {
     let cycles = list_wanted(g, c, m, other, hues, same, own, count);
@@ -283,7 +284,7 @@ fn list_set(
     requires accepting { Hued (table_colours g.now.by) accepting.old accepted.old listed.accepting × (listed.accepting + 16 ≤ length accepting.old) × (listed.accepting + 16 ≤ length accepted.old) }
     requires rejecting { Hued (table_colours g.now.by) rejecting.old rejected.old listed.rejecting × (listed.rejecting + 16 ≤ length rejecting.old) × (listed.rejecting + 16 ≤ length rejected.old) }
     requires live { (c < length live.old) × (up ≤ c) }
-    ensures listed { (root used : ℕ) → used ≡ colours_of g.now.policy.now root → c < used → inside c used ≡ true → v ≡ in_family g.now.policy.now c → up ≡ upper used c → Live g.now.policy.now root c m → inside m (edges_in g.now.policy.now c) ≡ true → Listed g.now.policy.now g.now.by root (used - 1 - c) accepting.old accepted.old rejecting.old rejected.old live.old listed → Listed g.now.policy.now g.now.by root (used - result.left) accepting.new accepted.new rejecting.new rejected.new live.new result.counts }
+    ensures listed { (p : Policy) (root used : ℕ) → PartsOf p g.now.policy.now.states g.now.policy.now.letters g.now.policy.now.target g.now.out g.now.into g.now.by → g.now.policy.now.family ≡ p.family → used ≡ colours_of p root → c < used → inside c used ≡ true → v ≡ in_family p c → up ≡ upper used c → Live p root c m → inside m (edges_in p c) ≡ true → Listed p g.now.by root (used - 1 - c) accepting.old accepted.old rejecting.old rejected.old live.old listed → Listed p g.now.by root (used - result.left) accepting.new accepted.new rejecting.new rejected.new live.new result.counts }
     ensures left { result.left ≤ c }
 {
     let a = listed.accepting;
@@ -348,7 +349,7 @@ fn list_next(
     requires accepting { Hued (table_colours g.now.by) accepting.old accepted.old listed.accepting × (listed.accepting + 16 ≤ length accepting.old) × (listed.accepting + 16 ≤ length accepted.old) }
     requires rejecting { Hued (table_colours g.now.by) rejecting.old rejected.old listed.rejecting × (listed.rejecting + 16 ≤ length rejecting.old) × (listed.rejecting + 16 ≤ length rejected.old) }
     requires live { (c < used) × (used < length live.old) }
-    ensures listed { (root : ℕ) → used ≡ colours_of g.now.policy.now root → Listed g.now.policy.now g.now.by root (used - 1 - c) accepting.old accepted.old rejecting.old rejected.old live.old listed → Listed g.now.policy.now g.now.by root (used - result.left) accepting.new accepted.new rejecting.new rejected.new live.new result.counts }
+    ensures listed { (p : Policy) (root : ℕ) → PartsOf p g.now.policy.now.states g.now.policy.now.letters g.now.policy.now.target g.now.out g.now.into g.now.by → g.now.policy.now.family ≡ p.family → used ≡ colours_of p root → Listed p g.now.by root (used - 1 - c) accepting.old accepted.old rejecting.old rejected.old live.old listed → Listed p g.now.by root (used - result.left) accepting.new accepted.new rejecting.new rejected.new live.new result.counts }
     ensures left { result.left ≤ c }
 {
     if !masks::inside(c, used) {
@@ -448,7 +449,7 @@ fn begin(
     rejected: &mut [u8],
 ) -> Counts
     requires { (0 < length accepting.old) × (0 < length accepted.old) × (0 < length rejecting.old) × (0 < length rejected.old) }
-    ensures { (live : List ℕ) → ((d : ℕ) → d < length live → get_or live d 0 ≡ root) → Listed g.now.policy.now g.now.by root 0 accepting.new accepted.new rejecting.new rejected.new live result }
+    ensures { (p : Policy) → legal p ≡ true → g.now.by ≡ by_colour p → g.now.policy.now.family ≡ p.family → (live : List ℕ) → ((d : ℕ) → d < length live → get_or live d 0 ≡ root) → Listed p g.now.by root 0 accepting.new accepted.new rejecting.new rejected.new live result }
 {
     let used = policy::colours_in(&g.by, root);
     if g.policy.family[used as usize] {
@@ -486,14 +487,21 @@ fn fill_lists(
     rejected: &mut [u8],
     live: &mut [u64],
 ) -> Listing
-    requires root { Memᴰ root (roots g.now.policy.now) }
+    requires policy { (p : Policy) × PartsOf p g.now.policy.now.states g.now.policy.now.letters g.now.policy.now.target g.now.out g.now.into g.now.by × (g.now.policy.now.family ≡ p.family) × Memᴰ root (roots p) }
     requires places { (0 < length accepting.old) × (length accepted.old ≡ length accepting.old) × (0 < length rejecting.old) × (length rejected.old ≡ length rejecting.old) }
     requires live { (table_colours g.now.by root < length live.old) × ((d : ℕ) → d < length live.old → get_or live.old d 0 ≡ root) }
-    ensures { Outcome g.now.policy.now root accepting.new rejecting.new result.whole result.counts }
+    ensures { (p : Policy) → PartsOf p g.now.policy.now.states g.now.policy.now.letters g.now.policy.now.target g.now.out g.now.into g.now.by → g.now.policy.now.family ≡ p.family → Memᴰ root (roots p) → Outcome p root accepting.new rejecting.new result.whole result.counts }
 {
-    let used = policy::colours_in(&g.by, root);
-    let mut listed = begin(g, root, accepting, accepted, rejecting, rejected);
-    let mut left = sets_left(g, used);
+    // The edges of each colour are copied: of a table that is lent the compiler read an entry only behind a test of its colour.
+    let own = Graph {
+        policy: g.policy,
+        out: g.out,
+        into: g.into,
+        by: g.by,
+    };
+    let used = policy::colours_in(&own.by, root);
+    let mut listed = begin(&own, root, accepting, accepted, rejecting, rejected);
+    let mut left = sets_left(&own, used);
     while 0 < left {
         if lacks_room(accepting.len(), rejecting.len(), listed) {
             return Listing {
@@ -502,7 +510,7 @@ fn fill_lists(
             };
         }
         let step = list_next(
-            g,
+            &own,
             used,
             left - 1,
             accepting,
@@ -521,7 +529,8 @@ fn fill_lists(
     }
 }
 
-// The same, with space for the live edges of each set of the root's colours. This is an inner layer: its callers lend one of the roots.
+// The same, with space for the live edges of each set of the root's colours. This is an inner layer: its callers lend one of the roots. What is
+// promised holds of every policy with the parts of g.
 pub fn fill_candidates(
     g: &Graph<'_>,
     root: u64,
@@ -530,9 +539,9 @@ pub fn fill_candidates(
     rejecting: &mut [u64],
     rejected: &mut [u8],
 ) -> Listing
-    requires root { Memᴰ root (roots g.now.policy.now) }
+    requires policy { (p : Policy) × PartsOf p g.now.policy.now.states g.now.policy.now.letters g.now.policy.now.target g.now.out g.now.into g.now.by × (g.now.policy.now.family ≡ p.family) × Memᴰ root (roots p) }
     requires places { (0 < length accepting.old) × (length accepted.old ≡ length accepting.old) × (0 < length rejecting.old) × (length rejected.old ≡ length rejecting.old) }
-    ensures { Outcome g.now.policy.now root accepting.new rejecting.new result.whole result.counts }
+    ensures { (p : Policy) → PartsOf p g.now.policy.now.states g.now.policy.now.letters g.now.policy.now.target g.now.out g.now.into g.now.by → g.now.policy.now.family ≡ p.family → Memᴰ root (roots p) → Outcome p root accepting.new rejecting.new result.whole result.counts }
 {
     if policy::colours_in(&g.by, root) < 16 {
         let mut live = [root; 16];

@@ -3,11 +3,12 @@
 #![tactic(auto)]
 
 ghost use Rattle.std.specs.Prelude.{◌≡◌, ℕ, ◌+◌, ◌*◌, ◌≤◌, ◌<◌, length};
+ghost use Rattle.policy.specs.declared.Policy.{Policy};
+ghost use Rattle.policy.specs.Policies.{colours_of};
 ghost use Rattle.full_cycles.specs.Full.{Full};
 ghost use Rattle.siblings.specs.Positions.{Positions};
-ghost use Rattle.pool.specs.Pool.{Pool};
+ghost use Rattle.pool.specs.Pool.{PartsOf, Pool};
 ghost use Rattle.pool.specs.Graphs.{policy_in};
-ghost use Rattle.policy.specs.Policies.{colours_of};
 ghost use Rattle.offspring.specs.Offspring.{Around as IsAround, StatesIn, Offspring};
 ghost use Rattle.offspring.specs.Looking.{Looking, Looked, Node, NodeAmong, Span, Greatest, NowListed, SetSearched};
 
@@ -34,10 +35,9 @@ fn look_at(
     kids: &mut [u16],
     found: usize,
 ) -> Option<usize>
-    requires node { Node (policy_in node.now.root.now) (policy_in node.now.root.now).family node.now.within.now node.now.mask node.now.verdict }
     requires places { (i < length pool.now) × (length hues.now ≡ length pool.now) × (length pool.now ≤ 4096) × Positions pool.now kids.old found × (length todo.old ≡ 4) }
-    requires room { (count : ℕ) × (to : ℕ) × Span (policy_in node.now.root.now) node.now.mask s pool.now hues.now count i to × (i < to) × Looking (policy_in node.now.root.now) node.now.mask pool.now count s i to todo.old kids.old found }
-    ensures { (count to : ℕ) → Span (policy_in node.now.root.now) node.now.mask s pool.now hues.now count i to → i < to → Looking (policy_in node.now.root.now) node.now.mask pool.now count s i to todo.old kids.old found → Looked (policy_in node.now.root.now) node.now.mask pool.now count s (i + 1) to todo.new kids.new result }
+    requires room { (p : Policy) × (count : ℕ) × (to : ℕ) × Node p (policy_in node.now.root.now).family node.now.within.now node.now.mask node.now.verdict × Span p node.now.mask s pool.now hues.now count i to × (i < to) × Looking p node.now.mask pool.now count s i to todo.old kids.old found }
+    ensures { (p : Policy) (count to : ℕ) → Node p (policy_in node.now.root.now).family node.now.within.now node.now.mask node.now.verdict → Span p node.now.mask s pool.now hues.now count i to → i < to → Looking p node.now.mask pool.now count s i to todo.old kids.old found → Looked p node.now.mask pool.now count s (i + 1) to todo.new kids.new result }
 {
     let x = pool[i];
     if !masks::inside(x, node.mask) {
@@ -75,10 +75,9 @@ fn look_through(
     kids: &mut [u16],
     found: usize,
 ) -> Option<usize>
-    requires node { Node (policy_in node.now.root.now) (policy_in node.now.root.now).family node.now.within.now node.now.mask node.now.verdict }
     requires places { (length hues.now ≡ length pool.now) × (length pool.now ≤ 4096) }
-    requires span { (count : ℕ) × Span (policy_in node.now.root.now) node.now.mask s pool.now hues.now count from to × Looking (policy_in node.now.root.now) node.now.mask pool.now count s from to todo.old kids.old found }
-    ensures { (count : ℕ) → Span (policy_in node.now.root.now) node.now.mask s pool.now hues.now count from to → Looking (policy_in node.now.root.now) node.now.mask pool.now count s from to todo.old kids.old found → Looked (policy_in node.now.root.now) node.now.mask pool.now count s 0 0 todo.new kids.new result }
+    requires span { (p : Policy) × (count : ℕ) × Node p (policy_in node.now.root.now).family node.now.within.now node.now.mask node.now.verdict × Span p node.now.mask s pool.now hues.now count from to × Looking p node.now.mask pool.now count s from to todo.old kids.old found }
+    ensures { (p : Policy) (count : ℕ) → Node p (policy_in node.now.root.now).family node.now.within.now node.now.mask node.now.verdict → Span p node.now.mask s pool.now hues.now count from to → Looking p node.now.mask pool.now count s from to todo.old kids.old found → Looked p node.now.mask pool.now count s 0 0 todo.new kids.new result }
 {
     let mut next = found;
     for i in from..to {
@@ -96,9 +95,9 @@ fn list_new(
     spans: &mut [u16],
     count: &mut usize,
 ) -> bool
-    requires pool { Pool (policy_in r.now) r.now.among pool.old hues.old spans.old count.old }
+    requires policy { (p : Policy) × PartsOf p (policy_in r.now).states r.now.steps.now r.now.graph.now.out r.now.graph.now.into r.now.graph.now.by × Pool p r.now.among pool.old hues.old spans.old count.old }
     requires places { (s < 255) × (2 * s + 1 < length spans.old) }
-    ensures { NowListed (policy_in r.now) r.now.among s pool.old count.old pool.new hues.new spans.new count.new result }
+    ensures { (p : Policy) → PartsOf p (policy_in r.now).states r.now.steps.now r.now.graph.now.out r.now.graph.now.into r.now.graph.now.by → Pool p r.now.among pool.old hues.old spans.old count.old → NowListed p r.now.among s pool.old count.old pool.new hues.new spans.new count.new result }
 {
     if spans[2 * s as usize + 1] != 0 {
         return true;
@@ -122,11 +121,9 @@ fn search_set(
     kids: &mut [u16],
     found: usize,
 ) -> Option<usize>
-    requires node { NodeAmong (policy_in node.now.root.now) node.now.root.now.among (policy_in node.now.root.now).family node.now.within.now node.now.mask node.now.verdict }
-    requires pool { Pool (policy_in node.now.root.now) node.now.root.now.among pool.old hues.old spans.old count.old }
-    requires greatest { Greatest (policy_in node.now.root.now) node.now.mask s pool.old count.old todo.old kids.old found }
+    requires policy { (p : Policy) × PartsOf p (policy_in node.now.root.now).states node.now.root.now.steps.now node.now.root.now.graph.now.out node.now.root.now.graph.now.into node.now.root.now.graph.now.by × NodeAmong p node.now.root.now.among (policy_in node.now.root.now).family node.now.within.now node.now.mask node.now.verdict × Pool p node.now.root.now.among pool.old hues.old spans.old count.old × Greatest p node.now.mask s pool.old count.old todo.old kids.old found }
     requires places { (s < 255) × (2 * s + 1 < length spans.old) }
-    ensures { SetSearched (policy_in node.now.root.now) node.now.root.now.among node.now.mask s pool.old count.old pool.new hues.new spans.new count.new todo.new kids.new result }
+    ensures { (p : Policy) → PartsOf p (policy_in node.now.root.now).states node.now.root.now.steps.now node.now.root.now.graph.now.out node.now.root.now.graph.now.into node.now.root.now.graph.now.by → NodeAmong p node.now.root.now.among (policy_in node.now.root.now).family node.now.within.now node.now.mask node.now.verdict → Pool p node.now.root.now.among pool.old hues.old spans.old count.old → Greatest p node.now.mask s pool.old count.old todo.old kids.old found → SetSearched p node.now.root.now.among node.now.mask s pool.old count.old pool.new hues.new spans.new count.new todo.new kids.new result }
 {
     collections::remove(todo, s);
     if !list_new(node.root, s, pool, hues, spans, count) {
@@ -148,10 +145,9 @@ fn search_sets(
     count: &mut usize,
     kids: &mut [u16],
 ) -> Option<usize>
-    requires node { NodeAmong (policy_in node.now.root.now) node.now.root.now.among (policy_in node.now.root.now).family node.now.within.now node.now.mask node.now.verdict }
-    requires pool { Pool (policy_in node.now.root.now) node.now.root.now.among pool.old hues.old spans.old count.old }
-    requires places { (h ≡ colours_of (policy_in node.now.root.now) node.now.mask) × (2 * h ≤ length spans.old) }
-    ensures { Offspring (policy_in node.now.root.now) node.now.root.now.among node.now.mask pool.old count.old pool.new hues.new spans.new count.new kids.new result }
+    requires policy { (p : Policy) × PartsOf p (policy_in node.now.root.now).states node.now.root.now.steps.now node.now.root.now.graph.now.out node.now.root.now.graph.now.into node.now.root.now.graph.now.by × NodeAmong p node.now.root.now.among (policy_in node.now.root.now).family node.now.within.now node.now.mask node.now.verdict × (h ≡ colours_of p node.now.mask) × Pool p node.now.root.now.among pool.old hues.old spans.old count.old }
+    requires places { 2 * h ≤ length spans.old }
+    ensures { (p : Policy) → PartsOf p (policy_in node.now.root.now).states node.now.root.now.steps.now node.now.root.now.graph.now.out node.now.root.now.graph.now.into node.now.root.now.graph.now.by → NodeAmong p node.now.root.now.among (policy_in node.now.root.now).family node.now.within.now node.now.mask node.now.verdict → h ≡ colours_of p node.now.mask → Pool p node.now.root.now.among pool.old hues.old spans.old count.old → Offspring p node.now.root.now.among node.now.mask pool.old count.old pool.new hues.new spans.new count.new kids.new result }
 {
     let mut todo = [0u64; 4];
     collections::add_smaller(node.within, h, &mut todo);
@@ -177,11 +173,8 @@ pub fn find_children(
     count: &mut usize,
     kids: &mut [u16],
 ) -> Option<usize>
-    requires node { Full (policy_in r.now) n × StatesIn (policy_in r.now) r.now.among n }
-    requires around { IsAround (policy_in r.now) around.now.accepted around.now.rejected }
-    requires pool { Pool (policy_in r.now) r.now.among pool.old hues.old spans.old count.old }
-    requires places { 2 * colours_of (policy_in r.now) n ≤ length spans.old }
-    ensures { Offspring (policy_in r.now) r.now.among n pool.old count.old pool.new hues.new spans.new count.new kids.new result }
+    requires policy { (p : Policy) × PartsOf p (policy_in r.now).states r.now.steps.now r.now.graph.now.out r.now.graph.now.into r.now.graph.now.by × ((policy_in r.now).family ≡ p.family) × IsAround p around.now.accepted around.now.rejected × Full p n × StatesIn p r.now.among n × (2 * colours_of p n ≤ length spans.old) × Pool p r.now.among pool.old hues.old spans.old count.old }
+    ensures { (p : Policy) → PartsOf p (policy_in r.now).states r.now.steps.now r.now.graph.now.out r.now.graph.now.into r.now.graph.now.by → (policy_in r.now).family ≡ p.family → IsAround p around.now.accepted around.now.rejected → Full p n → StatesIn p r.now.among n → Pool p r.now.among pool.old hues.old spans.old count.old → Offspring p r.now.among n pool.old count.old pool.new hues.new spans.new count.new kids.new result }
 {
     let h = policy::colours_in(&r.graph.by, n);
     if r.graph.policy.family[h as usize] {

@@ -3,7 +3,7 @@
 // colour, and a recorded colour of 0.
 #![tactic(auto)]
 
-ghost use Rattle.std.specs.Prelude.{◌≡◌, ◌<◌, ◌≤◌, true, cond};
+ghost use Rattle.std.specs.Prelude.{◌≡◌, ◌<◌, ◌≤◌, true, cond, replicate};
 ghost use Rattle.masks.specs.Masks.{has};
 ghost use Rattle.policy.specs.ByColour.{by_colour, table_edges, table_colours};
 ghost use Rattle.policy.specs.Making.{counted};
@@ -39,12 +39,12 @@ pub fn edges(p: &Policy) -> usize
 
 // ---- the edges by colour
 
-// The edges of each colour, and the quiet ones. A quiet edge has the recorded colour 0, so it is taken from there in the end.
-pub fn by_colour(p: &Policy) -> [u64; 9]
-    requires { legal p.now ≡ true }
-    ensures { result ≡ by_colour p.now }
+// The edges of each colour, and the quiet ones, in a table that is all 0. A quiet edge has the recorded colour 0, so it is taken from there in the end. A table that is given
+// back by value may be copied.
+pub fn collect_by_colour(p: &Policy, t: &mut [u64; 9])
+    requires { (legal p.now ≡ true) × (t.old ≡ replicate 9 0) }
+    ensures { t.new ≡ by_colour p.now }
 {
-    let mut t = [0; 9];
     let colours = &p.colour[..edges(p)];
     for (e, c) in colours.iter().enumerate() {
         let c = *c as usize;
@@ -52,6 +52,15 @@ pub fn by_colour(p: &Policy) -> [u64; 9]
     }
     t[0] = masks::without(t[0], p.quiet);
     t[8] = p.quiet;
+}
+
+// The same by value.
+pub fn by_colour(p: &Policy) -> [u64; 9]
+    requires { legal p.now ≡ true }
+    ensures { result ≡ by_colour p.now }
+{
+    let mut t = [0u64; 9];
+    collect_by_colour(p, &mut t);
     t
 }
 

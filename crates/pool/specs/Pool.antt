@@ -5,9 +5,17 @@ use mathlib.Core.List.{List, Memᴰ}
 use Rattle.masks.specs.Masks.{has}
 use Rattle.policy.specs.declared.Policy.{Policy}
 use Rattle.policy.specs.Policies.{colours_of}
-use Rattle.policy.specs.ByColour.{edges_in}
+use Rattle.policy.specs.ByColour.{by_colour, edges_in}
 use Rattle.graph.specs.Cycles.{contains}
+use Rattle.graph.specs.Through.{EndsOf}
+use Rattle.steps.specs.Steps.{SteppedGraph}
 use Rattle.components.specs.Components.{largest_in}
+
+-- the parts of a legal policy that cycles are looked for by: its graph as steps by colour, the edges that leave and enter each state, and those of each colour
+pub record PartsOf (p : Policy) (states : ℕ) (steps out into by : List ℕ) : Type 0 where
+  pub graph : SteppedGraph p states steps
+  pub ends : EndsOf p out into
+  pub by_is : by ≡ by_colour p
 
 -- ---- the places from `from` up to `to` have the largest cycles inside the edges m that have a state of `among`, and no cycles but largest ones inside m
 pub record Lists (p : Policy) (among m : ℕ) (pool : List ℕ) (from to : ℕ) : Type 0 where

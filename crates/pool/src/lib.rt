@@ -2,9 +2,10 @@
 #![tactic(auto)]
 
 ghost use Rattle.std.specs.Prelude.{◌≡◌, ◌+◌, ◌*◌, ◌≤◌, ◌<◌, length, get_or};
+ghost use Rattle.policy.specs.declared.Policy.{Policy};
 ghost use Rattle.policy.specs.ByColour.{edges_in};
 ghost use Rattle.steps.specs.Steps.{StepsOf};
-ghost use Rattle.pool.specs.Pool.{Pool, Appended, SetListed};
+ghost use Rattle.pool.specs.Pool.{PartsOf, Pool, Appended, SetListed};
 
 use graph::Graph;
 
@@ -26,8 +27,9 @@ pub fn list_edges(
     hues: &mut [u8],
     count: usize,
 ) -> usize
-    requires { (count + 16 ≤ length pool.old) × (length hues.old ≡ length pool.old) }
-    ensures { Appended r.now.graph.now.policy.now r.now.among (edges_in r.now.graph.now.policy.now s) pool.old hues.old count pool.new hues.new result }
+    requires policy { (p : Policy) × PartsOf p r.now.graph.now.policy.now.states r.now.steps.now r.now.graph.now.out r.now.graph.now.into r.now.graph.now.by }
+    requires places { (count + 16 ≤ length pool.old) × (length hues.old ≡ length pool.old) }
+    ensures { (p : Policy) → PartsOf p r.now.graph.now.policy.now.states r.now.steps.now r.now.graph.now.out r.now.graph.now.into r.now.graph.now.by → Appended p r.now.among (edges_in p s) pool.old hues.old count pool.new hues.new result }
 {
     let g = r.graph;
     let states = g.policy.states as usize;
@@ -57,9 +59,9 @@ pub fn list_set(
     spans: &mut [u16],
     count: usize,
 ) -> usize
-    requires pool { Pool r.now.graph.now.policy.now r.now.among pool.old hues.old spans.old count }
+    requires policy { (p : Policy) × PartsOf p r.now.graph.now.policy.now.states r.now.steps.now r.now.graph.now.out r.now.graph.now.into r.now.graph.now.by × Pool p r.now.among pool.old hues.old spans.old count }
     requires places { (count + 16 ≤ length pool.old) × (s < 255) × (2 * s + 1 < length spans.old) × (get_or spans.old (2 * s + 1) 0 ≡ 0) }
-    ensures { SetListed r.now.graph.now.policy.now r.now.among s pool.old count pool.new hues.new spans.new result }
+    ensures { (p : Policy) → PartsOf p r.now.graph.now.policy.now.states r.now.steps.now r.now.graph.now.out r.now.graph.now.into r.now.graph.now.by → Pool p r.now.among pool.old hues.old spans.old count → SetListed p r.now.among s pool.old count pool.new hues.new spans.new result }
 {
     let next = list_edges(r, s, pool, hues, count);
     let i = 2 * s as usize;

@@ -5,8 +5,10 @@
 ghost use Rattle.std.specs.Prelude.{◌≡◌, ℕ, ◌≤◌, length};
 ghost use mathlib.Core.List.{List, Memᴰ};
 ghost use Rattle.tables.specs.Tables.{places};
+ghost use Rattle.policy.specs.declared.Policy.{Policy};
 ghost use Rattle.forest.specs.Forest.{roots};
 ghost use Rattle.candidates.specs.Candidates.{root_candidates};
+ghost use Rattle.listing.specs.Listing.{PartsOf};
 ghost use Rattle.roots.specs.Roots.{Space, TreeGrown, RootsWritten, TreesGrown};
 
 use graph::Graph;
@@ -32,10 +34,10 @@ fn grow_tree(
     masks: &mut [u64],
     parents: &mut [u16],
 ) -> Option<usize>
-    requires root { Memᴰ m (roots g.now.policy.now) }
+    requires policy { (p : Policy) × PartsOf p g.now.policy.now.states g.now.policy.now.letters g.now.policy.now.target g.now.out g.now.into g.now.by × (g.now.policy.now.family ≡ p.family) × Memᴰ m (roots p) }
     requires space { Space accepting.old accepted.old rejecting.old rejected.old scratch.old }
     requires tables { (length parents.old ≡ length masks.old) × (at ≤ places masks.old) }
-    ensures { TreeGrown g.now.policy.now m at (length accepting.old) masks.old parents.old masks.new parents.new result }
+    ensures { (p : Policy) → PartsOf p g.now.policy.now.states g.now.policy.now.letters g.now.policy.now.target g.now.out g.now.into g.now.by → g.now.policy.now.family ≡ p.family → Memᴰ m (roots p) → TreeGrown p m at (length accepting.old) masks.old parents.old masks.new parents.new result }
 {
     let listing = listing::fill_candidates(g, m, accepting, accepted, rejecting, rejected);
     if listing.whole {
@@ -43,7 +45,6 @@ fn grow_tree(
         let b = listing.counts.rejecting;
         let verdict = g.policy.family[policy::colours_in(&g.by, m) as usize];
         let lists = Lists {
-            policy: g.policy,
             accepting: &accepting[..a],
             rejecting: &rejecting[..b],
         };
@@ -54,8 +55,7 @@ fn grow_tree(
 }
 
 // The trees of the roots that stand after the last one written, and the number after them; or how far they are, where the space does no further. Where one does not fit, every place
-// of both tables is 0. This is an inner layer: its
-// callers lend the roots, tables that are written so far, and space.
+// of both tables is 0. This is an inner layer: its callers lend the roots, tables that are written so far, and space. What is promised holds of every policy with the parts of g.
 pub fn grow_trees(
     g: &Graph<'_>,
     roots: &[u64],
@@ -68,10 +68,9 @@ pub fn grow_trees(
     masks: &mut [u64],
     parents: &mut [u16],
 ) -> Result<usize, Progress>
-    requires roots { roots.now ≡ root_candidates g.now.policy.now }
-    requires begun { (m₀ : List ℕ) × (r₀ : List ℕ) × RootsWritten g.now.policy.now m₀ r₀ masks.old parents.old from.next from.after }
+    requires policy { (p : Policy) × (m₀ : List ℕ) × (r₀ : List ℕ) × PartsOf p g.now.policy.now.states g.now.policy.now.letters g.now.policy.now.target g.now.out g.now.into g.now.by × (g.now.policy.now.family ≡ p.family) × (roots.now ≡ root_candidates p) × RootsWritten p m₀ r₀ masks.old parents.old from.next from.after }
     requires space { Space accepting.old accepted.old rejecting.old rejected.old scratch.old }
-    ensures { ((m₀ r₀ : List ℕ) → RootsWritten g.now.policy.now m₀ r₀ masks.old parents.old from.next from.after → TreesGrown g.now.policy.now (length accepting.old) m₀ r₀ masks.new parents.new result) }
+    ensures { ((p : Policy) (m₀ r₀ : List ℕ) → PartsOf p g.now.policy.now.states g.now.policy.now.letters g.now.policy.now.target g.now.out g.now.into g.now.by → g.now.policy.now.family ≡ p.family → roots.now ≡ root_candidates p → RootsWritten p m₀ r₀ masks.old parents.old from.next from.after → TreesGrown p (length accepting.old) m₀ r₀ masks.new parents.new result) }
 {
     let places = tables::places(masks.len());
     let mut next = from.next;

@@ -1,7 +1,7 @@
 -- The built states written policy state by policy state: the leaves of one state, the states over the policy states below v, and the tables at the end. Assumes nothing.
 use Prim.Native.Nat.{ℕ, zero, suc, ◌+◌, ◌-◌, ◌*◌, ◌≤◌, ◌<◌, min}
 use native.Mathlib.Omega.{arith}
-use native.Mathlib.Nat.{zero-add}
+use native.Mathlib.Nat.{zero-add, le_refl}
 use native.Mathlib.Decide.{dec_le}
 use native.Mathlib.Numerals.{add-one}
 use mathlib.Core.Path.{◌≡◌, refl, sym, ap, ap₂, ◌∙◌, subst}
@@ -9,7 +9,7 @@ use mathlib.Core.Logic.{◌≢◌}
 use mathlib.Core.Bool.{Bool, true, false, ◌&&◌}
 use mathlib.Core.List.{List, [], ◌∷◌, ◌++◌, map, append-nil, append_assoc, map-append, Memᴰ}
 use lib.Dec.{ltb, leb}
-use lib.ListN.{length, take, set, replicate, length-append, length-map, length-replicate}
+use lib.ListN.{length, get_or, take, set, replicate, length-append, length-map, length-replicate}
 use lib.Seq.{sets, set-set}
 use borrow.Author.Tests.{lt-ltb, le-ltb}
 use Rattle.std.proofs.Common.{Some, None}
@@ -18,10 +18,10 @@ use Rattle.lists.proofs.Bools.{le-true, and_l}
 use Rattle.lists.proofs.Lists.{below-lt, flat-mem, map-mem}
 use Rattle.lists.proofs.Filters.{filter-append, filter-all, filter_none}
 use Rattle.lists.proofs.Numbers.{leb-min}
-use Rattle.tables.specs.Tables.{padded, zeros, Stored, places}
+use Rattle.tables.specs.Tables.{padded, zeros, Column, Stored, places}
 use Rattle.tables.proofs.Tables.{zeros-same}
 use Rattle.tables.proofs.Stores.{stored-none, stored-length, stored-join, stored_one, stored_more}
-use Rattle.tables.proofs.Columns.{sets-cleared}
+use Rattle.tables.proofs.Columns.{column-sets, sets-cleared}
 use Rattle.policy.specs.declared.Policy.{Policy}
 use Rattle.policy.specs.Policies.{legal}
 use Rattle.policy.proofs.Laws.{legal-counts}
@@ -29,7 +29,7 @@ use Rattle.forest.specs.Forest.{forest}
 use Rattle.forest.proofs.Forest.{forest-laws}
 use Rattle.automaton.specs.Automaton.{Built, or_else, is_leaf, leaves, states_over, built_states, built, start, state_sources, state_leaves, built_fit}
 use Rattle.automaton.specs.Stages.{first_over, state_starts}
-use Rattle.automaton.proofs.Columns.{length-sources, length-leaves, length-starts}
+use Rattle.automaton.proofs.Columns.{length-sources, length-leaves, length-starts, start-at}
 use Rattle.automaton.proofs.Starts.{over-le, first-number}
 use Rattle.states.specs.StateTables.{built_below, leaves_below, leaves_over, StatesFilled}
 
@@ -222,6 +222,12 @@ module _ (p : Policy) (sources₀ leaves₀ starts₀ sources leaves starts : Li
   unfolding state_starts
   starts-all = r.starts_are.now_is ∙ ap (λ (n : ℕ). sets (set starts₀ 0 0) 0 (map (first_over p) (below (n + 1)))) whole ∙ sets-again starts₀ (state_starts p) 0 (omega (arith, length-starts p))
 
+  -- the last start is the number of all
+  last-start : p.states < length starts₀ → get_or starts p.states 0 ≡ length (built p)
+  last-start room =
+      start-at p p.states (le_refl p.states) (subst (Column (state_starts p)) (sym starts-all) (column-sets starts₀ (state_starts p) (omega (arith, length-starts p))))
+      ∙ first-over p p.states (le_refl p.states) ∙ ap length (below_all p)
+
   -- they fit, and the tables are cleared past them
   pub filled-fit : leb at (length sources) && leb at 65535 ≡ true → {sources' leaves' : List ℕ} → sources' ≡ padded (length sources) (take at sources) → leaves' ≡ padded (length leaves) (take at leaves)
       → StatesFilled p sources₀ leaves₀ starts₀ (Some at) sources' leaves' starts
@@ -234,6 +240,7 @@ module _ (p : Policy) (sources₀ leaves₀ starts₀ sources leaves starts : Li
         sources_are = rw f (sets-cleared sources₀ (state_sources p) (r.sources_are.now_is ∙ ap (λ (l : List Built). sets sources₀ 0 (map (λ (b : Built). b.state) l)) all) (length-sources p ∙ sym count) (omega (arith, length-sources p)) es);
         leaves_are = rw f (sets-cleared leaves₀ (state_leaves p) (r.leaves_are.now_is ∙ ap (λ (l : List Built). sets leaves₀ 0 (map (λ (b : Built). b.leaf) l)) all) (length-leaves p ∙ sym count) (omega (arith, length-leaves p)) el);
         starts_are = starts-all;
+        count_is = last-start;
       }
 
   -- they do not, and the tables are cleared
@@ -246,4 +253,5 @@ module _ (p : Policy) (sources₀ leaves₀ starts₀ sources leaves starts : Li
         sources_are = rw f (es ∙ zeros-same sources sources₀ long);
         leaves_are = rw f (el ∙ zeros-same leaves leaves₀ (stored-length r.leaves_are));
         starts_are = starts-all;
+        count_is = last-start;
       }

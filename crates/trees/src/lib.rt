@@ -7,16 +7,14 @@ ghost use Rattle.std.proofs.lemmas.List.Edits.{sets};
 ghost use Rattle.lists.specs.Lists.{Distinct};
 ghost use Rattle.tables.specs.Tables.{Stored, Undecided};
 ghost use Rattle.tables.specs.Copies.{part, moved};
+ghost use Rattle.policy.specs.declared.Policy.{Policy};
 ghost use Rattle.candidates.specs.Candidates.{LargerFirst};
 ghost use Rattle.siblings.specs.Positions.{child_positions};
 ghost use Rattle.trees.specs.Growing.{TreeToWrite, TreeWritten, Kept, RootToWrite, RootWritten};
 
-use policy::Policy;
-
-// A policy, and the candidates below a root by their verdict, with larger masks first.
+// The candidates below a root by their verdict, with larger masks first.
 #[derive(Clone, Copy)]
 pub struct Lists<'a> {
-    pub policy: &'a Policy,
     pub accepting: &'a [u64],
     pub rejecting: &'a [u64],
 }
@@ -79,7 +77,8 @@ fn record_tree(scratch: &mut [u16], i: usize, at: usize, next: usize)
     scratch[2 * i + 1] = (next - at) as u16;
 }
 
-// The tree of the mask at position i: copied where it is recorded, and otherwise grown. It and `grow` have many parameters: the lists, the root, the tables and the scratch.
+// The tree of the mask at position i: copied where it is recorded, and otherwise grown. It goes by the lists alone: whatever policy they are the candidates of, its tree is
+// written. It and `grow` have many parameters: the lists, the root, the tables and the scratch.
 #[cycle(grow_plant)]
 fn plant(
     lists: &Lists<'_>,
@@ -95,8 +94,8 @@ fn plant(
 ) -> usize
     requires position { i < length (lists.now.accepting.now ++ lists.now.rejecting.now) }
     requires below { parent < at }
-    requires tree { TreeToWrite lists.now.policy.now lists.now.accepting.now lists.now.rejecting.now (get_or (lists.now.accepting.now ++ lists.now.rejecting.now) i 0) verdict places at masks.old parents.old scratch.old free }
-    ensures tree { TreeWritten lists.now.policy.now (lists.now.accepting.now ++ lists.now.rejecting.now) places (get_or (lists.now.accepting.now ++ lists.now.rejecting.now) i 0) parent at result masks.old parents.old masks.new parents.new scratch.new }
+    requires tree { (p : Policy) × TreeToWrite p lists.now.accepting.now lists.now.rejecting.now (get_or (lists.now.accepting.now ++ lists.now.rejecting.now) i 0) verdict places at masks.old parents.old scratch.old free }
+    ensures tree { (p : Policy) → TreeToWrite p lists.now.accepting.now lists.now.rejecting.now (get_or (lists.now.accepting.now ++ lists.now.rejecting.now) i 0) verdict places at masks.old parents.old scratch.old free → TreeWritten p (lists.now.accepting.now ++ lists.now.rejecting.now) places (get_or (lists.now.accepting.now ++ lists.now.rejecting.now) i 0) parent at result masks.old parents.old masks.new parents.new scratch.new }
     ensures kept { Kept (2 * length (lists.now.accepting.now ++ lists.now.rejecting.now)) free scratch.old scratch.new }
 {
     let size = scratch[2 * i + 1] as usize;
@@ -133,8 +132,8 @@ fn grow(
     scratch: &mut [u16],
     free: usize,
 ) -> usize
-    requires { TreeToWrite lists.now.policy.now lists.now.accepting.now lists.now.rejecting.now m verdict places at masks.old parents.old scratch.old free }
-    ensures tree { TreeWritten lists.now.policy.now (lists.now.accepting.now ++ lists.now.rejecting.now) places m parent at result masks.old parents.old masks.new parents.new scratch.new }
+    requires { (p : Policy) × TreeToWrite p lists.now.accepting.now lists.now.rejecting.now m verdict places at masks.old parents.old scratch.old free }
+    ensures tree { (p : Policy) → TreeToWrite p lists.now.accepting.now lists.now.rejecting.now m verdict places at masks.old parents.old scratch.old free → TreeWritten p (lists.now.accepting.now ++ lists.now.rejecting.now) places m parent at result masks.old parents.old masks.new parents.new scratch.new }
     ensures kept { Kept (2 * length (lists.now.accepting.now ++ lists.now.rejecting.now)) free scratch.old scratch.new }
 {
     if places <= at {
@@ -178,8 +177,8 @@ pub fn grow_root(
     parents: &mut [u16],
     scratch: &mut [u16],
 ) -> usize
-    requires { RootToWrite lists.now.policy.now lists.now.accepting.now lists.now.rejecting.now m verdict at masks.old parents.old scratch.old }
-    ensures tree { RootWritten lists.now.policy.now m at result masks.old parents.old masks.new parents.new }
+    requires { (p : Policy) × RootToWrite p lists.now.accepting.now lists.now.rejecting.now m verdict at masks.old parents.old scratch.old }
+    ensures tree { (p : Policy) → RootToWrite p lists.now.accepting.now lists.now.rejecting.now m verdict at masks.old parents.old scratch.old → RootWritten p m at result masks.old parents.old masks.new parents.new }
     ensures space { Undecided scratch.old scratch.new }
 {
     let places = tables::places(masks.len());

@@ -31,5 +31,5 @@ returns-then-not-has_same_graph c = compares _ _ _ (simp (sym c.if-not-is_legal.
 
 pub returns : goal.returns
 returns c =
-    rw (c.pairs_agree.ensures, c.new.ensures, c.new-2.ensures)
+    rw (c.pairs_agree.ensures, c.new.ensures)
     (compared _ _ (record { legal_p = sym c.if-not-is_legal.ensures; legal_q = sym c.if-not-is_legal-2.ensures; same-graph = sym c.if-not-has_same_graph.ensures }))

@@ -15,6 +15,7 @@ use Rattle.policy.specs.declared.Policy.{Policy}
 use Rattle.policy.specs.Policies.{legal}
 use Rattle.policy.specs.ByColour.{table_edges}
 use Rattle.policy.proofs.Laws.{legal-counts}
+use Rattle.graph.proofs.CodeLaws.{own_graph}
 use Rattle.graph.proofs.OnCycle.{on_is, on-own}
 use Rattle.comparing.specs.Pairs.{ColourTables, pair_edges, no_cycle_at, no_cycle}
 use Rattle.comparing.proofs.Answers.{none-off, some-here, none_here, none-there}
@@ -38,6 +39,9 @@ state p v lawful l = omega (arith, l, (legal-counts p lawful).states_few)
 whole : (p q : Policy) {t u : List ℕ} → ColourTables p q t u → (c d : ℕ) {x y m : ℕ} → x ≡ table_edges t c → y ≡ table_edges u d → m ≡ bit_and x y → m ≡ pair_edges p q c d
 whole p q {t} {u} k c d ex ey em = em ∙ ap₂ bit_and ex ey ∙ pair-edges-by p q t u k c d
 
+pub reach_all-requires : goal.reach_all-requires
+reach_all-requires c = let g = c.args.g.now in ((g.policy.now, own_graph g.policy.now g.lawful), c.requires.1)
+
 pub loop-v-init : goal.loop-v-init
 loop-v-init c =
     let a = c.args in
@@ -49,7 +53,7 @@ loop-v-init c =
       λ w h. on-own _ _ w (sym (ap (λ (s : ℕ). has s w) c.states_on_cycles-left.ensures) ∙ h),
       refl,
       λ w l h.
-          let is = c.reach_all.ensures.0 in
+          let is = c.reach_all.ensures.0 p (own_graph p g.lawful) in
           none-off p q a.c a.d _ w g.lawful (whole p q k a.c a.d c.edges_in.ensures c.edges_in-2.ensures c.both-m.ensures) is l (sym (on_is p g.lawful _ w _ is l) ∙ sym (ap (λ (s : ℕ). has s w) c.states_on_cycles-left.ensures) ∙ h),
     )
 
@@ -71,7 +75,7 @@ returns-then-has_exactly c =
     let on = at.invariant.1 at.v (sym c.has.ensures ∙ c.if-has.true) in
     let hit = sym (c.has_exactly.ensures ∙ exactly-by p q g.by a.h.now.by k a.c a.d _) ∙ c.if-has_exactly.true in (
       sym (all-not (no_cycle_at p q a.c a.d) p.states at.v c.loop-v-test.true
-          (some-here p q a.c a.d _ at.v g.lawful (whole p q k a.c a.d c.edges_in.ensures c.edges_in-2.ensures c.both-m.ensures) c.reach_all.ensures.0 c.loop-v-test.true on g.out g.into g.ends _ _ c.cycle_states-s.ensures _ refl c.edges_between-x.ensures hit)),
+          (some-here p q a.c a.d _ at.v g.lawful (whole p q k a.c a.d c.edges_in.ensures c.edges_in-2.ensures c.both-m.ensures) (c.reach_all.ensures.0 p (own_graph p g.lawful)) c.loop-v-test.true on g.out g.into g.ends _ _ c.cycle_states-s.ensures _ refl c.edges_between-x.ensures hit)),
       c.reach_all.ensures.1,
     )
 
@@ -99,14 +103,14 @@ loop-v-preserved c =
             let on = at.invariant.1 at.v (sym c.has.ensures ∙ w.if-has.true) in
             let miss = sym (w.has_exactly.ensures ∙ exactly-by p q g.by a.h.now.by k a.c a.d _) ∙ w.if-has_exactly.false in
             all_more (no_cycle_at p q a.c a.d) at.v so_far
-            (none_here p q a.c a.d _ at.v g.lawful (whole p q k a.c a.d c.edges_in.ensures c.edges_in-2.ensures c.both-m.ensures) c.reach_all.ensures.0 l on g.out g.into g.ends _ _ w.cycle_states-s.ensures _ refl w.edges_between-x.ensures miss)
+            (none_here p q a.c a.d _ at.v g.lawful (whole p q k a.c a.d c.edges_in.ensures c.edges_in-2.ensures c.both-m.ensures) (c.reach_all.ensures.0 p (own_graph p g.lawful)) l on g.out g.into g.ends _ _ w.cycle_states-s.ensures _ refl w.edges_between-x.ensures miss)
         | else-has w ↦ all_more (no_cycle_at p q a.c a.d) at.v so_far (each at.v l (sym c.has.ensures ∙ w.if-has.false))
       ],
       elim c.if-has.branch [
         | then-has+else-has_exactly w ↦
             let on = at.invariant.1 at.v (sym c.has.ensures ∙ w.if-has.true) in
             let its = whole p q k a.c a.d c.edges_in.ensures c.edges_in-2.ensures c.both-m.ensures in
-            let is = c.reach_all.ensures.0 in
+            let is = c.reach_all.ensures.0 p (own_graph p g.lawful) in
             let s = w.cycle_states-s in
             let x = w.edges_between-x in
             let miss = sym (w.has_exactly.ensures ∙ exactly-by p q g.by a.h.now.by k a.c a.d _) ∙ w.if-has_exactly.false in

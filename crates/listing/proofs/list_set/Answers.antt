@@ -1,4 +1,3 @@
-use Rattle.listing.proofs.Appending.{parts_of}
 use Rattle.listing.proofs.Steps.{on-colours, step-accepting, step-rejecting}
 use Rattle.listing.specs.Listing.{Settled, Listed}
 use Rattle.listing.specs.declared.Counts.{Counts}
@@ -22,15 +21,14 @@ list_side-n-requires c = record { other = c.requires.rejecting.0.hues_are; room 
 pub returns-then-v : goal.returns-then-v
 returns-then-v c =
     let a = c.args in
-    let p = a.g.now.policy.now in
     let n = c.list_side-n in
     let e = n.result.cycles.edges in
     let k : Counts = record { accepting = n.result.cycles.count; rejecting = a.listed.rejecting } in
     record {
-      listed = λ root used eu h i ev eup w em s.
+      listed = λ p root used t f eu h i ev eup w em s.
           subst (λ (l : List ℕ). Listed p a.g.now.by root (used - n.result.left) n.new.same n.new.own a.rejecting.now a.rejected.now l k) (sym n.ensures.edges.1)
-          (step-accepting (parts_of a.g.now) root used eu a.c h a.accepting.now a.accepted.now a.rejecting.now a.rejected.now a.live.now a.listed a.m w e n.ensures.edges.0 n.result.left s i em a.up eup n.ensures.left.0 n.ensures.left.1 (sym ev ∙ c.if-v.true) n.ensures.masks n.ensures.hues
-          (subst (λ (b : Bool). Settled p b a.up a.c e (take a.listed.rejecting a.rejecting.now) (take n.result.cycles.count n.new.same) n.result.left) c.if-v.true (n.ensures.settled (on-colours p a.c a.m e n.ensures.edges.0.within em))));
+          (step-accepting t root used eu a.c h a.accepting.now a.accepted.now a.rejecting.now a.rejected.now a.live.now a.listed a.m w e (n.ensures.edges.0 p t) n.result.left s i em a.up eup n.ensures.left.0 n.ensures.left.1 (sym ev ∙ c.if-v.true) (n.ensures.masks p t) n.ensures.hues
+          (subst (λ (b : Bool). Settled p b a.up a.c e (take a.listed.rejecting a.rejecting.now) (take n.result.cycles.count n.new.same) n.result.left) c.if-v.true (n.ensures.settled p t f (on-colours p a.c a.m e (n.ensures.edges.0 p t).within em))));
       left = n.ensures.left.1;
     }
 
@@ -46,14 +44,13 @@ list_side-n-requires-2 c = record { other = c.requires.accepting.0.hues_are; roo
 pub returns : goal.returns
 returns c =
     let a = c.args in
-    let p = a.g.now.policy.now in
     let n = c.list_side-n-2 in
     let e = n.result.cycles.edges in
     let k : Counts = record { accepting = a.listed.accepting; rejecting = n.result.cycles.count } in
     record {
-      listed = λ root used eu h i ev eup w em s.
+      listed = λ p root used t f eu h i ev eup w em s.
           subst (λ (l : List ℕ). Listed p a.g.now.by root (used - n.result.left) a.accepting.now a.accepted.now n.new.same n.new.own l k) (sym n.ensures.edges.1)
-          (step-rejecting (parts_of a.g.now) root used eu a.c h a.accepting.now a.accepted.now a.rejecting.now a.rejected.now a.live.now a.listed a.m w e n.ensures.edges.0 n.result.left s i em a.up eup n.ensures.left.0 n.ensures.left.1 (sym ev ∙ c.if-v.false) n.ensures.masks n.ensures.hues
-          (subst (λ (b : Bool). Settled p b a.up a.c e (take a.listed.accepting a.accepting.now) (take n.result.cycles.count n.new.same) n.result.left) c.if-v.false (n.ensures.settled (on-colours p a.c a.m e n.ensures.edges.0.within em))));
+          (step-rejecting t root used eu a.c h a.accepting.now a.accepted.now a.rejecting.now a.rejected.now a.live.now a.listed a.m w e (n.ensures.edges.0 p t) n.result.left s i em a.up eup n.ensures.left.0 n.ensures.left.1 (sym ev ∙ c.if-v.false) (n.ensures.masks p t) n.ensures.hues
+          (subst (λ (b : Bool). Settled p b a.up a.c e (take a.listed.accepting a.accepting.now) (take n.result.cycles.count n.new.same) n.result.left) c.if-v.false (n.ensures.settled p t f (on-colours p a.c a.m e (n.ensures.edges.0 p t).within em))));
       left = n.ensures.left.1;
     }

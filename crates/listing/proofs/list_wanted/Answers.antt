@@ -1,4 +1,4 @@
-use Rattle.listing.proofs.Appending.{parts_of, none-wanted, all-on}
+use Rattle.listing.proofs.Appending.{none-wanted, all-on}
 use Rattle.policy.specs.ByColour.{table_colours}
 use lib.Seq.{length-take-le}
 use lib.ListN.{length, take, length-map}
@@ -13,4 +13,4 @@ pub is_wanted-requires : goal.is_wanted-requires
 is_wanted-requires c = omega (arith, ap length c.requires.other, length-map c.args.other.now (table_colours c.args.g.now.by))
 
 pub returns : goal.returns
-returns c = let a = c.args in record { masks = none-wanted (parts_of a.g.now) a.c a.m a.other.now a.hues.now (take a.count a.same.now) c.requires.other (sym c.is_wanted.ensures ∙ c.if-is_wanted.false); hues = c.requires.room.0; edges = all-on a.g.now.policy.now a.m }
+returns c = let a = c.args in record { masks = λ p t. none-wanted t a.c a.m a.other.now a.hues.now (take a.count a.same.now) c.requires.other (sym c.is_wanted.ensures ∙ c.if-is_wanted.false); hues = c.requires.room.0; edges = λ p t. all-on p a.m }

@@ -6,22 +6,22 @@ use Rattle.offspring.proofs.look_at.Goals as goal
 
 pub returns-then-not-inside : goal.returns-then-not-inside
 returns-then-not-inside c =
-    λ count to r low l. looked-of (at-outside c.requires.node r low l (sym c.inside.ensures ∙ c.if-not-inside.true))
+    λ p count to g r low l. looked-of (at-outside g r low l (sym c.inside.ensures ∙ c.if-not-inside.true))
 
 pub returns-then-not-is_outside : goal.returns-then-not-is_outside
 returns-then-not-is_outside c =
-    λ count to r low l. looked-of (at-covered c.requires.node r low l (sym c.is_outside.ensures ∙ c.if-not-is_outside.true))
+    λ p count to g r low l. looked-of (at-covered g r low l (sym c.is_outside.ensures ∙ c.if-not-is_outside.true))
 
 pub returns-then-verdict-node : goal.returns-then-verdict-node
 returns-then-verdict-node c =
-    λ count to r low l. looked-of (at-smaller c.requires.node r low l (beq-other _ _ c.if-verdict-node.true) (omega (arith, c.ranges.s.fits)) c.add_smaller.ensures)
+    λ p count to g r low l. looked-of (at-smaller g r low l (beq-other _ _ c.if-verdict-node.true) (omega (arith, c.ranges.s.fits)) c.add_smaller.ensures)
 
 pub returns-then-kids-found : goal.returns-then-kids-found
 returns-then-kids-found c =
     let in-n = sym c.inside.ensures ∙ c.if-not-inside.false in
     let free = sym c.is_outside.ensures ∙ c.if-not-is_outside.false in
     let other = beq_same _ _ c.if-verdict-node.false in
-    λ count to r low l. at-full c.requires.node r low l c.if-h-s.true other in-n free c.if-kids-found.true
+    λ p count to g r low l. at-full g r low l c.if-h-s.true other in-n free c.if-kids-found.true
 
 pub insert-requires : goal.insert-requires
 insert-requires c =
@@ -32,8 +32,8 @@ returns-then-h-s c =
     let in-n = sym c.inside.ensures ∙ c.if-not-inside.false in
     let free = sym c.is_outside.ensures ∙ c.if-not-is_outside.false in
     let other = beq_same _ _ c.if-verdict-node.false in
-    λ count to r low l. looked-of (looking-is (sym c.insert.ensures) (at-found c.requires.node r low l c.if-h-s.true other in-n free c.if-kids-found.false))
+    λ p count to g r low l. looked-of (looking-is (sym c.insert.ensures) (at-found g r low l c.if-h-s.true other in-n free c.if-kids-found.false))
 
 pub returns : goal.returns
 returns c =
-    λ count to r low l. looked-of (at-later c.requires.node r low l c.add_if.ensures.0 c.add_if.ensures.1 (omega (arith, c.type_inv.hues c.args.i)) c.if-h-s.false)
+    λ p count to g r low l. looked-of (at-later g r low l c.add_if.ensures.0 c.add_if.ensures.1 (omega (arith, c.type_inv.hues c.args.i)) c.if-h-s.false)

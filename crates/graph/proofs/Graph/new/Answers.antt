@@ -14,5 +14,5 @@ unfolding edges
 invariant_of-result c = record {
   lawful = c.requires;
   ends = record { out_are = c.edges_out-out.ensures; into_are = c.edges_into-into.ensures };
-  by_is = c.by_colour-by.ensures;
+  by_is = c.collect_by_colour.ensures;
 }
