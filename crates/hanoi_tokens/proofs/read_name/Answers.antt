@@ -6,7 +6,7 @@ use mathlib.Core.List.{List}
 use lib.Dec.{eqb}
 use lib.ListN.{length, get_or}
 use Rattle.lists.proofs.Bools.{neqb, ≡eqb}
-use Rattle.hanoi_tokens.proofs.Names.{Quoted, unnamed-other, quoted-none, quoted-back, quoted-plain, quoted-line, quoted-end}
+use Rattle.hanoi_tokens.proofs.Names.{Quoted, unnamed-other, quoted-none, quoted-back, quoted-plain, quoted-line, quoted-end, quoted-all}
 use Rattle.hanoi_tokens.proofs.read_name.Goals.{then-b-eq92+else-text-i+else-text-i-eq10, else-b-eq92}
 use Rattle.hanoi_tokens.proofs.read_name.Goals as goal
 
@@ -19,6 +19,9 @@ returns-then-first-ne34 c = unnamed-other _ _ _ c.in_ok-first.ensures (neqb _ _ 
 
 pub loop-i-init : goal.loop-i-init
 loop-i-init c = quoted-none _ _ _ c.in_ok-first.ensures c.if-first-ne34.false
+
+pub returns-then-b-eq34 : goal.returns-then-b-eq34
+returns-then-b-eq34 c = quoted-all _ _ _ _ false c.loop-i.invariant refl c.loop-i-test.true c.if-b-eq34.true
 
 pub returns-then-text-i : goal.returns-then-text-i
 returns-then-text-i c =
